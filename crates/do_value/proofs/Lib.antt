@@ -1,0 +1,12 @@
+pub mod Same
+pub mod Parts
+pub mod Encoded
+pub mod Gathered
+pub mod Started
+pub mod Unique
+pub mod Kept
+pub mod Sound
+pub mod Allowed
+pub mod Measured
+pub mod WithPair
+pub mod Again

@@ -1,0 +1,12 @@
+pub mod Limits
+pub mod Tree
+pub mod TreeCode
+pub mod Keyed
+pub mod Sound
+pub mod Seen
+pub mod Falls
+pub mod Faults
+pub mod Encoding
+pub mod Kept
+pub mod Reading
+pub mod Law
