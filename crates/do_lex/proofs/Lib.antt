@@ -1,0 +1,6 @@
+pub mod Digits
+pub mod InsideRuns
+pub mod OneAnswer
+pub mod Openings
+pub mod Runs
+pub mod Spans
