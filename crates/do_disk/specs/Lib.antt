@@ -1,0 +1,11 @@
+pub mod Disk
+pub mod Asks
+pub mod Fails
+pub mod Replay
+pub mod Logged
+pub mod Picked
+pub mod MemoryDisk
+pub mod Images
+pub mod MemoryStream
+pub mod MemoryDepot
+pub mod Real
