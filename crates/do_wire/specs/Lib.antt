@@ -1,0 +1,4 @@
+pub mod Json
+pub mod Numbers
+pub mod Reading
+pub mod Law
