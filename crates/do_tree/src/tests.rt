@@ -1,0 +1,13 @@
+use crate::{Block, Expr, Script, Stmt};
+use std::sync::Arc;
+
+fn is_shared<T: Send + Sync>() {}
+
+/// Tasks hold nodes, and any thread may resume a task.
+#[test]
+fn nodes_are_shared_among_threads() {
+    is_shared::<Script>();
+    is_shared::<Arc<Expr>>();
+    is_shared::<Arc<Stmt>>();
+    is_shared::<Arc<Block>>();
+}
