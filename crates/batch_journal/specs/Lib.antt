@@ -1,0 +1,11 @@
+pub mod Limits
+pub mod Alarms
+pub mod Ops
+pub mod Stored
+pub mod Frames
+pub mod Recovery
+pub mod Moments
+pub mod Staged
+pub mod Rest
+pub mod Mounting
+pub mod Laws

@@ -1,0 +1,93 @@
+-- A core that gets its object.
+use Rattle.std.proofs.Common.{◌≡◌, ◌⊎◌, inl, inr, ℕ, ◌+◌, ◌<◌, ◌≤◌, List, [], ◌∷◌, ◌++◌, length, map, sum, take, refl, sym, ap, ◌∙◌, subst, arith, Option, Some, None}
+use Rattle.std.specs.List.{All, slice_index_or}
+use Rattle.std.proofs.lemmas.List.{append-nil}
+use Rattle.batch_journal.specs.Frames.{Frame, batches_in}
+use Rattle.batch_journal.specs.declared.op.Op.{Op}
+use Rattle.object_core.specs.Said.{Said, spoken, batches_of, operations, messages_in}
+use Rattle.object_core.specs.Told.{told}
+use Rattle.object_core.specs.Turn.{entry}
+use Rattle.object_core.specs.Kept.{NameOnly, RecoversTo, RecoversToPrefix}
+use Rattle.object_core.specs.History.{line, needs_of, AreNumbered, IsHistory}
+use Rattle.object_core.specs.Serving.{IsServing}
+use Rattle.object_core.specs.declared.timeline.Entry.{Entry}
+use Rattle.object_core.specs.declared.timeline.Body.TheVariants.{Bind}
+use Rattle.object_core.specs.declared.timeline.Event.TheVariants.{Bind as Binds}
+use Rattle.object_core.specs.declared.back_log.BackLog.{BackLog}
+use Rattle.object_core.specs.declared.object.Core.{Core}
+use Rattle.object_core.proofs.Saying.{spoken-append, AreNumbered-append}
+use Rattle.object_core.proofs.Logged.{Logs, still_first}
+use Rattle.object_core.proofs.Histories.{goes_on, leaves_same}
+use Rattle.object_core.proofs.Served.{line_now, all_flown, tells}
+
+-- frames that name only an object that isn't there are none, so they name only any other
+pub names_anew : (object : Option (List ℕ × List ℕ)) (frames : List Frame) → NameOnly None frames → NameOnly object frames
+names_anew object [] named = λ k frame lt. absurd (omega arith)
+names_anew object (first ∷ frames) named = absurd (no_name first.object (named 0 first (omega arith)))
+  where
+    no_name : (other : List ℕ × List ℕ) → None ≡ Some other → ⊥
+    no_name other e = cc
+
+-- what recovers to frames without an object recovers to frames of this one
+pub recovers_anew : (object : Option (List ℕ × List ℕ)) (start before : List (List Op)) (least : ℕ) (c : List ℕ) → RecoversToPrefix None start before least c → RecoversToPrefix object start before least c
+recovers_anew object start before least c held =
+    let found : RecoversTo None (start ++ take held.0 before) c = held.3 in
+    (held.0, held.1, held.2, (found.0, found.1, names_anew object found.0 found.2, found.3))
+
+module _ {D : Type 0} (moment_of : D → ℕ) (left_since : D → ℕ → List ℕ → Type 0) (told_by : D → Option (List ℕ)) (image : D → List ℕ → Type 0)
+    (only_now : (disk : D) (c : List ℕ) → left_since disk (moment_of disk) c → image disk c)
+    (counts_now : (disk : D) (t : ℕ) (c : List ℕ) → t ≤ moment_of disk → image disk c → left_since disk t c) (since : ℕ) (start : List Frame) where
+  -- a core without an object, once it has one
+  pub bind_serves : (old new : Core D) (object : List ℕ × List ℕ) → IsServing moment_of left_since told_by image since start old → old.identity ≡ None → new.identity ≡ Some object
+      → new.journal ≡ old.journal → new.map ≡ old.map
+      → Logs old.front new.front old.back new.back (Binds object) (entry (length old.front.sent.items + 1) (Bind object) ∷ []) (entry (length old.back.taken.items + 1) (Bind object) ∷ [])
+      → new.back ≡ record old.back { taken = new.back.taken }
+      → IsServing moment_of left_since told_by image since start new
+  bind_serves old new object s none is journal map_is logs took =
+      let h : IsHistory moment_of left_since image since start old.journal.disk old.identity old.front old.back = s.history in
+      let before : List (List Op) = line old.back in
+      let silent : spoken new.front.sent.items ≡ spoken old.front.sent.items ++ [] = ap spoken logs.sent_more ∙ spoken-append old.front.sent.items _ in
+      let taken : new.back.taken.items ≡ new.front.sent.items =
+      logs.taken_more ∙ ap (λ (entries : List Entry). entries ++ entry (length entries + 1) (Bind object) ∷ []) h.taken ∙ sym logs.sent_more in
+      let speaks : spoken new.back.taken.items ≡ spoken old.back.taken.items = ap spoken taken ∙ silent ∙ append-nil (spoken old.front.sent.items) ∙ ap spoken (sym h.taken) in
+      let same_line : line new.back ≡ before = ap batches_of speaks in
+      let same_flights : new.back.flights.items ≡ old.back.flights.items = ap (λ (log : BackLog). log.flights.items) took in
+      let same_released : new.back.released.items ≡ old.back.released.items = ap (λ (log : BackLog). log.released.items) took in
+      let counted : length old.front.sent.items + 1 ≡ 1 + length old.front.sent.items = omega arith in
+      let numbered : AreNumbered 1 (old.front.sent.items ++ entry (length old.front.sent.items + 1) (Bind object) ∷ []) = AreNumbered-append 1 old.front.sent.items _ h.numbered (refl, counted, tt) in
+      let holds : (c : List ℕ) → image old.journal.disk c → RecoversToPrefix old.identity (batches_in start) (before ++ []) (length before) c = line_now moment_of left_since told_by image only_now counts_now since start old s [] in
+      let kept : IsHistory moment_of left_since image since start old.journal.disk old.identity new.front new.back =
+      goes_on moment_of left_since image since start old.identity old.journal.disk old.journal.disk old.front new.front old.back new.back [] h
+      (still_first old.front new.front old.back new.back (Binds object) _ _ h.first logs) silent
+      (ap (told (operations (batches_in start))) logs.delivered ∙ tells moment_of left_since told_by image only_now counts_now since start old (Binds object) s)
+      taken (rw logs.sent_more numbered) same_released
+      ([], append-nil new.back.flights.items ∙ same_flights ∙ s.flown ∙ ap (map (λ ops. 1)) (sym same_line))
+      (leaves_same moment_of left_since image old.journal.disk _ (λ c left. holds c (only_now old.journal.disk c left)))
+      (λ c now. subst (λ n. RecoversToPrefix old.identity (batches_in start) (before ++ []) n c) (sym (ap sum same_flights ∙ all_flown moment_of left_since told_by image only_now counts_now since start old s)) (holds c now)) in
+      let bare : IsHistory moment_of left_since image since start old.journal.disk None new.front new.back = rw none at kept in
+      let named : IsHistory moment_of left_since image since start old.journal.disk (Some object) new.front new.back = record {
+        said = bare.said;
+        taken = bare.taken;
+        numbered = bare.numbered;
+        first = bare.first;
+        released = bare.released;
+        flown = bare.flown;
+        images = λ c left. recovers_anew (Some object) _ _ 0 c (bare.images c left);
+        needs = λ k d lt c left. recovers_anew (Some object) _ _ _ c (bare.needs k d lt c left);
+        durable = λ c now. recovers_anew (Some object) _ _ _ c (bare.durable c now);
+        later = bare.later;
+        earlier = bare.earlier;
+        below = bare.below;
+      } in
+      let bare_names : NameOnly None s.frames = rw none at s.named in
+      record {
+        history = rw (journal, is) named;
+        released = rw (same_released, speaks) s.released;
+        flown = same_flights ∙ s.flown ∙ ap (map (λ ops. 1)) (sym same_line);
+        frames = s.frames;
+        at_rest = rw journal s.at_rest;
+        named = rw is (names_anew (Some object) s.frames bare_names);
+        batches = rw same_line s.batches;
+        staged = rw journal s.staged;
+        values = rw (map_is, same_line) s.values;
+      }

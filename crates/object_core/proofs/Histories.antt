@@ -1,0 +1,96 @@
+-- How the history of an object goes on.
+use Rattle.std.proofs.Common.{◌≡◌, ◌⊎◌, inl, inr, ⊎_elim, ℕ, ◌+◌, ◌≤◌, List, [], ◌∷◌, ◌++◌, length, length-append, map, sum, refl, sym, ap, ◌∙◌, subst, arith, Option, Some, None}
+use Rattle.std.specs.List.{All, slice_index_or}
+use Rattle.std.proofs.lemmas.List.Elements.{All-push}
+use Rattle.batch_journal.specs.Frames.{Frame, batches_in}
+use Rattle.batch_journal.specs.Moments.{LeavesOnly}
+use Rattle.batch_journal.specs.declared.op.Op.{Op}
+use Rattle.object_core.specs.Said.{Said, batch, message, spoken, batches_of, operations, messages_in, IsPrefix}
+use Rattle.object_core.specs.Told.{told}
+use Rattle.object_core.specs.Kept.{NameOnly, RecoversTo, RecoversToPrefix}
+use Rattle.object_core.specs.History.{line, needs_of, AreNumbered, IsFirst, IsHistory}
+use Rattle.object_core.specs.declared.front_log.FrontLog.{FrontLog}
+use Rattle.object_core.specs.declared.back_log.BackLog.{BackLog}
+use Rattle.object_core.specs.declared.back_log.Release.{Release}
+use Rattle.object_core.proofs.Saying.{spoken-append, batches_of-append, messages_in-append, IsPrefix-more}
+use Rattle.object_core.proofs.Crashes.{longer_line, fewer}
+
+-- frames that name no object name any
+pub named_anew : (old new : Option (List ℕ × List ℕ)) → Type 0
+named_anew old new = (frames : List Frame) → NameOnly old frames → NameOnly new frames
+
+module _ {D : Type 0} (moment_of : D → ℕ) (left_since : D → ℕ → List ℕ → Type 0) (image : D → List ℕ → Type 0) where
+  -- a fact of what a crash leaves, for a weaker one
+  pub leaves_weaker : (old new : D) (P Q : List ℕ → Type 0) → ((c : List ℕ) → P c → Q c) → LeavesOnly moment_of left_since old new P → LeavesOnly moment_of left_since old new Q
+  leaves_weaker old new P Q weaker leaves = record {
+    later = leaves.later;
+    each = λ c left. weaker c (leaves.each c left);
+    before = λ t c le left. ⊎_elim (λ past. inl past) (λ here. inr (weaker c here)) (leaves.before t c le left);
+  }
+
+  -- no call of the disk
+  pub leaves_same : (disk : D) (P : List ℕ → Type 0) → ((c : List ℕ) → left_since disk (moment_of disk) c → P c) → LeavesOnly moment_of left_since disk disk P
+  leaves_same disk P here = record { later = omega arith; each = here; before = λ t c le left. inl left }
+
+  module _ (since : ℕ) (start : List Frame) (object : Option (List ℕ × List ℕ)) where
+    -- More is said and taken, and nothing is released. A crash since then leaves the line from before it, or more of it.
+    pub goes_on : (old new : D) (front later_front : FrontLog) (back later_back : BackLog) (said : List Said)
+        → IsHistory moment_of left_since image since start old object front back
+        → IsFirst later_front later_back
+        → spoken later_front.sent.items ≡ spoken front.sent.items ++ said
+        → told (operations (batches_in start)) later_front.delivered.items ≡ told (operations (batches_in start)) front.delivered.items ++ said
+        → later_back.taken.items ≡ later_front.sent.items
+        → AreNumbered 1 later_front.sent.items
+        → later_back.released.items ≡ back.released.items
+        → IsPrefix later_back.flights.items (map (λ ops. 1) (line later_back))
+        → LeavesOnly moment_of left_since old new (RecoversToPrefix object (batches_in start) (line back ++ batches_of said) (length (line back)))
+        → ((c : List ℕ) → image new c → RecoversToPrefix object (batches_in start) (line back ++ batches_of said) (sum later_back.flights.items) c)
+        → IsHistory moment_of left_since image since start new object later_front later_back
+    goes_on old new front later_front back later_back said h first sent tells taken numbered released flown leaves durable =
+        let speaks : spoken later_back.taken.items ≡ spoken back.taken.items ++ said = ap spoken taken ∙ sent ∙ ap (λ entries. spoken entries ++ said) (sym h.taken) in
+        let longer : line later_back ≡ line back ++ batches_of said = ap batches_of speaks ∙ batches_of-append (spoken back.taken.items) said in
+        record {
+          said = sent ∙ ap (λ more. more ++ said) h.said ∙ sym tells;
+          taken = taken;
+          numbered = numbered;
+          first = first;
+          released = rw (released, speaks, messages_in-append 0 (spoken back.taken.items) said) (IsPrefix-more _ _ _ h.released);
+          flown = flown;
+          images = λ c left. rw longer (⊎_elim (λ past. longer_line object (batches_in start) (line back) (batches_of said) 0 c (h.images c past)) (λ here. fewer object (batches_in start) _ 0 _ c (omega arith) here) (leaves.before since c h.later left));
+          needs = rw (released, longer) (λ k d lt c left. ⊎_elim (λ past. longer_line object (batches_in start) (line back) (batches_of said) _ c (h.needs k d lt c past)) (λ here. fewer object (batches_in start) _ _ _ c (h.below k d lt) here) (leaves.before _ c (h.earlier k d lt) left));
+          durable = λ c now. rw longer (durable c now);
+          later = omega (arith, h.later, leaves.later);
+          earlier = rw released (λ k d lt. omega (arith, h.earlier k d lt, leaves.later));
+          below = rw (released, longer) (λ k d lt. omega (arith, h.below k d lt, length-append (line back) (batches_of said)));
+        }
+
+    -- one message more leaves, now, and a crash now leaves what it needs
+    pub releases : (disk : D) (front : FrontLog) (back later_back : BackLog) (release : Release)
+        → IsHistory moment_of left_since image since start disk object front back
+        → IsFirst front later_back
+        → later_back.taken.items ≡ back.taken.items
+        → later_back.flights.items ≡ back.flights.items
+        → later_back.released.items ≡ back.released.items ++ release ∷ []
+        → IsPrefix (map needs_of later_back.released.items) (messages_in 0 (spoken back.taken.items))
+        → release.moment ≡ moment_of disk
+        → release.needs ≤ length (line back)
+        → ((c : List ℕ) → left_since disk (moment_of disk) c → RecoversToPrefix object (batches_in start) (line back) release.needs c)
+        → IsHistory moment_of left_since image since start disk object front later_back
+    releases disk front back later_back release h first taken flights released prefix moment below here =
+        let Holds : Release → Type 0 = λ one. (c : List ℕ) → left_since disk one.moment c → RecoversToPrefix object (batches_in start) (line back) one.needs c in
+        let IsEarlier : Release → Type 0 = λ one. one.moment ≤ moment_of disk in
+        let IsBelow : Release → Type 0 = λ one. one.needs ≤ length (line back) in
+        record {
+          said = h.said;
+          taken = taken ∙ h.taken;
+          numbered = h.numbered;
+          first = first;
+          released = rw taken prefix;
+          flown = rw (flights, taken) h.flown;
+          images = rw taken h.images;
+          needs = rw (released, taken) (All-push Holds back.released.items release h.needs (λ c left. here c (subst (λ t. left_since disk t c) moment left)));
+          durable = rw (flights, taken) h.durable;
+          later = h.later;
+          earlier = rw released (All-push IsEarlier back.released.items release h.earlier (omega (arith, moment)));
+          below = rw (released, taken) (All-push IsBelow back.released.items release h.below below);
+        }
