@@ -3,9 +3,14 @@ pub mod Alarms
 pub mod Ops
 pub mod Stored
 pub mod Frames
+pub mod Parsing
+pub mod Payloads
 pub mod Recovery
+pub mod Refused
+pub mod Verdicts
 pub mod Moments
 pub mod Staged
 pub mod Rest
+pub mod Reading
 pub mod Mounting
 pub mod Laws

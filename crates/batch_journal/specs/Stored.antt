@@ -2,8 +2,10 @@
 -- alarm is this project's own choice.
 use Rattle.std.specs.Prelude.{ℕ, ℤ, List, [], ◌∷◌, Option, None, Some, if◌then◌else◌}
 use Rattle.std.specs.Str.{bytes_eq}
+use Rattle.std.specs.List.{flat_map}
 use Rattle.std.specs.BTreeMap.{get_by_text}
 use Rattle.do_value.specs.declared.value.Value.{Value}
+use Rattle.batch_journal.specs.Frames.{Frame, batches_in}
 use Rattle.batch_journal.specs.declared.op.Op.{Op}
 use Rattle.batch_journal.specs.declared.op.Op.TheVariants.{Put, Delete, DeleteAll, SetAlarm, ClearAlarm}
 use Rattle.batch_journal.specs.declared.map.Map.{Map}
@@ -40,3 +42,7 @@ alarm_step old ClearAlarm = None
 abbrev pub alarm_after : Option (ℤ × ℕ) → List Op → Option (ℤ × ℕ)
 alarm_after old [] = old
 alarm_after old (op ∷ ops) = alarm_after (alarm_step old op) ops
+
+-- all operations of the frames, in order
+abbrev pub operations_in : List Frame → List Op
+operations_in frames = flat_map (λ ops. ops) (batches_in frames)

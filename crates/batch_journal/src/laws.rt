@@ -1,5 +1,6 @@
 //! Laws of batches and frames. A call costs nothing and tells its caller the law.
 ghost use Rattle.batch_journal.specs.Laws.{OneOpIsBatch, OneBatchFits};
+ghost use Rattle.batch_journal.specs.Verdicts.{PayloadIsUnique, OneVerdict, SomeVerdict};
 
 use do_value::laws;
 
@@ -13,4 +14,17 @@ pub fn one_op_is_a_batch()
 /// A batch fits a frame by itself.
 pub fn one_batch_fits()
     ensures { OneBatchFits }
+{}
+
+/// A payload is read in one way, and no file is two of these: recovered to a list of frames, foreign at a place, damaged at
+/// a place, mixed with two objects.
+pub fn a_file_has_one_verdict()
+    ensures payload { PayloadIsUnique }
+    ensures verdict { OneVerdict }
+{}
+
+/// Every file of bytes is one of these: recovered to a list of frames, foreign at a place, damaged at a place, mixed with two
+/// objects.
+pub fn every_file_has_a_verdict()
+    ensures { SomeVerdict }
 {}

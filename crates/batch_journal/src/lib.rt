@@ -5,6 +5,7 @@ mod alarm;
 mod batch;
 mod codec;
 mod durable;
+mod header;
 mod identity;
 mod journal;
 mod key;
@@ -14,6 +15,12 @@ mod map;
 mod mount;
 mod op;
 mod pending;
+mod read_frame;
+mod read_op;
+mod read_parts;
+mod read_payload;
+mod read_value;
+mod reading;
 
 pub use alarm::Alarm;
 pub use batch::Batch;
@@ -27,5 +34,9 @@ pub use map::Map;
 pub use mount::{MountFault, Mounted};
 pub use op::{Op, ValueLong};
 
+#[cfg(test)]
+mod mount_tests;
+#[cfg(test)]
+mod read_tests;
 #[cfg(test)]
 mod tests;

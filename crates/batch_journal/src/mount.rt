@@ -1,24 +1,20 @@
 //! Mounting a disk.
-ghost use Rattle.std.specs.Prelude.{◌≡◌, ◌≢◌, ◌≤◌, ◌++◌, [], ◌∷◌, None, List, ℕ, IfOk, IfErr, OnOk};
+ghost use Rattle.std.specs.Prelude.{◌≡◌, ◌≤◌, length, [], List, ℕ, Some, IfOk, IfErr, OnOk};
 ghost use Rattle.do_disk.specs.Disk.{IfTold, Only, Rose, CountsFaults, next_count};
 ghost use Rattle.batch_journal.specs.Limits.{Object};
-ghost use Rattle.batch_journal.specs.Frames.{journal_bytes};
-ghost use Rattle.batch_journal.specs.Recovery.{Recovers};
-ghost use Rattle.batch_journal.specs.Moments.{LeavesOnly};
-ghost use Rattle.batch_journal.specs.Rest.{disk_in, limit_of, IsAtRest, IsStaged};
-ghost use Rattle.batch_journal.specs.Stored.{value_in, alarm_in};
-ghost use Rattle.batch_journal.specs.Mounting.{disk_of, disk_left, IsDiskFailed, IsOccupied, ImageOrEmpty};
+ghost use Rattle.batch_journal.specs.Moments.{LeavesOnly, OnlyReads};
+ghost use Rattle.batch_journal.specs.Rest.{limit_of, IsStaged};
+ghost use Rattle.batch_journal.specs.Reading.{IsHeader};
+ghost use Rattle.batch_journal.specs.Mounting.{disk_of, disk_left, IsMountOf, IsCause, IsRefusal, IsCounted, ImageOrHeader, IsOpened, IsRefused, HasRefused};
 
-use crate::durable::write_durably;
+use crate::header::{Header, finish_header, read_header};
 use crate::identity::Identity;
-use crate::journal::{Journal, OPEN_GATE};
+use crate::journal::Journal;
 use crate::map::Map;
 use crate::pending::Pending;
+use crate::reading::{Opened, Reading, Refusal, read_frames};
 use do_disk::{Disk, Failed};
 use std::alloc::Global;
-
-/// The place after the header and the first gate, in bytes.
-const HEADER_END: u64 = 16;
 
 /// A journal that is ready, the object that its frames name, where there are any, and what they leave of its storage.
 #[derive(Drop)]
@@ -36,100 +32,117 @@ pub struct Mounted<D> {
 pub enum MountFault<D> {
     /// The disk failed.
     DiskFailed(D),
-    /// The disk isn't empty. Journals that have a header aren't read yet.
-    Occupied(D),
+    /// The file is no journal: no header is being made in it, and it differs from one at this place, in bytes from 0.
+    Foreign {
+        disk: D,
+        place: u64,
+    },
+    /// At this place, in bytes from 0, an open gate stands, and behind it no whole frame with its next gate.
+    Damaged {
+        disk: D,
+        place: u64,
+    },
+    /// A frame names another object than the frames before it.
+    Mixed {
+        disk: D,
+        first: Identity,
+        other: Identity,
+    },
+    /// Memory was wanted and refused.
+    NoMemory(D),
 }
 
 impl<D: Disk> Journal<D> {
-    /// Makes an empty disk a journal, in eight calls: a sync, the length, and three writes that make the header, each
-    /// followed by a sync. `limit` is how many bytes the journal may have.
+    /// Makes the disk's file a journal at rest. It calls `sync` and `length`, and reads the header. An empty file, or one
+    /// in which a header was begun, is made an empty journal, by one to three writes each followed by a sync. In a journal
+    /// the frames are read one by one while gates are open; what stands behind the first closed gate is ignored. `limit`
+    /// is how many bytes the journal may have.
     pub fn mount(alloc: Global, disk: D, limit: u64) -> Result<Mounted<D>, MountFault<D>>
-        ensures at_rest { IfOk result (λ mounted. IsAtRest D.told D.image mounted.journal []) }
+        ensures mounted { IfOk result (IsMountOf D.told D.image D.moment_of D.left_since disk) }
         ensures nothing_staged { IfOk result (λ mounted. (object : Object)
             → IsStaged mounted.journal object []) }
         ensures limit { IfOk result (λ mounted. limit_of mounted.journal ≡ limit) }
-        ensures no_object { IfOk result (λ mounted. mounted.identity ≡ None) }
-        ensures no_values { IfOk result (λ mounted. (key : List ℕ)
-            → value_in mounted.map key ≡ None) }
-        ensures no_alarm { IfOk result (λ mounted. alarm_in mounted.map ≡ None) }
-        // The answer is Ok only where the disk is empty, and Occupied only where it isn't.
-        ensures empty { IfOk result (λ mounted. IfTold (D.told disk) (λ bytes. bytes ≡ [])) }
-        ensures occupied { IfErr result (λ fault. IsOccupied fault
-            → IfTold (D.told disk) (λ bytes. bytes ≢ [])) }
-        ensures failed { IfErr result (λ fault. IsDiskFailed fault
-            → Rose (D.faults_of disk) (D.faults_of (disk_left fault))) }
-        ensures later { D.faults_of disk ≤ D.faults_of (disk_of result) }
-        // A crash at any moment of the call leaves what one might have left before it, or a file without frames. An occupied
-        // disk isn't written. Where the answer is Ok, a crash since the first sync leaves a file without frames.
+        ensures cause { IfErr result (λ fault. IfTold (D.told disk) (λ c. IsCause c fault)) }
+        ensures counted { IsCounted D.faults_of disk result }
+        // A crash at any moment of the call leaves what one might have left before it, or, where the header wasn't finished,
+        // a file without frames. A disk that is refused isn't written.
         ensures any_moment { LeavesOnly D.moment_of D.left_since disk (disk_of result)
-            (ImageOrEmpty (D.image disk)) }
-        ensures untouched { IfErr result (λ fault. IsOccupied fault
+            (ImageOrHeader (D.told disk) (D.image disk)) }
+        ensures untouched { IfErr result (λ fault. IsRefusal fault
             → LeavesOnly D.moment_of D.left_since disk (disk_left fault) (D.image disk)) }
-        ensures since_sync { IfOk result (λ mounted. (c : List ℕ)
-            → D.left_since (disk_in mounted.journal) (next_count (D.moment_of disk)) c
-            → Recovers c []) }
     {
         let mut disk = disk;
-        match make_journal(&mut disk) {
-            Ok(Found::Nothing) => Ok(Mounted {
+        match open(alloc, &mut disk) {
+            Ok(Opened::Frames(reading)) => Ok(Mounted {
                 journal: Journal {
                     disk,
-                    end: HEADER_END,
+                    end: reading.end,
                     limit,
                     pending: Pending::new(alloc),
                 },
-                identity: None,
-                map: Map::new(alloc),
+                identity: reading.identity,
+                map: reading.map,
             }),
-            Ok(Found::Something) => Err(MountFault::Occupied(disk)),
+            Ok(Opened::Refused(refusal)) => Err(refused(disk, refusal)),
             Err(Failed) => Err(MountFault::DiskFailed(disk)),
         }
     }
 }
 
-// Whether a disk that is to be a journal was empty.
-#[derive(Clone, Copy, Drop, PartialEq, Eq)]
-enum Found {
-    Nothing,
-    Something,
+fn refused<D>(disk: D, refusal: Refusal) -> MountFault<D>
+    ensures { HasRefused disk refusal result }
+{
+    match refusal {
+        Refusal::Foreign { place } => MountFault::Foreign { disk, place },
+        Refusal::Damaged { place } => MountFault::Damaged { disk, place },
+        Refusal::Mixed { first, other } => MountFault::Mixed { disk, first, other },
+        Refusal::NoMemory => MountFault::NoMemory(disk),
+    }
 }
 
-fn make_journal<D: Disk>(disk: &mut D) -> Result<Found, Failed>
-    ensures nothing { IfOk result (λ found. found ≡ Found.Nothing
-        → IfTold (D.told disk.old) (λ bytes. bytes ≡ [])) }
-    ensures something { IfOk result (λ found. found ≡ Found.Something
-        → IfTold (D.told disk.old) (λ bytes. bytes ≢ [])) }
-    ensures made { IfOk result (λ found. found ≡ Found.Nothing
-        → IfTold (D.told disk.new) (λ bytes. bytes ≡ journal_bytes [] ++ 0 ∷ [])) }
-    ensures durable { IfOk result (λ found. Only (D.told disk.new) (D.image disk.new)) }
-    ensures any_moment { LeavesOnly D.moment_of D.left_since disk.old disk.new (ImageOrEmpty
-        (D.image disk.old)) }
-    ensures untouched { IfOk result (λ found. found ≡ Found.Something
+fn open<D: Disk>(alloc: Global, disk: &mut D) -> Result<Opened, Failed>
+    ensures opened { IfOk result (IsOpened D.told D.image D.moment_of D.left_since disk.old disk.new) }
+    ensures durable { OnOk result (Only (D.told disk.new) (D.image disk.new)) }
+    ensures any_moment { LeavesOnly D.moment_of D.left_since disk.old disk.new (ImageOrHeader
+        (D.told disk.old) (D.image disk.old)) }
+    ensures untouched { IfOk result (λ opened. IsRefused opened
         → LeavesOnly D.moment_of D.left_since disk.old disk.new (D.image disk.old)) }
-    ensures since_sync { IfOk result (λ found. found ≡ Found.Nothing → (c : List ℕ)
-        → D.left_since disk.new (next_count (D.moment_of disk.old)) c → Recovers c []) }
+    ensures faults { CountsFaults (D.faults_of disk.old) (D.faults_of disk.new) result }
+{
+    let seen = look(disk)?;
+    match seen.header {
+        Header::Journal { gate } => read_frames(alloc, disk, seen.file_length, gate),
+        Header::Foreign { place } => Ok(Opened::Refused(Refusal::Foreign { place })),
+        Header::Unfinished(step) => {
+            finish_header(disk, step)?;
+            Ok(Opened::Frames(Reading::new(alloc, 0)))
+        }
+    }
+}
+
+// A file's length in bytes, and its header.
+#[derive(Clone, Copy, Drop)]
+struct Seen {
+    file_length: u64,
+    header: Header,
+}
+
+// Makes what a read gives durable, and reads how long the file is and its header.
+fn look<D: Disk>(disk: &mut D) -> Result<Seen, Failed>
+    ensures seen { IfOk result (λ seen. IfTold (D.told disk.old) (λ c. (seen.file_length ≡ length c) × IsHeader c seen.header)) }
+    ensures durable { OnOk result (Only (D.told disk.new) (D.image disk.new)) }
+    ensures reads { OnlyReads D.told D.image D.moment_of D.left_since disk.old disk.new }
+    ensures since_sync { OnOk result ((c : List ℕ)
+        → D.left_since disk.new (next_count (D.moment_of disk.old)) c
+        → D.told disk.old ≡ Some c) }
+    ensures later { OnOk result (next_count (D.moment_of disk.old) ≤ D.moment_of disk.new) }
     ensures faults { CountsFaults (D.faults_of disk.old) (D.faults_of disk.new) result }
 {
     disk.sync()?;
-    if disk.length()? > 0 {
-        return Ok(Found::Something);
-    }
-    make_header(disk)?;
-    Ok(Found::Nothing)
-}
-
-// The first byte stands closed on the disk before the text is written, and is opened by a write of its own.
-fn make_header<D: Disk>(disk: &mut D) -> Result<(), Failed>
-    requires empty { IfTold (D.told disk.old) (λ bytes. bytes ≡ []) }
-    requires durable { Only (D.told disk.old) (D.image disk.old) }
-    ensures made { OnOk result (IfTold (D.told disk.new)
-        (λ bytes. bytes ≡ journal_bytes [] ++ 0 ∷ [])) }
-    ensures durable { OnOk result (Only (D.told disk.new) (D.image disk.new)) }
-    ensures any_moment { LeavesOnly D.moment_of D.left_since disk.old disk.new
-        (λ c. Recovers c []) }
-    ensures faults { CountsFaults (D.faults_of disk.old) (D.faults_of disk.new) result }
-{
-    write_durably(disk, 0, &[0])?;
-    write_durably(disk, 1, b"DO-JOURNAL-V1\n\0")?;
-    write_durably(disk, 0, &[OPEN_GATE])
+    let file_length = disk.length()?;
+    let header = read_header(disk, file_length)?;
+    Ok(Seen {
+        file_length,
+        header,
+    })
 }

@@ -1,5 +1,8 @@
 // The bytes come from the format's document, their digest from Python's hashlib.
-ghost use Rattle.std.specs.Prelude.{IfOk};
+ghost use Rattle.std.specs.Prelude.{IfOk, []};
+ghost use Rattle.batch_journal.specs.Limits.{Object};
+ghost use Rattle.batch_journal.specs.Rest.{IsStaged};
+ghost use Rattle.batch_journal.specs.Mounting.{IsMountOf};
 ghost use Rattle.batch_journal.specs.Ops.{IsOp};
 
 use crate::{
@@ -12,13 +15,13 @@ use std::process::Abort;
 use std::test::Fail;
 
 // How many bytes each journal may have.
-const LIMIT: u64 = 4096;
+pub(crate) const LIMIT: u64 = 4096;
 
 // The header, and its gate.
-const EMPTY: [u8; 16] = *b"\xa5DO-JOURNAL-V1\n\0";
+pub(crate) const EMPTY: [u8; 16] = *b"\xa5DO-JOURNAL-V1\n\0";
 
 // One put of 5 under k, for the object a of class C.
-const ONE_PUT: [u8; 86] = [
+pub(crate) const ONE_PUT: [u8; 86] = [
     0xa5, 0x44, 0x4f, 0x2d, 0x4a, 0x4f, 0x55, 0x52, 0x4e, 0x41, 0x4c, 0x2d, 0x56, 0x31, 0x0a, 0xa5,
     0x00, 0x00, 0x00, 0x21, 0x00, 0x00, 0x00, 0x01, 0x43, 0x00, 0x00, 0x00, 0x01, 0x61, 0x00, 0x00,
     0x00, 0x01, 0x00, 0x00, 0x00, 0x01, 0x01, 0x00, 0x00, 0x00, 0x01, 0x6b, 0x04, 0x00, 0x00, 0x00,
@@ -39,11 +42,11 @@ fn failing_from(alloc: Global, call: u64) -> MemDisk {
     MemDisk::new(Vec::new(alloc), Fails::From(call))
 }
 
-fn healthy(alloc: Global) -> MemDisk {
+pub(crate) fn healthy(alloc: Global) -> MemDisk {
     MemDisk::new(Vec::new(alloc), Fails::Listed(Vec::new(alloc)))
 }
 
-fn object(alloc: Global) -> Result<Identity, Fail> {
+pub(crate) fn object(alloc: Global) -> Result<Identity, Fail> {
     let class = Text::new(alloc, "C")?;
     let name = Text::new(alloc, "a")?;
     Ok(Identity::new(class, name).ok_or("a long name")?)
@@ -81,27 +84,35 @@ fn put_letters(alloc: Global, count: usize) -> Result<Result<Op, ValueLong>, Fai
     Ok(Op::put(key, Value::Text(text)))
 }
 
-// Mounts the disk and tries to append a frame of the batch. There is nothing where the disk isn't mounted or memory is
-// wanting.
+// Mounts the disk and tries to append a frame of the batch, as the first. There is nothing where the disk isn't mounted,
+// has frames, or memory is wanting.
 fn append_to<D: Disk + Drop>(
     alloc: Global,
     disk: D,
     batch: &Batch,
     identity: &Identity,
 ) -> Option<(D, Result<(), AppendFault>)> {
+    match Journal::mount(alloc, disk, LIMIT) {
+        Ok(mounted) => append_first(mounted, batch, identity),
+        Err(_fault) => None,
+    }
+}
+
+fn append_first<D: Disk + Drop>(
+    mounted: Mounted<D>,
+    batch: &Batch,
+    identity: &Identity,
+) -> Option<(D, Result<(), AppendFault>)>
+    requires mounted { (disk : D) × IsMountOf D.told D.image D.moment_of D.left_since disk mounted }
+    requires nothing_staged { (object : Object) → IsStaged mounted.journal object [] }
+{
     laws::one_batch_fits();
     let _ = batch.as_slice();
     let _ = identity.size();
-    let Ok(
-        Mounted {
-            mut journal,
-            identity: _,
-            map: _,
-        },
-    ) = Journal::mount(alloc, disk, LIMIT)
-    else {
+    if mounted.identity.is_some() {
         return None;
-    };
+    }
+    let mut journal = mounted.journal;
     let Ok(()) = journal.stage(batch, identity) else {
         return None;
     };

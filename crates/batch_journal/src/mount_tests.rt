@@ -1,0 +1,183 @@
+// Mounting files. The bytes come from the format's document, their digests from Python's hashlib.
+use crate::tests::{EMPTY, LIMIT, ONE_PUT};
+use crate::{Journal, MountFault, Mounted};
+use do_disk::{Disk, Fails, MemDisk};
+use do_value::Value;
+use std::alloc::Global;
+use std::process::Abort;
+use std::test::Fail;
+
+// A put of 7 under k for the object a of class C, as a frame behind its gate, and its closed next gate.
+const SECOND_PUT: [u8; 70] = [
+    0x00, 0x00, 0x00, 0x21, 0x00, 0x00, 0x00, 0x01, 0x43, 0x00, 0x00, 0x00, 0x01, 0x61, 0x00, 0x00,
+    0x00, 0x01, 0x00, 0x00, 0x00, 0x01, 0x01, 0x00, 0x00, 0x00, 0x01, 0x6b, 0x04, 0x00, 0x00, 0x00,
+    0x00, 0x00, 0x00, 0x00, 0x07, 0x2a, 0x98, 0x01, 0x40, 0x6e, 0x58, 0x54, 0x18, 0x9d, 0x80, 0x83,
+    0xaf, 0xf1, 0x04, 0x2e, 0xe8, 0xc1, 0x38, 0x46, 0xf9, 0x6a, 0xd3, 0xcb, 0xf6, 0x8a, 0xb7, 0x67,
+    0xc4, 0xd8, 0xa4, 0x14, 0x1d, 0x00,
+];
+
+// The same for the object b.
+const OTHER_PUT: [u8; 70] = [
+    0x00, 0x00, 0x00, 0x21, 0x00, 0x00, 0x00, 0x01, 0x43, 0x00, 0x00, 0x00, 0x01, 0x62, 0x00, 0x00,
+    0x00, 0x01, 0x00, 0x00, 0x00, 0x01, 0x01, 0x00, 0x00, 0x00, 0x01, 0x6b, 0x04, 0x00, 0x00, 0x00,
+    0x00, 0x00, 0x00, 0x00, 0x07, 0x80, 0x07, 0x0c, 0x63, 0x7b, 0xb0, 0xbf, 0xb3, 0xb2, 0xe7, 0x48,
+    0x62, 0xdf, 0x49, 0x97, 0x7c, 0xf5, 0x0d, 0x36, 0x7c, 0x27, 0x9e, 0xdd, 0xdc, 0xb9, 0x13, 0xe9,
+    0xd1, 0x14, 0xfd, 0xbf, 0xe0, 0x00,
+];
+
+// What a mounting answers: the journal's end and the number under k, or the fault with its place or its names.
+#[derive(Clone, Copy, Debug, Drop, PartialEq, Eq)]
+enum Answer {
+    Mounted { end: u64, number: Option<i64> },
+    DiskFailed,
+    Foreign { place: u64 },
+    Damaged { place: u64 },
+    Mixed,
+    NoMemory,
+}
+
+fn number_in<D>(mounted: &Mounted<D>) -> Option<i64> {
+    match mounted.map.get("k") {
+        Some(Value::Num(number)) => Some(number.get()),
+        _ => None,
+    }
+}
+
+fn refusal_in<D>(fault: &MountFault<D>) -> Answer {
+    match fault {
+        MountFault::DiskFailed(_) => Answer::DiskFailed,
+        MountFault::Foreign { disk: _, place } => Answer::Foreign { place: *place },
+        MountFault::Damaged { disk: _, place } => Answer::Damaged { place: *place },
+        MountFault::Mixed { .. } => Answer::Mixed,
+        MountFault::NoMemory(_) => Answer::NoMemory,
+    }
+}
+
+fn mounting_of(alloc: Global, bytes: &[u8]) -> Result<Answer, Fail> {
+    let disk = MemDisk::new(bytes.to_vec(alloc)?, Fails::Listed(Vec::new(alloc)));
+    match Journal::mount(alloc, disk, LIMIT) {
+        Ok(mounted) => Ok(Answer::Mounted {
+            end: mounted.journal.end(),
+            number: number_in(&mounted),
+        }),
+        Err(fault) => Ok(refusal_in(&fault)),
+    }
+}
+
+// The file of one put, with other bytes in place of its last.
+fn behind_one_put(alloc: Global, rest: &[u8]) -> Result<Vec<u8>, Fail> {
+    let mut bytes = ONE_PUT[..85].to_vec(alloc)?;
+    bytes.extend_from_slice(rest)?;
+    Ok(bytes)
+}
+
+// The file of one put, with another byte at this place.
+fn with_byte(alloc: Global, place: usize, byte: u8) -> Result<Vec<u8>, Fail> {
+    let mut bytes = ONE_PUT.to_vec(alloc)?;
+    if let Some(changed) = bytes.get_mut(place) {
+        *changed = byte;
+    }
+    Ok(bytes)
+}
+
+#[test]
+fn one_put_mounts_again(rt: HostRuntime) -> Result<(), Fail> {
+    let alloc = rt.alloc();
+    let disk = MemDisk::new(ONE_PUT.to_vec(alloc)?, Fails::Listed(Vec::new(alloc)));
+    let mounted = Journal::mount(alloc, disk, LIMIT)
+        .ok()
+        .ok_or("not mounted")?;
+    assert_eq!(rt; number_in(&mounted), Some(5));
+    let object = mounted.identity.ok_or("no object")?;
+    assert_eq!(rt; object.class(), "C");
+    assert_eq!(rt; object.name(), "a");
+    assert_eq!(rt; mounted.journal.end(), 86);
+    assert_eq!(rt; mounted.journal.disk().content(), ONE_PUT.as_slice());
+    Ok(())
+}
+
+// What a file that was cut to so many bytes is.
+fn answer_to_cut(count: usize) -> Answer {
+    match count {
+        0 | 1 => Answer::Mounted {
+            end: 16,
+            number: None,
+        },
+        2..=15 => Answer::Foreign { place: 0 },
+        _ => Answer::Damaged { place: 15 },
+    }
+}
+
+#[test]
+fn cut_files_are_named(rt: HostRuntime) -> Result<(), Fail> {
+    let alloc = rt.alloc();
+    for count in 0..86 {
+        let found = mounting_of(alloc, &ONE_PUT[..count])?;
+        assert_eq!(rt; found, answer_to_cut(count), "{count}");
+    }
+    Ok(())
+}
+
+#[test]
+fn changed_files_are_named(rt: HostRuntime) -> Result<(), Fail> {
+    let alloc = rt.alloc();
+    let digest = with_byte(alloc, 60, 0)?;
+    assert_eq!(rt; mounting_of(alloc, &digest)?, Answer::Damaged { place: 15 });
+    let name = with_byte(alloc, 25, 1)?;
+    assert_eq!(rt; mounting_of(alloc, &name)?, Answer::Damaged { place: 15 });
+    let text = with_byte(alloc, 3, 0)?;
+    assert_eq!(rt; mounting_of(alloc, &text)?, Answer::Foreign { place: 3 });
+    let first = with_byte(alloc, 0, 0)?;
+    assert_eq!(rt; mounting_of(alloc, &first)?, Answer::Foreign { place: 0 });
+    assert_eq!(rt; mounting_of(alloc, &[0; 17])?, Answer::Foreign { place: 0 });
+    Ok(())
+}
+
+#[test]
+fn further_frames_are_read(rt: HostRuntime) -> Result<(), Fail> {
+    let alloc = rt.alloc();
+    let garbage = behind_one_put(alloc, &[0, 1, 2, 3])?;
+    let one = Answer::Mounted {
+        end: 86,
+        number: Some(5),
+    };
+    assert_eq!(rt; mounting_of(alloc, &garbage)?, one);
+    let mut second = behind_one_put(alloc, &[0xa5])?;
+    second.extend_from_slice(&SECOND_PUT)?;
+    let two = Answer::Mounted {
+        end: 156,
+        number: Some(7),
+    };
+    assert_eq!(rt; mounting_of(alloc, &second)?, two);
+    let mut other = behind_one_put(alloc, &[0xa5])?;
+    other.extend_from_slice(&OTHER_PUT)?;
+    assert_eq!(rt; mounting_of(alloc, &other)?, Answer::Mixed);
+    let open = behind_one_put(alloc, &[0xa5])?;
+    assert_eq!(rt; mounting_of(alloc, &open)?, Answer::Damaged { place: 85 });
+    Ok(())
+}
+
+// Mounts a file whose header was begun, and gives its bytes after it and how many calls that took.
+fn finished(alloc: Global, bytes: &[u8]) -> Result<(Vec<u8>, u64), Fail> {
+    let disk = MemDisk::new(bytes.to_vec(alloc)?, Fails::Listed(Vec::new(alloc)));
+    let mounted = Journal::mount(alloc, disk, LIMIT)
+        .ok()
+        .ok_or("not mounted")?;
+    let disk = mounted.journal.into_disk();
+    Ok((disk.content().to_vec(alloc)?, disk.moment()))
+}
+
+#[test]
+fn a_header_is_finished_from_its_step(rt: HostRuntime) -> Result<(), Fail> {
+    let alloc = rt.alloc();
+    let (begun, calls) = finished(alloc, &[7])?;
+    assert_eq!(rt; begun.as_slice(), EMPTY.as_slice());
+    assert_eq!(rt; calls, 8);
+    let (closed, calls) = finished(alloc, &[0, 7, 7])?;
+    assert_eq!(rt; closed.as_slice(), EMPTY.as_slice());
+    assert_eq!(rt; calls, 7);
+    let (opening, calls) = finished(alloc, b"\x07DO-JOURNAL-V1\n\x09")?;
+    assert_eq!(rt; opening.as_slice(), b"\xa5DO-JOURNAL-V1\n\x09".as_slice());
+    assert_eq!(rt; calls, 5);
+    Ok(())
+}
