@@ -9,3 +9,11 @@ pub mod Putting
 pub mod Printing
 pub mod ReadOn
 pub mod Texts
+pub mod Switching
+pub mod Mounted
+pub mod Standing
+pub mod Written
+pub mod Accepting
+pub mod Rows
+pub mod Wording
+pub mod Unbuilt

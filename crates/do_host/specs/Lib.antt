@@ -10,3 +10,10 @@ pub mod Seen
 pub mod Going
 pub mod Lines
 pub mod Text
+pub mod FirstForm
+pub mod Switch
+pub mod Status
+pub mod Served
+pub mod Report
+pub mod Opened
+pub mod NotBuilt

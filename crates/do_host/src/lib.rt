@@ -1,27 +1,42 @@
-//! The host: lines in, lines out.
+//! The host: the top call, with lines in and lines out.
 #![tactic(auto)]
 
 mod buffer;
 mod bytes;
 mod cut;
 mod fault;
+mod first_form;
 mod line;
 mod lines;
+mod opening;
 mod out_line;
 mod parts;
+mod posting;
+mod program;
 mod raw_line;
 mod read_line;
 mod refusal;
+mod report;
 mod request;
+mod routing;
+mod script;
+mod serving;
+mod stop;
+mod switch_log;
 mod text;
+mod words;
 mod write;
 
 pub use fault::LineFault;
 pub use line::Line;
 pub use lines::Lines;
 pub use out_line::OutLine;
+pub use program::{Ran, run};
 pub use refusal::Refusal;
+pub use report::{Report, SlotReport};
 pub use request::Request;
+pub use script::PUT_AND_READ;
+pub use switch_log::SwitchLog;
 pub use text::print;
 pub use write::put;
 
@@ -34,5 +49,9 @@ pub const MOST_CUT_BYTES: u64 = 4_294_967_296;
 /// The most lines of a run.
 pub const MOST_LINES: u64 = 1_048_576;
 
+#[cfg(test)]
+mod crash_tests;
+#[cfg(test)]
+mod run_tests;
 #[cfg(test)]
 mod tests;

@@ -1,5 +1,5 @@
 //! The lines of the input.
-ghost use Rattle.std.specs.Prelude.{◌≡◌, ◌≤◌, ◌⊎◌, ◌++◌, [], List, ℕ, Ok, Err, None, Some, IfOk, IfSome, OnOk, length, min};
+ghost use Rattle.std.specs.Prelude.{◌≡◌, ◌<◌, ◌≤◌, ◌⊎◌, ◌++◌, [], List, ℕ, Ok, Err, None, Some, IfOk, IfSome, OnOk, length, min};
 ghost use Rattle.do_disk.specs.Disk.{IfTold};
 ghost use Rattle.do_host.specs.declared.TheConstants.{MOST_LINES};
 
@@ -55,6 +55,7 @@ impl<R: Source> Lines<R> {
             → count_of self.new ≡ min MOST_LINES (length (all_lines whole)) }
         ensures end { result ≡ Ok None → (count_of self.new ≡ MOST_LINES) ⊎ IfTold (R.left (source_of self.new)) (λ rest. rest ≡ []) }
         ensures number { IfOk result (λ o. IfSome o (λ line. line.number ≡ count_of self.new)) }
+        ensures further { IfOk result (λ o. IfSome o (λ line. count_of self.old < count_of self.new)) }
         ensures count { (count_of self.old ≤ count_of self.new) × (count_of self.new ≤ MOST_LINES) }
         ensures fault { fault_of self.new ≡ fault_in result }
         ensures again { (fault : LineFault) → fault_of self.old ≡ Some fault → (result ≡ Err fault) × (self.new ≡ self.old) }
@@ -97,6 +98,7 @@ impl<R: Source> Lines<R> {
         requires { fault_of self.old ≡ None }
         ensures on { ReadsOn R.left self.old self.new result }
         ensures number { IfOk result (λ o. IfSome o (λ line. line.number ≡ count_of self.new)) }
+        ensures further { IfOk result (λ o. IfSome o (λ line. count_of self.old < count_of self.new)) }
         ensures fault { fault_of self.new ≡ None }
         ensures reads { CountsReads (R.faults_of (source_of self.old)) (R.faults_of (source_of self.new)) result }
     {

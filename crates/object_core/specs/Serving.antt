@@ -38,6 +38,10 @@ front_of core = core.front
 abbrev pub back_of : {D : Type 0} → Core D → BackLog
 back_of core = core.back
 
+-- how many bytes its journal may have
+abbrev pub limit_in : {D : Type 0} → Core D → ℕ
+limit_in core = core.journal.limit
+
 -- a text or a number that storage may have
 abbrev pub IsStorable : Value → Type 0
 IsStorable (Num number) = Unit {0}

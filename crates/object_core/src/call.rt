@@ -10,7 +10,7 @@ ghost use Rattle.batch_journal.specs.Rest.{IsAtRest, IsStaged, CanAppend, Recove
 ghost use Rattle.batch_journal.specs.Stored.{value_in, value_after};
 ghost use Rattle.object_core.specs.Turn.{HasFrontRoom, HasBackRoom, IsTurnOf};
 ghost use Rattle.object_core.specs.Ready.{LogsTurn, Lands, SameCore, SameJournal, IsReady, IsStagedTurn};
-ghost use Rattle.object_core.specs.Serving.{IsServing, CanServe, IsHistoryOf, IsFirstForm, IsFullCall, Releases, SameLogs, object_of, disk_of, front_of, back_of};
+ghost use Rattle.object_core.specs.Serving.{IsServing, CanServe, IsHistoryOf, IsFirstForm, IsFullCall, Releases, SameLogs, limit_in, object_of, disk_of, front_of, back_of};
 
 use crate::object::{CallEnd, Core};
 use crate::timeline::{Event, Message};
@@ -31,6 +31,7 @@ impl<D: Disk> Core<D> {
         ensures same_logs { OnErr result (SameLogs self.old self.new) }
         ensures same_released { (back_of self.new).released.items ≡ (back_of self.old).released.items }
         ensures same_disk { disk_of self.new ≡ disk_of self.old }
+        ensures same_limit { limit_in self.new ≡ limit_in self.old }
     {
         let delivered = identity.copy()?;
         let sent = identity.copy()?;
@@ -60,6 +61,7 @@ impl<D: Disk> Core<D> {
         ensures released { IfOk result (λ message. Releases message (back_of self.old) (back_of self.new)) }
         ensures same_released { OnErr result ((back_of self.new).released.items ≡ (back_of self.old).released.items) }
         ensures same_object { object_of self.new ≡ object_of self.old }
+        ensures same_limit { limit_in self.new ≡ limit_in self.old }
         ensures failed { IsErrOf result CallEnd.DiskFailed → Rose (D.faults_of (disk_of self.old)) (D.faults_of (disk_of self.new)) }
         ensures later { D.faults_of (disk_of self.old) ≤ D.faults_of (disk_of self.new) }
         ensures full { IsFullCall self.old event result }
@@ -118,6 +120,7 @@ impl<D: Disk> Core<D> {
         requires append { CanAppend D.told D.image self.old.journal }
         ensures logs { LogsTurn self.old self.new event ready.turn ready.copies }
         ensures lands { IfOk result (λ message. (message ≡ ready.copies.answer) × Lands D.moment_of self.old self.new ready.copies) }
+        ensures same_limit { limit_in self.new ≡ limit_in self.old }
         ensures stays { OnErr result ((self.new.back.flights ≡ self.old.back.flights) × (self.new.back.released ≡ self.old.back.released)) }
         ensures appended { OnOk result ((frames : List Frame) (object : List ℕ × List ℕ) (batches : List (List Op)) → IsAtRest D.told D.image self.old.journal frames → IsStaged self.old.journal object batches → Name object frames → IsAtRest D.told D.image self.new.journal (frames ++ frame_of object batches ∷ [])) }
         ensures unstaged { OnOk result ((object : List ℕ × List ℕ) → IsStaged self.new.journal object []) }

@@ -1,0 +1,133 @@
+-- What a run that ends with status 8 met.
+use Rattle.std.proofs.Common.{◌≡◌, ◌≢◌, ◌⊎◌, ⊎_elim, inl, inr, ℕ, List, [], ◌∷◌, ◌++◌, map, Option, Result, Ok, Err, OnOk, refl, sym, ap, subst, ◌∙◌, arith}
+use Rattle.do_disk.specs.Disk.{IfTold}
+use Rattle.batch_journal.specs.Frames.{Frame, batches_in}
+use Rattle.batch_journal.proofs.Journals.{length-journal_push}
+use Rattle.object_core.specs.Said.{spoken, batches_of, operations}
+use Rattle.object_core.specs.Told.{stored_by}
+use Rattle.object_core.specs.Kept.{NameOnly}
+use Rattle.object_core.specs.Serving.{IsServing, IsFullCall, limit_in, object_of, front_of}
+use Rattle.object_core.proofs.Saying.{event_says-same}
+use Rattle.object_core.specs.declared.timeline.Event.{Event}
+use Rattle.object_core.specs.declared.object.CallEnd.{CallEnd}
+use Rattle.object_core.specs.declared.object.CallEnd.TheVariants.{DiskFailed as CallFailed, Full, NoMemory as NoCallMemory}
+use Rattle.object_core.specs.declared.object.Core.{Core}
+use Rattle.object_core.specs.declared.timeline.Message.{Message}
+use Rattle.do_host.specs.FirstForm.{IsFirstLine}
+use Rattle.do_host.specs.Lines.{IsReading, IsFirstOf}
+use Rattle.do_host.specs.NotBuilt.{MeetsLimit, IsNotBuilt, AreFirstLines, IsFormed, EndsAtOdd, EndsAtLimit}
+use Rattle.do_host.specs.Opened.{IsFresh, IsOpened, row_of}
+use Rattle.do_host.specs.Report.{object_in}
+use Rattle.do_host.specs.Seen.{seen}
+use Rattle.do_host.specs.Served.{Stands, IsBlank}
+use Rattle.do_host.specs.Status.{call_stop, status_in}
+use Rattle.do_host.specs.Switch.{object_after, object_through}
+use Rattle.do_host.specs.declared.line.Line.{Line}
+use Rattle.do_host.specs.declared.lines.Lines.{Lines}
+use Rattle.do_host.specs.declared.switch_log.SwitchLog.{SwitchLog}
+use Rattle.do_host.proofs.Rows.{good_end, stands_first}
+use Rattle.do_host.specs.declared.stop.Stop.{Stop}
+use Rattle.do_host.specs.declared.stop.Stop.TheVariants.{DiskFailed, NoMemory, ReadFailed, WriteFailed, BadSlot, NotBuilt}
+
+-- a run of lines that ends so
+abbrev ended : Stop → Result (Unit {0}) Stop
+ended stop = Err stop
+
+-- the same end
+pub end_is : (stop other : Stop) → ended stop ≡ ended other → stop ≡ other
+end_is stop other e = cc
+
+-- status 8 is what isn't built
+pub unbuilt_end : (result : Result (Unit {0}) Stop) → status_in result ≡ 8 → result ≡ Err NotBuilt
+unbuilt_end (Ok done) eight = cc
+unbuilt_end (Err DiskFailed) eight = cc
+unbuilt_end (Err NoMemory) eight = cc
+unbuilt_end (Err ReadFailed) eight = cc
+unbuilt_end (Err WriteFailed) eight = cc
+unbuilt_end (Err BadSlot) eight = cc
+unbuilt_end (Err NotBuilt) eight = refl
+
+-- the answer of a refused call
+abbrev refused : CallEnd → Result Message CallEnd
+refused end = Err end
+
+-- a call that was refused as Full meets the journal's limit
+meets_limit : {D : Type 0} (moment_of : D → ℕ) (left_since : D → ℕ → List ℕ → Type 0) (told_by : D → Option (List ℕ)) (image : D → List ℕ → Type 0) (since : ℕ) (start : List Frame) (core next : Core D) (event : Event) (n limit : ℕ)
+    → IsServing moment_of left_since told_by image since start core → IsFullCall core event (Err (Full n limit))
+    → (front_of next).delivered.items ≡ (front_of core).delivered.items ++ (1, event) ∷ [] → object_of next ≡ object_of core
+    → MeetsLimit (limit_in core) start (object_of next) (front_of next)
+meets_limit moment_of left_since told_by image since start core next event n limit serving full delivered same =
+    let asked = full.only n limit refl in
+    record {
+      before = (front_of core).delivered.items;
+      event = event;
+      last = delivered;
+      frames = serving.frames;
+      of_grammar = serving.at_rest.of_grammar;
+      named = subst (λ object. NameOnly object serving.frames) (sym same) serving.named;
+      batches = serving.batches ∙ ap (λ said. batches_in start ++ batches_of said) (ap spoken serving.history.taken ∙ serving.history.said);
+      frame = asked.0;
+      frame_named = same ∙ asked.1.0;
+      asked = sym asked.1.1 ∙ ap batches_of (event_says-same _ _ event (λ key. serving.values key ∙ ap (λ batches. stored_by (operations batches) key) (sym serving.batches)));
+      past = omega (arith, asked.2, serving.at_rest.end, length-journal_push serving.frames asked.0);
+    }
+
+-- a call that ends as what isn't built was refused as Full, and meets the journal's limit
+pub ends_at_limit : {D : Type 0} (moment_of : D → ℕ) (left_since : D → ℕ → List ℕ → Type 0) (told_by : D → Option (List ℕ)) (image : D → List ℕ → Type 0) (since : ℕ) (start : List Frame) (core next : Core D) (event : Event) (end : CallEnd)
+    → call_stop end ≡ NotBuilt → IsServing moment_of left_since told_by image since start core → IsFullCall core event (Err end)
+    → (refused end ≢ refused NoCallMemory → (front_of next).delivered.items ≡ (front_of core).delivered.items ++ (1, event) ∷ []) → object_of next ≡ object_of core
+    → MeetsLimit (limit_in core) start (object_of next) (front_of next)
+ends_at_limit moment_of left_since told_by image since start core next event CallFailed stop serving full delivered same = cc
+ends_at_limit moment_of left_since told_by image since start core next event NoCallMemory stop serving full delivered same = cc
+ends_at_limit moment_of left_since told_by image since start core next event (Full n limit) stop serving full delivered same =
+    meets_limit moment_of left_since told_by image since start core next event n limit serving full (delivered (λ e. cc)) same
+
+-- a line that wasn't accepted stands behind the accepted ones
+pub odd_next : {S : Type 0} (left : S → Option (List ℕ)) (whole : List ℕ) (log more : SwitchLog) (line : Line) (rest : Lines S) → more ≡ log
+    → IsFirstOf left whole (map seen log.accepted.items ++ seen line ∷ []) rest → IsFirstOf left whole (map seen more.accepted.items ++ seen line ∷ []) rest
+odd_next left whole log more line rest same first = subst (λ (all : SwitchLog). IsFirstOf left whole (map seen all.accepted.items ++ seen line ∷ []) rest) (sym same) first
+
+-- it isn't of the first form for the object that the accepted lines leave
+pub odd_through : {D : Type 0} (core : Core D) (log more : SwitchLog) (line : Line) (first : Option (List ℕ × List ℕ)) → Stands first core log [] [] → more ≡ log
+    → (IsFirstLine (object_of core) line → ⊥) → IsFirstLine (object_through first more.accepted.items) line → ⊥
+odd_through core log more line first stands same odd is =
+    odd (subst (λ object. IsFirstLine object line) (sym (stands.object ∙ ap (λ (all : SwitchLog). object_through first all.accepted.items) (sym same))) is)
+
+-- the row of a run that ends so
+pub row_not_built : {D S : Type 0} (moment_of : D → ℕ) (left_since : D → ℕ → List ℕ → Type 0) (told_by : D → Option (List ℕ)) (image : D → List ℕ → Type 0) (left : S → Option (List ℕ)) (content : Option (List ℕ)) (core next : Core D) (log more : SwitchLog)
+    (input : S) (lines rest : Lines S) → IsOpened moment_of left_since told_by image content core → IsFresh core → IsBlank log → IfTold (left input) (λ whole. IsReading left whole [] lines)
+    → EndsAtOdd left core log more lines rest ⊎ EndsAtLimit moment_of left_since told_by image core next → IsNotBuilt content (left input) (left rest.bytes.source) more (row_of next)
+row_not_built moment_of left_since told_by image left content core next log more input lines rest opened fresh blank reading cause = record {
+  start = opened.start;
+  recovered = opened.recovered;
+  cause = ⊎_elim (λ odd. inl (record {
+    line = odd.line;
+    next = λ whole told. odd.next whole (reading whole told);
+    odd = odd.odd (object_in opened.start) (stands_first (object_in opened.start) core log opened.object fresh blank);
+  })) (λ full. inr (subst (λ limit. MeetsLimit limit opened.start (object_of next) (front_of next)) opened.limit (full 0 opened.start opened.serving))) cause;
+}
+
+-- a line more of the first form
+first_on : (object : Option (List ℕ × List ℕ)) (lines : List Line) (line : Line) → AreFirstLines object lines → IsFirstLine (object_through object lines) line → AreFirstLines object (lines ++ line ∷ [])
+first_on object [] line are is = (is, tt)
+first_on object (next ∷ lines) line are is = (are.0, first_on (object_after object next) lines line are.1 is)
+
+-- a line more of the first form was accepted
+pub formed_on : {D : Type 0} (core : Core D) (log more : SwitchLog) (line : Line) (first : Option (List ℕ × List ℕ)) → Stands first core log [] [] → more.accepted.items ≡ log.accepted.items ++ line ∷ []
+    → AreFirstLines first log.accepted.items → IsFirstLine (object_of core) line → AreFirstLines first more.accepted.items
+formed_on core log more line first stands accepted are is =
+    subst (AreFirstLines first) (sym accepted) (first_on first log.accepted.items line are (subst (λ object. IsFirstLine object line) stands.object is))
+
+-- none were accepted
+pub formed_none : (first : Option (List ℕ × List ℕ)) (lines : List Line) → lines ≡ [] → AreFirstLines first lines
+formed_none first lines none = subst (AreFirstLines first) (sym none) tt
+
+-- after a good end each accepted line is of the first form
+pub row_formed : {D : Type 0} (moment_of : D → ℕ) (left_since : D → ℕ → List ℕ → Type 0) (told_by : D → Option (List ℕ)) (image : D → List ℕ → Type 0) (content : Option (List ℕ)) (core : Core D) (log more : SwitchLog)
+    (result : Result (Unit {0}) Stop) → IsOpened moment_of left_since told_by image content core → IsFresh core → IsBlank log → status_in result ≡ 0
+    → OnOk result ((first : Option (List ℕ × List ℕ)) → Stands first core log [] [] → AreFirstLines first more.accepted.items) → IsFormed content more
+row_formed moment_of left_since told_by image content core log more result opened fresh blank zero formed = record {
+  start = opened.start;
+  recovered = opened.recovered;
+  formed = good_end result _ zero formed (object_in opened.start) (stands_first (object_in opened.start) core log opened.object fresh blank);
+}

@@ -1,0 +1,48 @@
+use Rattle.std.proofs.Common.{◌≡◌, ◌++◌, ◌∷◌, [], sym, ap, subst, ◌∙◌}
+use Rattle.do_host.specs.Report.{IsSlotHistory, IsQuiet}
+use Rattle.do_host.specs.NotBuilt.{IsNotBuilt}
+use Rattle.do_host.specs.Opened.{row_of}
+use Rattle.do_host.proofs.Rows.{all_one, row_history, row_quiet, row_failed, disk_end, ends_written}
+use Rattle.do_host.proofs.Unbuilt.{unbuilt_end, row_not_built, row_formed}
+use Rattle.do_host.proofs.program.serve_slot.Goals as goal
+
+pub returns-clause-history : goal.returns-clause-history
+returns-clause-history g c = λ content opened.
+    let next = c.serve-served.new.core in
+    let one : c.add_row.new.slots.items ≡ row_of next ∷ [] = c.add_row.ensures ∙ ap (λ rows. rows ++ row_of next ∷ []) c.requires.empty.slots in
+    let row : IsSlotHistory g.D.Disk.moment_of g.D.Disk.left_since g.D.Disk.image content c.serve-served.new.log (row_of next) =
+    row_history g.D.Disk.moment_of g.D.Disk.left_since g.D.Disk.told g.D.Disk.image content c.args.core next c.args.report.now.switch c.serve-served.new.log c.serve-served.result opened
+    c.requires.fresh c.requires.empty.switch c.serve-served.ensures.stands c.serve-served.ensures.logged (c.serve-served.ensures.history 0 opened.start opened.serving) in
+    all_one (IsSlotHistory g.D.Disk.moment_of g.D.Disk.left_since g.D.Disk.image content c.serve-served.new.log) c.add_row.new.slots.items (row_of next) one row
+
+pub returns-clause-written : goal.returns-clause-written
+returns-clause-written g c = ends_written c.serve-served.result _ _ c.serve-served.new.log.lines.items c.serve-served.ensures.written c.serve-served.ensures.front
+
+pub returns-clause-quiet : goal.returns-clause-quiet
+returns-clause-quiet g c = λ zero content opened.
+    let next = c.serve-served.new.core in
+    let one : c.add_row.new.slots.items ≡ row_of next ∷ [] = c.add_row.ensures ∙ ap (λ rows. rows ++ row_of next ∷ []) c.requires.empty.slots in
+    all_one (IsQuiet content c.serve-served.new.log) c.add_row.new.slots.items (row_of next) one
+    (row_quiet g.D.Disk.moment_of g.D.Disk.left_since g.D.Disk.told g.D.Disk.image content c.args.core next c.args.report.now.switch c.serve-served.new.log c.serve-served.result opened
+    c.requires.fresh c.requires.empty.switch (sym c.status_of.ensures ∙ zero) c.serve-served.ensures.stands c.serve-served.ensures.serving)
+
+pub returns-clause-failed : goal.returns-clause-failed
+returns-clause-failed g c = λ three.
+    row_failed g.D.Disk.faults_of (record { slots = c.add_row.new.slots; unopened = c.args.report.now.unopened; switch = c.serve-served.new.log; lines = c.count-report.result }) c.args.core c.serve-served.new.core (c.add_row.ensures ∙ ap (λ rows. rows ++ row_of c.serve-served.new.core ∷ []) c.requires.empty.slots)
+    (c.serve-served.ensures.disk_failed (disk_end c.serve-served.result (sym c.status_of.ensures ∙ three)))
+
+pub returns-clause-not_built : goal.returns-clause-not_built
+returns-clause-not_built g c = λ eight content opened.
+    let next = c.serve-served.new.core in
+    let one : c.add_row.new.slots.items ≡ row_of next ∷ [] = c.add_row.ensures ∙ ap (λ rows. rows ++ row_of next ∷ []) c.requires.empty.slots in
+    let row : IsNotBuilt content (g.R.Source.left c.args.input) (g.R.Source.left c.serve-served.new.lines.bytes.source) c.serve-served.new.log (row_of next) =
+    row_not_built g.D.Disk.moment_of g.D.Disk.left_since g.D.Disk.told g.D.Disk.image g.R.Source.left content c.args.core next c.args.report.now.switch c.serve-served.new.log
+    c.args.input c.new-lines.result c.serve-served.new.lines opened c.requires.fresh c.requires.empty.switch c.new-lines.ensures.reading
+    (c.serve-served.ensures.not_built (unbuilt_end c.serve-served.result (sym c.status_of.ensures ∙ eight))) in
+    all_one (IsNotBuilt content (g.R.Source.left c.args.input) (g.R.Source.left c.into_source.result) c.serve-served.new.log) c.add_row.new.slots.items (row_of next) one
+    (subst (λ source. IsNotBuilt content (g.R.Source.left c.args.input) (g.R.Source.left source) c.serve-served.new.log (row_of next)) (sym c.into_source.ensures) row)
+
+pub returns-clause-all_formed : goal.returns-clause-all_formed
+returns-clause-all_formed g c = λ zero content opened.
+    row_formed g.D.Disk.moment_of g.D.Disk.left_since g.D.Disk.told g.D.Disk.image content c.args.core c.args.report.now.switch c.serve-served.new.log c.serve-served.result opened
+    c.requires.fresh c.requires.empty.switch (sym c.status_of.ensures ∙ zero) c.serve-served.ensures.formed

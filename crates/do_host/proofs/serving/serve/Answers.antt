@@ -1,0 +1,66 @@
+use Rattle.std.proofs.Common.{sym, ap, subst, ◌∙◌, arith, Ok, Err, inl, inr, ⊎_elim}
+use Rattle.std.proofs.lemmas.Result.{err_from_is_err_and}
+use Rattle.object_core.specs.Serving.{object_of, front_of}
+use Rattle.do_host.specs.NotBuilt.{MeetsLimit}
+use Rattle.do_host.proofs.Accepting.{reading_on, first_at_most, first_none}
+use Rattle.do_host.proofs.Written.{written_all, on_err}
+use Rattle.do_host.proofs.Unbuilt.{odd_next, odd_through, formed_on}
+use Rattle.do_host.proofs.serving.serve.Goals as goal
+
+pub returns-in_err-line-clause-history : goal.returns-in_err-line-clause-history
+returns-in_err-line-clause-history g c = λ since start serving. (c.loop-line.invariant.serving since start serving).history
+
+pub returns-in_err-line-clause-accepted : goal.returns-in_err-line-clause-accepted
+returns-in_err-line-clause-accepted g c = λ whole reading.
+    first_none g.R.Source.left whole _ c.next.new.self (c.in_err-line.ensures.first whole _ (c.loop-line.invariant.reading whole reading))
+
+pub returns-in_err-line-clause-front : goal.returns-in_err-line-clause-front
+returns-in_err-line-clause-front g c = on_err _ _ (written_all _ _ _ c.loop-line.invariant.written)
+
+pub loop-line-preserved : goal.loop-line-preserved
+loop-line-preserved g c = record {
+  stands = λ first stands. c.in_ok-answer.ensures.stands first (c.loop-line.invariant.stands first stands);
+  serving = λ since start serving. c.in_ok-answer.ensures.serving since start (c.loop-line.invariant.serving since start serving);
+  reading = λ whole reading.
+      reading_on g.R.Source.left whole c.loop-line.log.accepted.items c.answer.new.log.accepted.items c.in-Some.line c.next.new.self c.in_ok-answer.ensures.accepted
+      (rw c.in-Some.is at c.in_ok-line.ensures.reading whole _ (c.loop-line.invariant.reading whole reading));
+  formed = λ first stands. formed_on c.loop-line.core c.loop-line.log c.answer.new.log c.in-Some.line first (c.loop-line.invariant.stands first stands) c.in_ok-answer.ensures.accepted (c.loop-line.invariant.formed first stands) c.in_ok-answer.ensures.formed;
+  written = c.in_ok-answer.ensures.written _ c.loop-line.invariant.written;
+  good = c.in_ok-line.ensures.fault;
+  disk = omega (arith, c.loop-line.invariant.disk, c.answer.ensures.disk_later);
+  source = (c.in_ok-line.ensures.reads c.loop-line.invariant.good).steady ∙ c.loop-line.invariant.source;
+  limit = c.answer.ensures.same_limit ∙ c.loop-line.invariant.limit;
+  sink = c.answer.ensures.sink_steady (λ e. cc) ∙ c.loop-line.invariant.sink;
+}
+
+pub returns-in_err-answer-clause-history : goal.returns-in_err-answer-clause-history
+returns-in_err-answer-clause-history g c = λ since start serving. c.in_err-answer.ensures.history since start (c.loop-line.invariant.serving since start serving)
+
+pub returns-in_err-answer-clause-accepted : goal.returns-in_err-answer-clause-accepted
+returns-in_err-answer-clause-accepted g c = λ whole reading.
+    first_at_most g.R.Source.left whole c.loop-line.log.accepted.items c.answer.new.log.accepted.items c.in-Some.line c.next.new.self c.in_err-answer.ensures.accepted_at_most
+    (rw c.in-Some.is at c.in_ok-line.ensures.first whole _ (c.loop-line.invariant.reading whole reading))
+
+pub returns-clause-history : goal.returns-clause-history
+returns-clause-history g c = λ since start serving. (c.loop-line.invariant.serving since start serving).history
+
+pub returns-clause-accepted : goal.returns-clause-accepted
+returns-clause-accepted g c = λ whole reading.
+    first_none g.R.Source.left whole _ c.next.new.self (rw c.in_default.is at c.in_ok-line.ensures.first whole _ (c.loop-line.invariant.reading whole reading))
+
+pub returns-clause-all : goal.returns-clause-all
+returns-clause-all g c = λ whole reading. c.in_ok-line.ensures.all (ap Ok c.in_default.is) whole _ (c.loop-line.invariant.reading whole reading)
+
+pub returns-clause-counted : goal.returns-clause-counted
+returns-clause-counted g c = λ whole reading. c.in_ok-line.ensures.total (ap Ok c.in_default.is) whole _ (c.loop-line.invariant.reading whole reading)
+
+pub returns-in_err-answer-clause-not_built : goal.returns-in_err-answer-clause-not_built
+returns-in_err-answer-clause-not_built g c = λ stop.
+    let p = err_from_is_err_and c.from_residual-in_err-answer.result c.from_residual-in_err-answer.ensures.1 in
+    ⊎_elim (λ odd. inl (record {
+      line = c.in-Some.line;
+      next = λ whole reading. odd_next g.R.Source.left whole c.loop-line.log c.answer.new.log c.in-Some.line c.next.new.self odd.same_log
+          (rw c.in-Some.is at c.in_ok-line.ensures.first whole _ (c.loop-line.invariant.reading whole reading));
+      odd = λ first stands. odd_through c.loop-line.core c.loop-line.log c.answer.new.log c.in-Some.line first (c.loop-line.invariant.stands first stands) odd.same_log odd.odd;
+    })) (λ full. inr (λ since start serving. subst (λ limit. MeetsLimit limit start (object_of c.answer.new.core) (front_of c.answer.new.core)) c.loop-line.invariant.limit (full since start (c.loop-line.invariant.serving since start serving))))
+    (c.in_err-answer.ensures.not_built (ap Err (sym p.2) ∙ sym p.1 ∙ stop))

@@ -1,0 +1,48 @@
+-- The status of a run that ends before its last line. This project's profile: 3 where the depot or a disk failed, 4 for want
+-- of memory, 5 for a read fault, 6 for a write fault, 7 for a slot whose file is no journal of one object, 8 for what isn't built yet.
+use Rattle.std.specs.Prelude.{ℕ, Result, Ok, Err}
+use Rattle.do_disk.specs.declared.depot.DepotFault.{DepotFault}
+use Rattle.do_disk.specs.declared.depot.DepotFault.TheVariants.{Failed, NoMemory as NoDepotMemory}
+use Rattle.batch_journal.specs.declared.mount.MountFault.{MountFault}
+use Rattle.batch_journal.specs.declared.mount.MountFault.TheVariants.{DiskFailed as MountFailed, Foreign, Damaged, Mixed, NoMemory as NoMountMemory}
+use Rattle.object_core.specs.declared.object.CallEnd.{CallEnd}
+use Rattle.object_core.specs.declared.object.CallEnd.TheVariants.{DiskFailed as CallFailed, Full, NoMemory as NoCallMemory}
+use Rattle.do_host.specs.declared.fault.LineFault.{LineFault}
+use Rattle.do_host.specs.declared.fault.LineFault.TheVariants.{ReadFailed as LineFailed, NoMemory as NoLineMemory}
+use Rattle.do_host.specs.declared.stop.Stop.{Stop}
+use Rattle.do_host.specs.declared.stop.Stop.TheVariants.{DiskFailed, NoMemory, ReadFailed, WriteFailed, BadSlot, NotBuilt}
+
+abbrev pub status_of : Stop → ℕ
+status_of DiskFailed = 3
+status_of NoMemory = 4
+status_of ReadFailed = 5
+status_of WriteFailed = 6
+status_of BadSlot = 7
+status_of NotBuilt = 8
+
+-- the status of a run of lines
+abbrev pub status_in : Result (Unit {0}) Stop → ℕ
+status_in (Ok done) = 0
+status_in (Err stop) = status_of stop
+
+abbrev pub line_stop : LineFault → Stop
+line_stop LineFailed = ReadFailed
+line_stop NoLineMemory = NoMemory
+
+-- a full journal is what isn't built yet
+abbrev pub call_stop : CallEnd → Stop
+call_stop CallFailed = DiskFailed
+call_stop (Full needed limit) = NotBuilt
+call_stop NoCallMemory = NoMemory
+
+abbrev pub depot_stop : DepotFault → Stop
+depot_stop Failed = DiskFailed
+depot_stop NoDepotMemory = NoMemory
+
+-- why a run stops where its slot isn't mounted
+abbrev pub mount_stop : {D : Type 0} → MountFault D → Stop
+mount_stop (MountFailed disk) = DiskFailed
+mount_stop (Foreign disk place) = BadSlot
+mount_stop (Damaged disk place) = BadSlot
+mount_stop (Mixed disk first other) = BadSlot
+mount_stop (NoMountMemory disk) = NoMemory

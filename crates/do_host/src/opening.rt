@@ -1,0 +1,119 @@
+// From the words to the core of the one slot.
+ghost use Rattle.std.specs.Prelude.{◌≡◌, ◌≢◌, ◌⊎◌, ◌+◌, ◌≤◌, ◌++◌, ◌∷◌, [], ℕ, List, Err, IfOk, IfErr, IfSome, OnOk, OnErr, IsErrOf, None, Some, vec_len};
+ghost use Rattle.std.specs.Vec.{vec_capacity};
+ghost use Rattle.do_disk.specs.Disk.{IfTold, Only, Rose};
+ghost use Rattle.do_disk.specs.Asks.{for_text, for_slot};
+ghost use Rattle.object_core.specs.Said.{IsPrefix};
+ghost use Rattle.object_core.specs.Serving.{CanServe};
+ghost use Rattle.do_host.specs.Opened.{IsFresh, IsOpened, IsBadFile, HasFailedDisk, IsOpeningStop, Asks};
+ghost use Rattle.do_host.specs.Status.{mount_stop};
+ghost use Rattle.batch_journal.specs.Mounting.{disk_left};
+ghost use Rattle.do_host.specs.declared.script.TheConstants.{PUT_AND_READ};
+
+use crate::report::{Report, SlotReport};
+use crate::script::is_put_and_read;
+use crate::stop::Stop;
+use crate::words::ServeWords;
+use batch_journal::{Journal, MountFault};
+use do_disk::{Depot, Disk};
+use do_value::{Mem, NoMemory};
+use object_core::Core;
+use std::alloc::Global;
+
+/// The most bytes of a slot's journal.
+const MOST_JOURNAL_BYTES: u64 = 1_073_741_824;
+
+// The core of slot 0, with room for its row. The disk of a slot that isn't mounted goes to the report.
+pub(crate) fn open<P: Depot>(
+    alloc: Global,
+    words: ServeWords,
+    depot: &mut P,
+    report: &mut Report<P::Store>,
+) -> Result<Core<P::Store>, Stop>
+    requires { report.old.unopened ≡ None }
+    ensures opened { IfOk result (IsOpened P.Store.moment_of P.Store.left_since P.Store.told P.Store.image (P.slot_at depot.old words.entry.folder.now 0)) }
+    ensures fresh { IfOk result IsFresh }
+    ensures room { OnOk result (vec_len report.new.slots + 1 ≤ vec_capacity report.new.slots) }
+    ensures no_row { report.new.slots.items ≡ report.old.slots.items }
+    ensures same { (report.new.switch ≡ report.old.switch) × (report.new.lines ≡ report.old.lines) }
+    ensures none_left { OnOk result (report.new.unopened ≡ None) }
+    ensures asked { Asks (P.asked depot.old) (P.asked depot.new) (for_text words.entry.script.now ∷ for_slot words.entry.folder.now 0 ∷ []) }
+    ensures stop { OnErr result (IsOpeningStop result) }
+    ensures failed { IsErrOf result Stop.DiskFailed → Rose (P.faults_of depot.old) (P.faults_of depot.new) ⊎ HasFailedDisk P.Store.faults_of report.new.unopened }
+    ensures bad { IsErrOf result Stop.BadSlot → IfTold (P.slot_at depot.old words.entry.folder.now 0) IsBadFile }
+    ensures not_built { IsErrOf result Stop.NotBuilt → IfTold (P.text_at depot.old words.entry.script.now) (λ text. text ≢ PUT_AND_READ.now) }
+{
+    read_script(depot, words.script)?;
+    make_row(&mut report.slots)?;
+    let disk = depot.slot(words.folder, 0)?;
+    mount(alloc, disk, &mut report.unopened)
+}
+
+// Reads the script, and tests that it is the one that is served so far.
+fn read_script<P: Depot>(depot: &mut P, path: &str) -> Result<(), Stop>
+    ensures asked { Asks (P.asked depot.old) (P.asked depot.new) (for_text path.now ∷ []) }
+    ensures whole { OnOk result (P.asked depot.new ≡ P.asked depot.old ++ for_text path.now ∷ []) }
+    ensures same_slots { (folder : List ℕ) (number : ℕ) → P.slot_at depot.new folder number ≡ P.slot_at depot.old folder number }
+    ensures stop { OnErr result (IsOpeningStop result) }
+    ensures failed { IsErrOf result Stop.DiskFailed → Rose (P.faults_of depot.old) (P.faults_of depot.new) }
+    ensures steady { OnOk result (P.faults_of depot.new ≡ P.faults_of depot.old) }
+    ensures no_slot { IsErrOf result Stop.BadSlot → ⊥ }
+    ensures not_built { IsErrOf result Stop.NotBuilt → IfTold (P.text_at depot.old path.now) (λ text. text ≢ PUT_AND_READ.now) }
+{
+    let text = depot.text(path)?;
+    if is_put_and_read(text.as_slice()) {
+        Ok(())
+    } else {
+        Err(Stop::NotBuilt)
+    }
+}
+
+fn make_row<S>(slots: &mut Vec<SlotReport<S>>) -> Mem<()>
+    ensures room { OnOk result (vec_len slots.new + 1 ≤ vec_capacity slots.new) }
+    ensures same { slots.new.items ≡ slots.old.items }
+{
+    if slots.reserve(1).is_err() {
+        return Err(NoMemory);
+    }
+    Ok(())
+}
+
+// Mounts a disk before its first call.
+fn mount<D: Disk + Drop>(alloc: Global, disk: D, unopened: &mut Option<D>) -> Result<Core<D>, Stop>
+    requires none { unopened.old ≡ None }
+    requires moment { D.moment_of disk ≡ 0 }
+    requires faults { D.faults_of disk ≡ 0 }
+    requires durable { Only (D.told disk) (D.image disk) }
+    ensures opened { IfOk result (IsOpened D.moment_of D.left_since D.told D.image (D.told disk)) }
+    ensures fresh { IfOk result IsFresh }
+    ensures none_left { OnOk result (unopened.new ≡ None) }
+    ensures stop { OnErr result (IsOpeningStop result) }
+    ensures failed { IsErrOf result Stop.DiskFailed → HasFailedDisk D.faults_of unopened.new }
+    ensures bad { IsErrOf result Stop.BadSlot → IfTold (D.told disk) IsBadFile }
+    ensures built { IsErrOf result Stop.NotBuilt → ⊥ }
+{
+    match Journal::mount(alloc, disk, MOST_JOURNAL_BYTES) {
+        Ok(mounted) => Ok(Core::first(alloc, mounted)),
+        Err(fault) => Err(refuse(fault, unopened)),
+    }
+}
+
+// Keeps the disk of a mounting that was refused.
+fn refuse<D: Drop>(fault: MountFault<D>, unopened: &mut Option<D>) -> Stop
+    ensures stop { result ≡ mount_stop fault }
+    ensures kept { unopened.new ≡ Some (disk_left fault) }
+{
+    let (stop, disk) = match fault {
+        MountFault::DiskFailed(disk) => (Stop::DiskFailed, disk),
+        MountFault::Foreign { disk, place: _ } => (Stop::BadSlot, disk),
+        MountFault::Damaged { disk, place: _ } => (Stop::BadSlot, disk),
+        MountFault::Mixed {
+            disk,
+            first: _first,
+            other: _other,
+        } => (Stop::BadSlot, disk),
+        MountFault::NoMemory(disk) => (Stop::NoMemory, disk),
+    };
+    *unopened = Some(disk);
+    stop
+}

@@ -1,0 +1,192 @@
+//! The top call.
+ghost use Rattle.std.specs.Prelude.{◌≡◌, ◌≢◌, ◌⊎◌, ◌+◌, ◌≤◌, ◌++◌, ◌∷◌, [], ℕ, List, Option, map, length, min, None, vec_len, string_bytes};
+ghost use Rattle.std.specs.Vec.{vec_capacity};
+ghost use Rattle.std.specs.List.{All};
+ghost use Rattle.do_disk.specs.Disk.{IfTold, Rose};
+ghost use Rattle.do_disk.specs.Asks.{for_text, for_slot};
+ghost use Rattle.object_core.specs.Serving.{CanServe};
+ghost use Rattle.do_host.specs.Cut.{lines as all_lines};
+ghost use Rattle.do_host.specs.Requests.{requests, through};
+ghost use Rattle.do_host.specs.Seen.{seen};
+ghost use Rattle.do_host.specs.Going.{HasGiven};
+ghost use Rattle.do_host.specs.Switch.{text_of};
+ghost use Rattle.do_host.specs.Served.{HasWritten, WritesFirstOf};
+ghost use Rattle.do_host.specs.Report.{IsEmpty, IsServe, AreServeWords, IsSlotHistory, IsQuiet, HasFailedStore};
+ghost use Rattle.do_host.specs.NotBuilt.{IsNotBuilt, IsFormed};
+ghost use Rattle.do_host.specs.Opened.{IsFresh, IsOpened, IsBadFile, Asks, row_of};
+ghost use Rattle.do_host.specs.Status.{status_in};
+ghost use Rattle.do_host.specs.declared.TheConstants.{MOST_LINES};
+ghost use Rattle.do_host.specs.declared.program.TheConstants.{USAGE};
+ghost use Rattle.do_host.specs.declared.script.TheConstants.{PUT_AND_READ};
+
+use crate::lines::Lines;
+use crate::opening::open;
+use crate::report::{Report, SlotReport};
+use crate::serving::serve;
+use crate::stop::Stop;
+use crate::words::serve_words;
+use crate::write::put;
+use do_disk::{Depot, Disk, Sink, Source, TurnGate};
+use object_core::{Core, CoreParts};
+use std::alloc::Global;
+
+/// The line of a run whose words aren't taken.
+const USAGE: &str = "[\"usage\"]\n";
+
+/// A run's exit status, with the source and the sink as it left them.
+#[derive(Drop)]
+pub struct Ran<R, W> {
+    pub status: u8,
+    pub input: R,
+    pub out: W,
+}
+
+/// Runs the program: `serve SCRIPT FOLDER` serves the lines of the input over slot 0 of the folder.
+///
+/// | status | comes |
+/// |---|---|
+/// | 0 | the input was read to its end, or through line [`MOST_LINES`](crate::MOST_LINES), and each call has its reply |
+/// | 1 | exactly where the words aren't `serve SCRIPT FOLDER`; prints `["usage"]` |
+/// | 3 | only where the count of faults of the depot or of the slot's disk rose |
+/// | 4 | want of memory |
+/// | 5 | only where the source's count of faults rose |
+/// | 6 | only where the sink's count of faults rose |
+/// | 7 | only where the slot's file is foreign, damaged or mixed |
+/// | 8 | what is asked for isn't built yet: another script than [`PUT_AND_READ`](crate::PUT_AND_READ), a line that isn't a call of `set` or `read` on the slot's object with a key and a value that storage takes, or a journal that would pass 2^30 bytes |
+///
+/// The gate isn't called yet.
+pub fn run<P: Depot, R: Source + Send, W: Sink + Send, G: TurnGate + Sync>(
+    alloc: Global,
+    words: &[String],
+    depot: &mut P,
+    input: R,
+    out: W,
+    _gate: &G,
+    report: &mut Report<P::Store>,
+) -> Ran<R, W>
+    requires { IsEmpty report.old }
+    // The report has the one actual history: at each moment since the slot's disk was handed out a crash leaves a prefix
+    // of whole batches, which holds every batch that an answer follows, from the moment on at which the answer left. What
+    // was delivered begins what the accepted lines post, what was routed begins what was released, and the output's lines
+    // begin those of the routed messages.
+    ensures history { (script folder : List ℕ) → IsServe (map string_bytes words.now) script folder → All (IsSlotHistory P.Store.moment_of P.Store.left_since P.Store.image (P.slot_at depot.old folder 0) report.new.switch) report.new.slots.items }
+    ensures one_slot { length report.new.slots.items ≤ 1 }
+    ensures no_row { report.new.slots.items ≡ [] → (result.input ≡ input) × (report.new.switch ≡ report.old.switch) × (report.new.lines ≡ 0) }
+    ensures accepted { IfTold (R.left input) (λ whole. HasGiven whole (map seen report.new.switch.accepted.items) (R.left result.input)) }
+    ensures written { AreServeWords (map string_bytes words.now) → WritesFirstOf (W.taken out) (W.taken result.out) (text_of report.new.switch.lines.items) }
+    // Status 0: all of it, and nothing is under way.
+    ensures served { result.status ≡ 0 → length report.new.slots.items ≡ 1 }
+    ensures quiet { result.status ≡ 0 → (script folder : List ℕ) → IsServe (map string_bytes words.now) script folder → All (IsQuiet (P.slot_at depot.old folder 0) report.new.switch) report.new.slots.items }
+    ensures all_accepted { result.status ≡ 0 → IfTold (R.left input) (λ whole. map seen report.new.switch.accepted.items ≡ through MOST_LINES (requests whole)) }
+    ensures all_counted { result.status ≡ 0 → IfTold (R.left input) (λ whole. report.new.lines ≡ min MOST_LINES (length (all_lines whole))) }
+    ensures all_formed { result.status ≡ 0 → (script folder : List ℕ) → IsServe (map string_bytes words.now) script folder → IsFormed (P.slot_at depot.old folder 0) report.new.switch }
+    ensures all_written { result.status ≡ 0 → HasWritten (W.taken out) (W.taken result.out) report.new.switch.lines.items }
+    // The other statuses and their causes.
+    ensures usage { result.status ≡ 1 → AreServeWords (map string_bytes words.now) → ⊥ }
+    ensures other_words { (AreServeWords (map string_bytes words.now) → ⊥) → ((result.status ≡ 1) ⊎ (result.status ≡ 6)) × (report.new ≡ report.old) × (P.asked depot.new ≡ P.asked depot.old) }
+    ensures usage_written { (AreServeWords (map string_bytes words.now) → ⊥) → WritesFirstOf (W.taken out) (W.taken result.out) USAGE.now }
+    ensures bad_slot { result.status ≡ 7 → (script folder : List ℕ) → IsServe (map string_bytes words.now) script folder → IfTold (P.slot_at depot.old folder 0) IsBadFile }
+    ensures other_script { result.status ≡ 8 → report.new.slots.items ≡ [] → (script folder : List ℕ) → IsServe (map string_bytes words.now) script folder → IfTold (P.text_at depot.old script) (λ text. text ≢ PUT_AND_READ.now) }
+    ensures not_built { result.status ≡ 8 → (script folder : List ℕ) → IsServe (map string_bytes words.now) script folder → All (IsNotBuilt (P.slot_at depot.old folder 0) (R.left input) (R.left result.input) report.new.switch) report.new.slots.items }
+    ensures failed { result.status ≡ 3 → Rose (P.faults_of depot.old) (P.faults_of depot.new) ⊎ HasFailedStore P.Store.faults_of report.new }
+    ensures asked { (script folder : List ℕ) → IsServe (map string_bytes words.now) script folder → Asks (P.asked depot.old) (P.asked depot.new) (for_text script ∷ for_slot folder 0 ∷ []) }
+    ensures read_failed { result.status ≡ 5 → Rose (R.faults_of input) (R.faults_of result.input) × (W.faults_of result.out ≡ W.faults_of out) }
+    ensures write_failed { result.status ≡ 6 → Rose (W.faults_of out) (W.faults_of result.out) }
+{
+    let Some(words) = serve_words(words) else {
+        return refuse_words(input, out);
+    };
+    match open(alloc, words, depot, report) {
+        Ok(core) => serve_slot(alloc, core, input, out, report),
+        Err(stop) => Ran {
+            status: stop.status(),
+            input,
+            out,
+        },
+    }
+}
+
+// Answers words that aren't taken.
+fn refuse_words<R, W: Sink>(input: R, out: W) -> Ran<R, W>
+    ensures status { (result.status ≡ 1) ⊎ (result.status ≡ 6) }
+    ensures input { result.input ≡ input }
+    ensures written { WritesFirstOf (W.taken out) (W.taken result.out) USAGE.now }
+    ensures failed { result.status ≡ 6 → Rose (W.faults_of out) (W.faults_of result.out) }
+{
+    let mut out = out;
+    let status = match put(&mut out, USAGE.as_bytes()) {
+        Ok(()) => 1,
+        Err(_) => Stop::WriteFailed.status(),
+    };
+    Ran { status, input, out }
+}
+
+// Serves the input over the core, and puts its row into the report.
+fn serve_slot<D: Disk, R: Source, W: Sink>(
+    alloc: Global,
+    core: Core<D>,
+    input: R,
+    out: W,
+    report: &mut Report<D>,
+) -> Ran<R, W>
+    requires serving { CanServe D.moment_of D.left_since D.told D.image core }
+    requires fresh { IsFresh core }
+    requires empty { IsEmpty report.old }
+    requires room { vec_len report.old.slots + 1 ≤ vec_capacity report.old.slots }
+    ensures history { (content : Option (List ℕ)) → IsOpened D.moment_of D.left_since D.told D.image content core → All (IsSlotHistory D.moment_of D.left_since D.image content report.new.switch) report.new.slots.items }
+    ensures one_slot { length report.new.slots.items ≡ 1 }
+    ensures accepted { IfTold (R.left input) (λ whole. HasGiven whole (map seen report.new.switch.accepted.items) (R.left result.input)) }
+    ensures written { WritesFirstOf (W.taken out) (W.taken result.out) (text_of report.new.switch.lines.items) }
+    ensures quiet { result.status ≡ 0 → (content : Option (List ℕ)) → IsOpened D.moment_of D.left_since D.told D.image content core → All (IsQuiet content report.new.switch) report.new.slots.items }
+    ensures all_accepted { result.status ≡ 0 → IfTold (R.left input) (λ whole. map seen report.new.switch.accepted.items ≡ through MOST_LINES (requests whole)) }
+    ensures all_counted { result.status ≡ 0 → IfTold (R.left input) (λ whole. report.new.lines ≡ min MOST_LINES (length (all_lines whole))) }
+    ensures all_formed { result.status ≡ 0 → (content : Option (List ℕ)) → IsOpened D.moment_of D.left_since D.told D.image content core → IsFormed content report.new.switch }
+    ensures all_written { result.status ≡ 0 → HasWritten (W.taken out) (W.taken result.out) report.new.switch.lines.items }
+    ensures no_usage { result.status ≡ 1 → ⊥ }
+    ensures good_slot { result.status ≡ 7 → ⊥ }
+    ensures not_built { result.status ≡ 8 → (content : Option (List ℕ)) → IsOpened D.moment_of D.left_since D.told D.image content core → All (IsNotBuilt content (R.left input) (R.left result.input) report.new.switch) report.new.slots.items }
+    ensures failed { result.status ≡ 3 → HasFailedStore D.faults_of report.new }
+    ensures read_failed { result.status ≡ 5 → Rose (R.faults_of input) (R.faults_of result.input) × (W.faults_of result.out ≡ W.faults_of out) }
+    ensures write_failed { result.status ≡ 6 → Rose (W.faults_of out) (W.faults_of result.out) }
+{
+    let mut core = core;
+    let mut out = out;
+    let mut lines = Lines::new(alloc, input);
+    let served = serve(alloc, &mut core, &mut lines, &mut report.switch, &mut out);
+    report.lines = lines.count();
+    add_row(&mut report.slots, core);
+    Ran {
+        status: status_of(served),
+        input: lines.into_source(),
+        out,
+    }
+}
+
+fn add_row<D: Disk>(slots: &mut Vec<SlotReport<D>>, core: Core<D>)
+    requires { vec_len slots.old + 1 ≤ vec_capacity slots.old }
+    ensures { slots.new.items ≡ slots.old.items ++ row_of core ∷ [] }
+{
+    let CoreParts {
+        disk,
+        identity,
+        front,
+        back,
+    } = core.into_parts();
+    slots
+        .push(SlotReport {
+            store: disk,
+            front,
+            back,
+            identity,
+        })
+        .unwrap();
+}
+
+fn status_of(served: Result<(), Stop>) -> u8
+    ensures { result ≡ status_in served }
+{
+    match served {
+        Ok(()) => 0,
+        Err(stop) => stop.status(),
+    }
+}

@@ -1,0 +1,95 @@
+// The lines of the input, one after another, over the one object.
+ghost use Rattle.std.specs.Prelude.{◌≡◌, ◌⊎◌, ◌≤◌, ◌++◌, ◌∷◌, [], ℕ, List, Option, length, map, min, IfOk, OnOk, OnErr, IsErrOf, Ok, None};
+ghost use Rattle.do_disk.specs.Disk.{Rose};
+ghost use Rattle.batch_journal.specs.Frames.{Frame};
+ghost use Rattle.object_core.specs.Serving.{IsServing, CanServe, IsHistoryOf, limit_in, object_of, disk_of};
+ghost use Rattle.do_host.specs.FirstForm.{IsFirstLine};
+ghost use Rattle.do_host.specs.Cut.{lines as all_lines};
+ghost use Rattle.do_host.specs.Requests.{SeenLine, requests, through};
+ghost use Rattle.do_host.specs.Seen.{seen};
+ghost use Rattle.do_host.specs.Lines.{IsReading, IsFirstOf, source_of, count_of, fault_of};
+ghost use Rattle.do_host.specs.Switch.{text_of};
+ghost use Rattle.do_host.specs.NotBuilt.{AreFirstLines, IsOddTo, EndsAtOdd, EndsAtLimit};
+ghost use Rattle.do_host.specs.Served.{Stands, IsLogged, IsBlank, AcceptsAtMost, HasWritten, WritesFirstOf};
+ghost use Rattle.do_host.specs.declared.TheConstants.{MOST_LINES};
+
+use crate::first_form::is_first_form;
+use crate::line::Line;
+use crate::lines::Lines;
+use crate::posting::post;
+use crate::routing::route;
+use crate::stop::Stop;
+use crate::switch_log::SwitchLog;
+use do_disk::{Disk, Sink, Source};
+use object_core::Core;
+use std::alloc::Global;
+
+// Serves the lines to the input's end, or until something stops it.
+pub(crate) fn serve<D: Disk, R: Source, W: Sink>(
+    alloc: Global,
+    core: &mut Core<D>,
+    lines: &mut Lines<R>,
+    log: &mut SwitchLog,
+    out: &mut W,
+) -> Result<(), Stop>
+    requires blank { IsBlank log.old }
+    requires serving { CanServe D.moment_of D.left_since D.told D.image core.old }
+    requires unread { fault_of lines.old ≡ None }
+    ensures stands { OnOk result ((first : Option (List ℕ × List ℕ)) → Stands first core.old log.old [] [] → Stands first core.new log.new [] []) }
+    ensures logged { OnErr result ((first : Option (List ℕ × List ℕ)) → Stands first core.old log.old [] [] → IsLogged first core.new log.new) }
+    ensures history { (since : ℕ) (start : List Frame) → IsServing D.moment_of D.left_since D.told D.image since start core.old → IsHistoryOf D.moment_of D.left_since D.image since start core.new }
+    ensures serving { OnOk result ((since : ℕ) (start : List Frame) → IsServing D.moment_of D.left_since D.told D.image since start core.old → IsServing D.moment_of D.left_since D.told D.image since start core.new) }
+    ensures accepted { (whole : List ℕ) → IsReading R.left whole [] lines.old → IsFirstOf R.left whole (map seen log.new.accepted.items) lines.new }
+    ensures all { OnOk result ((whole : List ℕ) → IsReading R.left whole [] lines.old → map seen log.new.accepted.items ≡ through MOST_LINES (requests whole)) }
+    ensures counted { OnOk result ((whole : List ℕ) → IsReading R.left whole [] lines.old → count_of lines.new ≡ min MOST_LINES (length (all_lines whole))) }
+    ensures formed { OnOk result ((first : Option (List ℕ × List ℕ)) → Stands first core.old log.old [] [] → AreFirstLines first log.new.accepted.items) }
+    ensures written { OnOk result (HasWritten (W.taken out.old) (W.taken out.new) log.new.lines.items) }
+    ensures front { OnErr result (WritesFirstOf (W.taken out.old) (W.taken out.new) (text_of log.new.lines.items)) }
+    ensures disk_failed { IsErrOf result Stop.DiskFailed → Rose (D.faults_of (disk_of core.old)) (D.faults_of (disk_of core.new)) }
+    ensures disk_later { D.faults_of (disk_of core.old) ≤ D.faults_of (disk_of core.new) }
+    ensures read_failed { IsErrOf result Stop.ReadFailed → Rose (R.faults_of (source_of lines.old)) (R.faults_of (source_of lines.new)) }
+    ensures write_failed { IsErrOf result Stop.WriteFailed → Rose (W.faults_of out.old) (W.faults_of out.new) }
+    ensures good_slot { IsErrOf result Stop.BadSlot → ⊥ }
+    ensures not_built { IsErrOf result Stop.NotBuilt → EndsAtOdd R.left core.old log.old log.new lines.old lines.new ⊎ EndsAtLimit D.moment_of D.left_since D.told D.image core.old core.new }
+    ensures sink_steady { (IsErrOf result Stop.WriteFailed → ⊥) → W.faults_of out.new ≡ W.faults_of out.old }
+{
+    while let Some(line) = lines.next()? {
+        answer(alloc, core, log, out, line)?;
+    }
+    Ok(())
+}
+
+// Serves one line: posts its call, runs it, and routes its reply.
+fn answer<D: Disk, W: Sink>(
+    alloc: Global,
+    core: &mut Core<D>,
+    log: &mut SwitchLog,
+    out: &mut W,
+    line: Line,
+) -> Result<(), Stop>
+    requires serving { CanServe D.moment_of D.left_since D.told D.image core.old }
+    ensures stands { OnOk result ((first : Option (List ℕ × List ℕ)) → Stands first core.old log.old [] [] → Stands first core.new log.new [] []) }
+    ensures logged { OnErr result ((first : Option (List ℕ × List ℕ)) → Stands first core.old log.old [] [] → IsLogged first core.new log.new) }
+    ensures serving { OnOk result ((since : ℕ) (start : List Frame) → IsServing D.moment_of D.left_since D.told D.image since start core.old → IsServing D.moment_of D.left_since D.told D.image since start core.new) }
+    ensures history { OnErr result ((since : ℕ) (start : List Frame) → IsServing D.moment_of D.left_since D.told D.image since start core.old → IsHistoryOf D.moment_of D.left_since D.image since start core.new) }
+    ensures accepted { OnOk result (log.new.accepted.items ≡ log.old.accepted.items ++ line ∷ []) }
+    ensures accepted_at_most { OnErr result (AcceptsAtMost line log.old log.new) }
+    ensures formed { OnOk result (IsFirstLine (object_of core.old) line) }
+    ensures written { OnOk result ((before : Option (List ℕ)) → HasWritten before (W.taken out.old) log.old.lines.items → HasWritten before (W.taken out.new) log.new.lines.items) }
+    ensures front { OnErr result ((before : Option (List ℕ)) → HasWritten before (W.taken out.old) log.old.lines.items → WritesFirstOf before (W.taken out.new) (text_of log.new.lines.items)) }
+    ensures disk_failed { IsErrOf result Stop.DiskFailed → Rose (D.faults_of (disk_of core.old)) (D.faults_of (disk_of core.new)) }
+    ensures disk_later { D.faults_of (disk_of core.old) ≤ D.faults_of (disk_of core.new) }
+    ensures same_limit { limit_in core.new ≡ limit_in core.old }
+    ensures no_read { IsErrOf result Stop.ReadFailed → ⊥ }
+    ensures write_failed { IsErrOf result Stop.WriteFailed → Rose (W.faults_of out.old) (W.faults_of out.new) }
+    ensures good_slot { IsErrOf result Stop.BadSlot → ⊥ }
+    ensures not_built { IsErrOf result Stop.NotBuilt → IsOddTo line core.old core.new log.old log.new ⊎ EndsAtLimit D.moment_of D.left_since D.told D.image core.old core.new }
+    ensures sink_steady { (IsErrOf result Stop.WriteFailed → ⊥) → W.faults_of out.new ≡ W.faults_of out.old }
+{
+    if !is_first_form(core.identity(), &line) {
+        return Err(Stop::NotBuilt);
+    }
+    let event = post(core, log, line)?;
+    let message = core.call(event)?;
+    route(alloc, log, out, message)
+}
