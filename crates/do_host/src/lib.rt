@@ -52,6 +52,8 @@ pub const MOST_LINES: u64 = 1_048_576;
 #[cfg(test)]
 mod crash_tests;
 #[cfg(test)]
+mod edge_tests;
+#[cfg(test)]
 mod run_tests;
 #[cfg(test)]
 mod tests;

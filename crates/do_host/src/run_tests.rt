@@ -23,16 +23,16 @@ pub(crate) const ONE_PUT: [u8; 86] = [
 
 // What a run is given beside its words. The calls of the disk, the source and the sink fail from these on, counted from 1.
 #[derive(Clone, Copy, Drop)]
-pub(crate) struct Given {
-    script: &'static str,
-    input: &'static str,
-    disk: u64,
-    read: u64,
-    write: u64,
+pub(crate) struct Given<'a> {
+    pub(crate) script: &'a str,
+    pub(crate) input: &'a str,
+    pub(crate) disk: u64,
+    pub(crate) read: u64,
+    pub(crate) write: u64,
 }
 
 // The script `put_and_read`, with these lines.
-pub(crate) fn lines(input: &'static str) -> Given {
+pub(crate) fn lines(input: &str) -> Given<'_> {
     Given {
         script: PUT_AND_READ,
         input,
@@ -43,7 +43,7 @@ pub(crate) fn lines(input: &'static str) -> Given {
 }
 
 // The same, where each call of the disk from this one on fails.
-pub(crate) fn lines_until(disk: u64, input: &'static str) -> Given {
+pub(crate) fn lines_until(disk: u64, input: &str) -> Given<'_> {
     Given {
         disk,
         ..lines(input)
@@ -71,7 +71,7 @@ fn words(alloc: Global, words: &[&str]) -> Result<Vec<String>, Fail> {
 pub(crate) type Outcome = (Ran<MemSource, MemSink>, Report<MemDisk>);
 
 // The run of `serve s f` over an empty disk.
-fn served(alloc: Global, given: Given) -> Result<Outcome, Fail> {
+pub(crate) fn served(alloc: Global, given: Given) -> Result<Outcome, Fail> {
     served_over(alloc, given, &[])
 }
 
