@@ -25,6 +25,16 @@ const OTHER_PUT: [u8; 70] = [
     0xd1, 0x14, 0xfd, 0xbf, 0xe0, 0x00,
 ];
 
+// A put of 5 under k and then a delete of k, as two batches of one frame of a whole file.
+const TWO_BATCHES: [u8; 96] = [
+    0xa5, 0x44, 0x4f, 0x2d, 0x4a, 0x4f, 0x55, 0x52, 0x4e, 0x41, 0x4c, 0x2d, 0x56, 0x31, 0x0a, 0xa5,
+    0x00, 0x00, 0x00, 0x2b, 0x00, 0x00, 0x00, 0x01, 0x43, 0x00, 0x00, 0x00, 0x01, 0x61, 0x00, 0x00,
+    0x00, 0x02, 0x00, 0x00, 0x00, 0x01, 0x01, 0x00, 0x00, 0x00, 0x01, 0x6b, 0x04, 0x00, 0x00, 0x00,
+    0x00, 0x00, 0x00, 0x00, 0x05, 0x00, 0x00, 0x00, 0x01, 0x02, 0x00, 0x00, 0x00, 0x01, 0x6b, 0x51,
+    0x02, 0x43, 0x82, 0xf0, 0x31, 0x97, 0xac, 0xdd, 0x60, 0x9e, 0x69, 0x42, 0x49, 0x2f, 0xb7, 0x86,
+    0x6c, 0x41, 0x58, 0xad, 0x61, 0x72, 0xd0, 0x01, 0xf5, 0xc2, 0x17, 0x44, 0x5c, 0x9a, 0x54, 0x00,
+];
+
 // What a mounting answers: the journal's end and the number under k, or the fault with its place or its names.
 #[derive(Clone, Copy, Debug, Drop, PartialEq, Eq)]
 enum Answer {
@@ -133,6 +143,35 @@ fn changed_files_are_named(rt: HostRuntime) -> Result<(), Fail> {
     Ok(())
 }
 
+// What the file of one put is where the lowest bit of the byte at this place is changed.
+fn answer_to_change(place: usize) -> Answer {
+    match place {
+        0..=14 => Answer::Foreign {
+            place: place as u64,
+        },
+        15 => Answer::Mounted {
+            end: 16,
+            number: None,
+        },
+        16..=84 => Answer::Damaged { place: 15 },
+        _ => Answer::Mounted {
+            end: 86,
+            number: Some(5),
+        },
+    }
+}
+
+#[test]
+fn each_changed_byte_is_named(rt: HostRuntime) -> Result<(), Fail> {
+    let alloc = rt.alloc();
+    for place in 0..86 {
+        let changed = with_byte(alloc, place, ONE_PUT[place] ^ 1)?;
+        let found = mounting_of(alloc, &changed)?;
+        assert_eq!(rt; found, answer_to_change(place), "{place}");
+    }
+    Ok(())
+}
+
 #[test]
 fn further_frames_are_read(rt: HostRuntime) -> Result<(), Fail> {
     let alloc = rt.alloc();
@@ -179,5 +218,15 @@ fn a_header_is_finished_from_its_step(rt: HostRuntime) -> Result<(), Fail> {
     let (opening, calls) = finished(alloc, b"\x07DO-JOURNAL-V1\n\x09")?;
     assert_eq!(rt; opening.as_slice(), b"\xa5DO-JOURNAL-V1\n\x09".as_slice());
     assert_eq!(rt; calls, 5);
+    Ok(())
+}
+
+#[test]
+fn two_batches_of_one_frame_are_read(rt: HostRuntime) -> Result<(), Fail> {
+    let emptied = Answer::Mounted {
+        end: 96,
+        number: None,
+    };
+    assert_eq!(rt; mounting_of(rt.alloc(), &TWO_BATCHES)?, emptied);
     Ok(())
 }
