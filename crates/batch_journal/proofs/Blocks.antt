@@ -5,10 +5,10 @@ use Rattle.std.specs.List.{flat_map, slice_range}
 use Rattle.std.specs.Int.{w32, to_be_bytes}
 use Rattle.std.proofs.lemmas.List.{append-nil, take_at, drop_at, flat_map_more}
 use Rattle.do_disk.specs.Disk.{written}
-use Rattle.batch_journal.specs.Ops.{batch_bytes}
-use Rattle.batch_journal.specs.Frames.{Frame, object_bytes, payload}
+use Rattle.storage_map.specs.Ops.{object_bytes, batch_bytes}
+use Rattle.batch_journal.specs.Frames.{Frame, payload}
 use Rattle.batch_journal.specs.Staged.{frame_of, unsealed, IsReady, IsPending}
-use Rattle.batch_journal.specs.declared.op.Op.{Op}
+use Rattle.storage_map.specs.declared.op.Op.{Op}
 use Rattle.batch_journal.specs.declared.pending.Pending.{Pending}
 use Rattle.batch_journal.proofs.Sizes.{length-payload}
 use Rattle.batch_journal.proofs.Writes.{written_between}

@@ -7,7 +7,7 @@ use Rattle.std.proofs.lemmas.Nat.{be_bytes_4}
 use Rattle.std.proofs.lemmas.List.{nil_from_length, drop_at, drop_more, get_or-take}
 use Rattle.std.proofs.lemmas.List.Elements.{All-nil}
 use Rattle.sha2.specs.Sha256.{sha256}
-use Rattle.batch_journal.specs.Limits.{Object}
+use Rattle.storage_map.specs.Limits.{Object}
 use Rattle.batch_journal.specs.Frames.{Frame, payload, frame_bytes, journal_bytes, open_gate, header_text, AreFrames, Name}
 use Rattle.batch_journal.specs.Parsing.{payload_at}
 use Rattle.batch_journal.specs.Recovery.{Begun, Closed, Opening}

@@ -1,5 +1,5 @@
 -- Lists of frames: what they name and leave, and how they go on.
-use Rattle.std.proofs.Common.{◌≡◌, ℕ, ◌+◌, ◌-◌, ◌^◌, ◌<◌, ◌≤◌, List, [], ◌∷◌, ◌++◌, length, take, drop, get_or, length-drop, refl, sym, ◌∙◌, ap, arith, append_assoc, length-append}
+use Rattle.std.proofs.Common.{◌≡◌, ℕ, ◌+◌, ◌-◌, ◌^◌, ◌<◌, ◌≤◌, List, [], ◌∷◌, ◌++◌, length, take, drop, get_or, length-drop, sym, ◌∙◌, ap, arith, append_assoc, length-append}
 use Rattle.std.specs.Prelude.{Option}
 use Rattle.std.specs.List.{flat_map, slice_range}
 use Rattle.std.proofs.lemmas.List.{drop_more, drop-drop, nil_from_length, take_at, drop_at, take-append-drop}
@@ -15,24 +15,10 @@ use Rattle.batch_journal.specs.Reading.{IsInBlock, IsFound}
 use Rattle.batch_journal.specs.declared.read_frame.Found.{Found}
 use Rattle.batch_journal.specs.declared.read_frame.Found.TheVariants.{Frame as OneFrame, NoFrame, NoMemory}
 use Rattle.sha2.proofs.Facts256.{length-sha256}
-use Rattle.do_value.specs.declared.value.Value.{Value}
-use Rattle.batch_journal.specs.Stored.{value_step, value_after, alarm_step, alarm_after}
-use Rattle.batch_journal.specs.declared.op.Op.{Op}
-use Rattle.std.specs.Prelude.{ℤ}
 
 -- the pieces from a place on: that one's, and those behind it
 pub flat_map_drop : {X Y : Type 0} (f : X → List Y) (xs : List X) (i : ℕ) (d : X) → i < length xs → flat_map f (drop i xs) ≡ f (get_or xs i d) ++ flat_map f (drop (i + 1) xs)
 flat_map_drop f xs i d within = ap (λ l. flat_map f l) (drop_more xs i d within)
-
--- what operations leave of a key, and then others
-pub value_after-append : (key : List ℕ) (old : Option Value) (ops more : List Op) → value_after key old (ops ++ more) ≡ value_after key (value_after key old ops) more
-value_after-append key old [] more = refl
-value_after-append key old (op ∷ ops) more = value_after-append key (value_step key old op) ops more
-
--- and of the alarm
-pub alarm_after-append : (old : Option (ℤ × ℕ)) (ops more : List Op) → alarm_after old (ops ++ more) ≡ alarm_after (alarm_after old ops) more
-alarm_after-append old [] more = refl
-alarm_after-append old (op ∷ ops) more = alarm_after-append (alarm_step old op) ops more
 
 -- the parts of a block: a payload of so many bytes, 32 bytes and one more
 pub block_parts : (block : List ℕ) (n : ℕ) → length block ≡ n + 33 → block ≡ take n block ++ slice_range block n (n + 32) ++ get_or block (n + 32) 0 ∷ []

@@ -1,24 +1,23 @@
 -- Frames that are read one after another, and what is kept of them.
 use Rattle.std.proofs.Common.{◌≡◌, ◌≢◌, ℕ, ◌+◌, ◌-◌, List, [], ◌∷◌, ◌++◌, length, drop, Option, Some, None, refl, sym, ◌∙◌, ap, subst, arith}
-use Rattle.std.specs.Prelude.{MatchOption, ⊤, ℤ, IfSome, is_some, false}
+use Rattle.std.specs.Prelude.{MatchOption, ⊤, IfSome, is_some, false}
 use Rattle.std.proofs.lemmas.Bool.{false≢true}
 use Rattle.std.specs.List.{flat_map, All}
 use Rattle.std.proofs.lemmas.List.{append-nil}
 use Rattle.std.proofs.lemmas.List.Elements.{All-nil, All-cons, All-push, All-head, All-tail}
 use Rattle.std.proofs.lemmas.Grind.{flat_map-append}
 use Rattle.do_disk.specs.Disk.{IfTold}
-use Rattle.do_value.specs.declared.value.Value.{Value}
-use Rattle.batch_journal.specs.Limits.{Object}
-use Rattle.batch_journal.specs.Frames.{Frame, payload, journal_bytes, batches_in, open_gate, header_text, IsFrame, Name}
+use Rattle.storage_map.specs.Limits.{Object}
+use Rattle.batch_journal.specs.Frames.{Frame, payload, journal_bytes, batches_in, operations_in, open_gate, header_text, IsFrame, Name}
 use Rattle.batch_journal.specs.Refused.{BeginWith, IsDamaged}
 use Rattle.batch_journal.specs.Recovery.{IsJournal}
-use Rattle.batch_journal.specs.Stored.{value_in, value_after, alarm_in, alarm_after, operations_in}
+use Rattle.storage_map.specs.Contents.{Contents, nothing, apply}
 use Rattle.batch_journal.specs.Reading.{IsObjectOf, Holds, HasRead, StandsAt, IsRefusedFor, IsRefusalOf}
-use Rattle.batch_journal.specs.declared.op.Op.{Op}
+use Rattle.storage_map.specs.declared.op.Op.{Op}
 use Rattle.batch_journal.specs.declared.reading.Reading.{Reading}
 use Rattle.batch_journal.specs.declared.reading.Refusal.{Refusal}
 use Rattle.batch_journal.specs.declared.reading.Refusal.TheVariants.{Foreign as IsOther, Damaged, Mixed, NoMemory as Wanting}
-use Rattle.batch_journal.proofs.Frames.{value_after-append, alarm_after-append}
+use Rattle.storage_map.proofs.Folds.{apply-append}
 use Rattle.batch_journal.proofs.Journals.{frames_push, length-journal_push, journal_push}
 
 -- the operations with one frame more
@@ -49,24 +48,19 @@ object_with object (first ∷ frames) frame is named =
 
 -- one frame more
 pub held_more : (old new : Reading) (frames : List Frame) (frame : Frame) → Holds old frames → IsFrame frame → MatchOption old.identity ⊤ (λ named. named ≡ frame.object) → new.identity ≡ Some frame.object
-    → ((key : List ℕ) → value_in new.map key ≡ value_after key (value_in old.map key) (flat_map (λ ops. ops) frame.batches)) → alarm_in new.map ≡ alarm_after (alarm_in old.map) (flat_map (λ ops. ops) frame.batches)
+    → new.map ≡ apply old.map (flat_map (λ ops. ops) frame.batches)
     → new.end ≡ old.end + 37 + length (payload frame) → Holds new (frames ++ frame ∷ [])
-held_more old new frames frame held is same object values alarm place =
+held_more old new frames frame held is same object map place =
     let named = named_before old.identity frames frame.object held.object same in
     let more = flat_map (λ (ops : List Op). ops) frame.batches in
     record {
       of_grammar = frames_push frames frame held.of_grammar is named;
       object = object_with new.identity frames frame object named;
-      values = λ key.
-          values key
-          ∙ ap (λ (v : Option Value). value_after key v more) (held.values key)
-          ∙ sym (value_after-append key None (operations_in frames) more)
-          ∙ ap (λ (ops : List Op). value_after key None ops) (sym (operations_push frames frame));
-      alarm =
-          alarm
-          ∙ ap (λ (a : Option (ℤ × ℕ)). alarm_after a more) held.alarm
-          ∙ sym (alarm_after-append None (operations_in frames) more)
-          ∙ ap (λ (ops : List Op). alarm_after None ops) (sym (operations_push frames frame));
+      map =
+          map
+          ∙ ap (λ (m : Contents). apply m more) held.map
+          ∙ sym (apply-append nothing (operations_in frames) more)
+          ∙ ap (λ (ops : List Op). apply nothing ops) (sym (operations_push frames frame));
       place = omega (arith, place, held.place, length-journal_push frames frame);
     }
 

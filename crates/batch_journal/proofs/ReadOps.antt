@@ -9,16 +9,16 @@ use Rattle.do_value.specs.Encoding.{encoding, counted}
 use Rattle.do_value.specs.Reading.{Reads, ◌>>=◌, word_at}
 use Rattle.do_value.specs.declared.value.Value.{Value}
 use Rattle.do_value.proofs.Again.{word_again_8}
-use Rattle.batch_journal.specs.Alarms.{IsAlarm}
-use Rattle.batch_journal.specs.Limits.{IsKey, most_key_bytes, most_batch_bytes}
-use Rattle.batch_journal.specs.Ops.{op_bytes, batch_bytes, IsStored, IsOp, IsBatch}
+use Rattle.storage_map.specs.Alarms.{IsAlarm}
+use Rattle.storage_map.specs.Limits.{IsKey, most_key_bytes, most_batch_bytes}
+use Rattle.storage_map.specs.Ops.{op_bytes, batch_bytes, IsStored, IsOp, IsBatch}
 use Rattle.batch_journal.specs.Parsing.{value_of, short_at, stored_at, put_at, delete_at, retry_at, alarm_at, tagged_at, op_at, batch_of, batch_at, some_at}
-use Rattle.batch_journal.specs.declared.op.Op.{Op}
-use Rattle.batch_journal.specs.declared.op.Op.TheVariants.{Put, Delete, DeleteAll, SetAlarm, ClearAlarm}
+use Rattle.storage_map.specs.declared.op.Op.{Op}
+use Rattle.storage_map.specs.declared.op.Op.TheVariants.{Put, Delete, DeleteAll, SetAlarm, ClearAlarm}
 use Rattle.batch_journal.proofs.ReadParts.{IsBytes, bytes-rest, bind_some, some_is, unless, only_if, chosen, Takes, takes_then, takes_byte, takes_length, word_takes_8}
 use Rattle.batch_journal.proofs.ReadStored.{value_back, tree_forth, stored_takes, stored_again, short_takes, short_again}
 use Rattle.batch_journal.proofs.ReadMany.{some_takes, some_again}
-use Rattle.batch_journal.proofs.Sizes.{count-le_bytes, length-batch_bytes}
+use Rattle.storage_map.proofs.Sizes.{count-le_bytes, length-batch_bytes}
 
 -- ---- operations
 

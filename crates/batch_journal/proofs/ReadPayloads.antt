@@ -7,11 +7,11 @@ use Rattle.std.proofs.lemmas.List.{nil_from_length}
 use Rattle.std.proofs.lemmas.List.Elements.{All-from_recursion, recursion_from_All}
 use Rattle.do_value.specs.Encoding.{counted}
 use Rattle.do_value.specs.Reading.{Reads, ◌>>=◌}
-use Rattle.batch_journal.specs.Limits.{Object, IsObject, most_class_bytes, most_name_bytes}
-use Rattle.batch_journal.specs.Ops.{batch_bytes, IsBatch}
-use Rattle.batch_journal.specs.Frames.{Frame, object_bytes, payload, IsFrame}
+use Rattle.storage_map.specs.Limits.{Object, IsObject, most_class_bytes, most_name_bytes}
+use Rattle.storage_map.specs.Ops.{object_bytes, batch_bytes, IsBatch}
+use Rattle.batch_journal.specs.Frames.{Frame, payload, IsFrame}
 use Rattle.batch_journal.specs.Parsing.{short_at, object_at, some_at, batch_at, whole_of, payload_at}
-use Rattle.batch_journal.specs.declared.op.Op.{Op}
+use Rattle.storage_map.specs.declared.op.Op.{Op}
 use Rattle.batch_journal.proofs.ReadParts.{IsBytes, bind_some, some_is, only_if, Takes, takes_then}
 use Rattle.batch_journal.proofs.ReadMany.{some_takes, some_again}
 use Rattle.batch_journal.proofs.ReadStored.{short_takes, short_again}

@@ -13,8 +13,8 @@ use Rattle.do_value.specs.declared.value.Value.{Value}
 use Rattle.do_value.specs.declared.value.Value.TheVariants.{Undefined, Null, Bool as Boolean, Num, Text, List as Listed, Rec}
 use Rattle.do_value.proofs.Again.{text_again, tree_again}
 use Rattle.do_value.proofs.Encoded.{length-encoding}
-use Rattle.batch_journal.specs.Limits.{most_stored_bytes}
-use Rattle.batch_journal.specs.Ops.{IsStored}
+use Rattle.storage_map.specs.Limits.{most_stored_bytes}
+use Rattle.storage_map.specs.Ops.{IsStored}
 use Rattle.batch_journal.specs.Parsing.{Fails, list_of, pairs_list, value_of, is_undefined, short_of, short_at, within_of, within_at, stored_of, stored_at}
 use Rattle.batch_journal.specs.declared.read_parts.Unread.{Unread}
 use Rattle.batch_journal.specs.declared.read_parts.Unread.TheVariants.{Malformed, NoMemory}

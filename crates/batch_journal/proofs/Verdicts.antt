@@ -5,7 +5,7 @@ use Rattle.std.specs.Int.{w32, to_be_bytes}
 use Rattle.std.proofs.lemmas.List.{take_at, drop_at, get_or-take, get_or_append_left}
 use Rattle.std.proofs.lemmas.List.Elements.{All-head, All-tail}
 use Rattle.sha2.specs.Sha256.{sha256}
-use Rattle.batch_journal.specs.Limits.{Object}
+use Rattle.storage_map.specs.Limits.{Object}
 use Rattle.batch_journal.specs.Frames.{Frame, payload, frame_bytes, journal_bytes, open_gate, header_text, IsFrame, AreFrames, Name}
 use Rattle.batch_journal.specs.Recovery.{Recovers, IsUnfinished, Begun, Closed, Opening, IsJournal}
 use Rattle.batch_journal.specs.Refused.{BeginsOpen, IsForeign, OtherStart, OtherText, BeginWith, IsDamaged, IsMixed}

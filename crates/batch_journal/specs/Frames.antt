@@ -3,19 +3,14 @@ use Rattle.std.specs.Prelude.{◌≡◌, ◌≢◌, ℕ, ◌<◌, ◌^◌, List,
 use Rattle.std.specs.List.{All, flat_map}
 use Rattle.std.specs.Int.{w32, to_be_bytes}
 use Rattle.sha2.specs.Sha256.{sha256}
-use Rattle.do_value.specs.Encoding.{counted}
-use Rattle.batch_journal.specs.Limits.{Object, IsObject}
-use Rattle.batch_journal.specs.Ops.{batch_bytes, IsBatch}
-use Rattle.batch_journal.specs.declared.op.Op.{Op}
+use Rattle.storage_map.specs.Limits.{Object, IsObject}
+use Rattle.storage_map.specs.Ops.{object_bytes, batch_bytes, IsBatch}
+use Rattle.storage_map.specs.declared.op.Op.{Op}
 
 -- a frame: the class and the name of an object, and batches of it
 pub record Frame : Type 0 where
   pub object : Object
   pub batches : List (List Op)
-
--- the class and the name, each behind its length
-abbrev pub object_bytes : Object → List ℕ
-object_bytes object = counted object.0 ++ counted object.1
 
 -- what a frame says: the object, how many batches, and the batches
 abbrev pub payload : Frame → List ℕ
@@ -40,6 +35,10 @@ journal_bytes frames = open_gate ∷ header_text ++ flat_map (λ frame. open_gat
 -- all batches of the frames, in order
 abbrev pub batches_in : List Frame → List (List Op)
 batches_in frames = flat_map (λ frame. frame.batches) frames
+
+-- all operations of the frames, in order
+abbrev pub operations_in : List Frame → List Op
+operations_in frames = flat_map (λ ops. ops) (batches_in frames)
 
 -- a frame of the grammar: at least one batch, each of them a batch, and a payload whose length fits 4 bytes
 pub record IsFrame (frame : Frame) : Type 0 where

@@ -1,14 +1,10 @@
 -- What a caller may rely on without a count of its own, each proved by a function of `laws`.
 use Rattle.std.specs.Prelude.{◌<◌, ◌^◌, List, [], ◌∷◌, length}
-use Rattle.batch_journal.specs.Limits.{Object, IsObject}
-use Rattle.batch_journal.specs.Ops.{IsOp, IsBatch}
+use Rattle.storage_map.specs.Limits.{Object, IsObject}
+use Rattle.storage_map.specs.Ops.{IsBatch}
 use Rattle.batch_journal.specs.Frames.{payload}
 use Rattle.batch_journal.specs.Staged.{frame_of}
-use Rattle.batch_journal.specs.declared.op.Op.{Op}
-
--- an operation within its limits is a batch by itself
-abbrev pub OneOpIsBatch : Type 0
-OneOpIsBatch = (op : Op) → IsOp op → IsBatch (op ∷ [])
+use Rattle.storage_map.specs.declared.op.Op.{Op}
 
 -- a batch fits a frame by itself
 abbrev pub OneBatchFits : Type 0

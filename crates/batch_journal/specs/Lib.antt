@@ -1,7 +1,3 @@
-pub mod Limits
-pub mod Alarms
-pub mod Ops
-pub mod Stored
 pub mod Frames
 pub mod Parsing
 pub mod Payloads

@@ -1,11 +1,11 @@
 -- What a mounting hands out.
-use Rattle.std.specs.Prelude.{◌≡◌, ◌⊎◌, ◌≤◌, ℕ, List, [], Option, None, Result, Ok, Err}
+use Rattle.std.specs.Prelude.{◌≡◌, ◌⊎◌, ◌≤◌, ℕ, List, [], Option, Result, Ok, Err}
 use Rattle.do_disk.specs.Disk.{IfTold, HasRisen, next_count}
-use Rattle.batch_journal.specs.Frames.{Frame}
+use Rattle.batch_journal.specs.Frames.{Frame, operations_in}
 use Rattle.batch_journal.specs.Recovery.{Recovers, IsJournal, IsUnfinished}
 use Rattle.batch_journal.specs.Refused.{IsForeign, IsDamaged, IsMixed}
 use Rattle.batch_journal.specs.Rest.{disk_in, IsAtRest}
-use Rattle.batch_journal.specs.Stored.{value_in, value_after, alarm_in, alarm_after, operations_in}
+use Rattle.storage_map.specs.Contents.{nothing, apply}
 use Rattle.batch_journal.specs.Reading.{IsObjectOf, Holds, IsRefusedFor}
 use Rattle.batch_journal.specs.declared.reading.Reading.{Reading}
 use Rattle.batch_journal.specs.declared.reading.Opened.{Opened}
@@ -66,8 +66,7 @@ pub record IsMountOf {D : Type 0} (told : D → Option (List ℕ)) (image : D �
   pub recovers : IfTold (told disk) (λ c. Recovers c frames)
   pub at_rest : IsAtRest told image mounted.journal frames
   pub object : IsObjectOf mounted.identity frames
-  pub values : (key : List ℕ) → value_in mounted.map key ≡ value_after key None (operations_in frames)
-  pub alarm : alarm_in mounted.map ≡ alarm_after None (operations_in frames)
+  pub map : mounted.map ≡ apply nothing (operations_in frames)
   pub images : (c : List ℕ) → left_since (disk_in mounted.journal) (next_count (moment_of disk)) c → Recovers c frames
   -- a crash at any moment of the call leaves one of the images of its start, or a file that recovers to the same
   pub moments : (c : List ℕ) → left_since (disk_in mounted.journal) (moment_of disk) c → image disk c ⊎ Recovers c frames

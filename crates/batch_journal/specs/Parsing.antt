@@ -8,11 +8,11 @@ use Rattle.do_value.specs.declared.value.Value.{Value}
 use Rattle.do_value.specs.declared.value.Value.TheVariants.{Undefined, Null, Bool as Boolean, Num, Text, List as Listed, Rec}
 use Rattle.do_value.specs.declared.fault.BuildFault as build
 use Rattle.do_value.specs.declared.fault.BuildFault.TheVariants as built
-use Rattle.batch_journal.specs.Limits.{Object, most_key_bytes, most_name_bytes, most_class_bytes, most_stored_bytes, most_batch_bytes}
+use Rattle.storage_map.specs.Limits.{Object, most_key_bytes, most_name_bytes, most_class_bytes, most_stored_bytes, most_batch_bytes}
 use Rattle.batch_journal.specs.Frames.{Frame}
-use Rattle.batch_journal.specs.declared.limits.TheConstants.{MOST_TIME, MOST_RETRY}
-use Rattle.batch_journal.specs.declared.op.Op.{Op}
-use Rattle.batch_journal.specs.declared.op.Op.TheVariants.{Put, Delete, DeleteAll, SetAlarm, ClearAlarm}
+use Rattle.storage_map.specs.declared.limits.TheConstants.{MOST_TIME, MOST_RETRY}
+use Rattle.storage_map.specs.declared.op.Op.{Op}
+use Rattle.storage_map.specs.declared.op.Op.TheVariants.{Put, Delete, DeleteAll, SetAlarm, ClearAlarm}
 use Rattle.batch_journal.specs.declared.read_parts.Unread.{Unread}
 use Rattle.batch_journal.specs.declared.read_parts.Unread.TheVariants.{Malformed, NoMemory}
 

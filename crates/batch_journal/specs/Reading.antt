@@ -2,11 +2,11 @@
 use Rattle.std.specs.Prelude.{◌≡◌, ◌≢◌, ◌+◌, ◌≤◌, ℕ, List, [], ◌∷◌, ◌++◌, length, drop, Option, Some, None}
 use Rattle.sha2.specs.Sha256.{sha256}
 use Rattle.do_disk.specs.Disk.{IfTold}
-use Rattle.batch_journal.specs.Limits.{Object}
-use Rattle.batch_journal.specs.Frames.{Frame, payload, frame_bytes, journal_bytes, open_gate, header_text, IsFrame, AreFrames, Name}
+use Rattle.storage_map.specs.Limits.{Object}
+use Rattle.batch_journal.specs.Frames.{Frame, operations_in, payload, frame_bytes, journal_bytes, open_gate, header_text, IsFrame, AreFrames, Name}
 use Rattle.batch_journal.specs.Refused.{IsForeign, IsDamaged, IsMixed, BeginWith}
 use Rattle.batch_journal.specs.Payloads.{frame_read}
-use Rattle.batch_journal.specs.Stored.{value_in, value_after, alarm_in, alarm_after, operations_in}
+use Rattle.storage_map.specs.Contents.{nothing, apply}
 use Rattle.batch_journal.specs.declared.read_payload.Payload.{Payload}
 use Rattle.batch_journal.specs.declared.read_frame.Found.{Found}
 use Rattle.batch_journal.specs.declared.read_frame.Found.TheVariants.{Frame as OneFrame, NoFrame, NoMemory}
@@ -71,8 +71,7 @@ IsObjectOf object (frame ∷ frames) = (object ≡ Some frame.object) × Name fr
 pub record Holds (reading : Reading) (frames : List Frame) : Type 0 where
   pub of_grammar : AreFrames frames
   pub object : IsObjectOf reading.identity frames
-  pub values : (key : List ℕ) → value_in reading.map key ≡ value_after key None (operations_in frames)
-  pub alarm : alarm_in reading.map ≡ alarm_after None (operations_in frames)
+  pub map : reading.map ≡ apply nothing (operations_in frames)
   pub place : reading.end ≡ length (journal_bytes frames) + 1
 
 -- They were read from the front of this file, in which this gate stands behind them.

@@ -1,6 +1,6 @@
 -- Files that recover to nothing: foreign, damaged and mixed ones. Each is what a mounting names of it. This project's profile.
 use Rattle.std.specs.Prelude.{◌≡◌, ◌≢◌, ◌+◌, ◌<◌, ◌≤◌, ℕ, List, [], ◌∷◌, ◌++◌, length, take, slice_index}
-use Rattle.batch_journal.specs.Limits.{Object}
+use Rattle.storage_map.specs.Limits.{Object}
 use Rattle.batch_journal.specs.Frames.{Frame, frame_bytes, journal_bytes, open_gate, header_text, IsFrame, AreFrames, Name}
 use Rattle.batch_journal.specs.Recovery.{IsUnfinished}
 

@@ -1,11 +1,11 @@
 -- A journal at rest, what is staged for it, and what an append may do.
 use Rattle.std.specs.Prelude.{◌≡◌, ◌≢◌, ◌⊎◌, ◌+◌, ◌-◌, ◌^◌, ◌<◌, min, ℕ, List, [], ◌∷◌, ◌++◌, length, Option, Result, Err}
 use Rattle.do_disk.specs.Disk.{IfTold, Only}
-use Rattle.batch_journal.specs.Limits.{Object}
+use Rattle.storage_map.specs.Limits.{Object}
 use Rattle.batch_journal.specs.Frames.{Frame, payload, journal_bytes, AreFrames, Name}
 use Rattle.batch_journal.specs.Recovery.{Recovers, IsJournal}
 use Rattle.batch_journal.specs.Staged.{frame_of, IsPending}
-use Rattle.batch_journal.specs.declared.op.Op.{Op}
+use Rattle.storage_map.specs.declared.op.Op.{Op}
 use Rattle.batch_journal.specs.declared.journal.Journal.{Journal}
 use Rattle.batch_journal.specs.declared.journal.AppendFault.{AppendFault}
 use Rattle.batch_journal.specs.declared.journal.AppendFault.TheVariants.{Full}

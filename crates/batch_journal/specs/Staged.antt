@@ -1,10 +1,10 @@
 -- What is staged and not yet written.
 use Rattle.std.specs.Prelude.{◌≡◌, ◌≢◌, ◌+◌, ℕ, List, [], ◌++◌, length, replicate}
 use Rattle.std.specs.List.{flat_map}
-use Rattle.batch_journal.specs.Ops.{batch_bytes}
-use Rattle.batch_journal.specs.Limits.{Object}
-use Rattle.batch_journal.specs.Frames.{Frame, object_bytes, IsFrame}
-use Rattle.batch_journal.specs.declared.op.Op.{Op}
+use Rattle.storage_map.specs.Ops.{object_bytes, batch_bytes}
+use Rattle.storage_map.specs.Limits.{Object}
+use Rattle.batch_journal.specs.Frames.{Frame, IsFrame}
+use Rattle.storage_map.specs.declared.op.Op.{Op}
 use Rattle.batch_journal.specs.declared.pending.Pending.{Pending}
 
 abbrev pub frame_of : Object → List (List Op) → Frame

@@ -1,6 +1,6 @@
 -- What a file is found to be. This project's profile.
 use Rattle.std.specs.Prelude.{◌≡◌, ◌<◌, ℕ, List, slice_index}
-use Rattle.batch_journal.specs.Limits.{Object}
+use Rattle.storage_map.specs.Limits.{Object}
 use Rattle.batch_journal.specs.Frames.{Frame, IsFrame, payload}
 use Rattle.batch_journal.specs.Recovery.{Recovers}
 use Rattle.batch_journal.specs.Refused.{IsForeign, IsDamaged, IsMixed}

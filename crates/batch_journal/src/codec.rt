@@ -1,13 +1,10 @@
 //! The bytes of operations and batches.
 ghost use Rattle.std.specs.Prelude.{◌≡◌, ◌++◌, ◌<◌, ◌^◌, OnOk, OnErr, length};
 ghost use Rattle.do_value.specs.Encoding.{counted};
-ghost use Rattle.batch_journal.specs.Ops.{op_bytes, batch_bytes, IsBatch};
-ghost use Rattle.batch_journal.specs.Frames.{object_bytes};
+ghost use Rattle.storage_map.specs.Ops.{object_bytes, op_bytes, batch_bytes, IsBatch};
 
-use crate::batch::Batch;
-use crate::identity::Identity;
-use crate::op::Op;
 use do_value::{Mem, NoMemory};
+use storage_map::{Batch, Identity, Op};
 
 // These add bytes. After `NoMemory` some of them may stand there, but none where `add` gives it.
 

@@ -1,20 +1,19 @@
 //! A journal: frames behind gates, of which the last stands closed.
 ghost use Rattle.std.specs.Prelude.{◌≡◌, ◌≢◌, ◌⊎◌, ◌+◌, ◌-◌, ◌<◌, ◌≤◌, ◌^◌, ◌++◌, min, Err, [], ◌∷◌, List, ℕ, length, OnOk, OnErr, IsErrOf, ◌↔◌};
 ghost use Rattle.do_disk.specs.Disk.{Rose, next_count};
-ghost use Rattle.batch_journal.specs.declared.op.Op.{Op};
-ghost use Rattle.batch_journal.specs.Limits.{Object};
+ghost use Rattle.storage_map.specs.declared.op.Op.{Op};
+ghost use Rattle.storage_map.specs.Limits.{Object};
 ghost use Rattle.batch_journal.specs.Frames.{Frame, payload, Name};
 ghost use Rattle.batch_journal.specs.Recovery.{Recovers};
 ghost use Rattle.batch_journal.specs.Moments.{LeavesOnly};
 ghost use Rattle.batch_journal.specs.Staged.{frame_of};
 ghost use Rattle.batch_journal.specs.Rest.{disk_in, end_of, limit_of, IsAtRest, IsStaged, CanStage, CanAppend, RecoversToOneOf, IsFull};
 
-use crate::batch::Batch;
 use crate::durable::write_durably;
-use crate::identity::Identity;
 use crate::pending::Pending;
 use do_disk::{Disk, Failed};
 use do_value::Mem;
+use storage_map::{Batch, Identity};
 use thiserror::Error;
 
 /// The value of an open gate. A gate of any other value is closed.

@@ -1,20 +1,19 @@
 //! Mounting a disk.
 ghost use Rattle.std.specs.Prelude.{◌≡◌, ◌≤◌, length, [], List, ℕ, Some, IfOk, IfErr, OnOk};
 ghost use Rattle.do_disk.specs.Disk.{IfTold, Only, Rose, CountsFaults, next_count};
-ghost use Rattle.batch_journal.specs.Limits.{Object};
+ghost use Rattle.storage_map.specs.Limits.{Object};
 ghost use Rattle.batch_journal.specs.Moments.{LeavesOnly, OnlyReads};
 ghost use Rattle.batch_journal.specs.Rest.{limit_of, IsStaged};
 ghost use Rattle.batch_journal.specs.Reading.{IsHeader};
 ghost use Rattle.batch_journal.specs.Mounting.{disk_of, disk_left, IsMountOf, IsCause, IsRefusal, IsCounted, ImageOrHeader, IsOpened, IsRefused, HasRefused};
 
 use crate::header::{Header, finish_header, read_header};
-use crate::identity::Identity;
 use crate::journal::Journal;
-use crate::map::Map;
 use crate::pending::Pending;
 use crate::reading::{Opened, Reading, Refusal, read_frames};
 use do_disk::{Disk, Failed};
 use std::alloc::Global;
+use storage_map::{Identity, Map};
 
 /// A journal that is ready, the object that its frames name, where there are any, and what they leave of its storage.
 #[derive(Drop)]

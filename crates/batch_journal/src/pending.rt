@@ -1,17 +1,16 @@
 //! The frame that is staged and not yet written.
 ghost use Rattle.std.specs.Prelude.{◌≡◌, ◌++◌, ◌+◌, ◌<◌, ◌≤◌, ◌≢◌, ◌^◌, [], ◌∷◌, List, ℕ, length, take, drop, OnOk, OnErr};
 ghost use Rattle.do_disk.specs.Disk.{written};
-ghost use Rattle.batch_journal.specs.declared.op.Op.{Op};
-ghost use Rattle.batch_journal.specs.Limits.{Object};
+ghost use Rattle.storage_map.specs.declared.op.Op.{Op};
+ghost use Rattle.storage_map.specs.Limits.{Object};
 ghost use Rattle.batch_journal.specs.Frames.{Frame, frame_bytes, payload};
 ghost use Rattle.batch_journal.specs.Staged.{IsPending, IsUnsealed, IsSame, frame_of};
 
-use crate::batch::Batch;
 use crate::codec::{add, add_batch, add_object};
-use crate::identity::Identity;
 use do_value::Mem;
 use sha2::{Digest, Sha256};
 use std::alloc::Global;
+use storage_map::{Batch, Identity};
 
 // What stands before the payload, its length, and behind it, its digest and the next gate.
 const LENGTH_BYTES: usize = 4;

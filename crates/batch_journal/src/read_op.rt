@@ -3,16 +3,16 @@ ghost use Rattle.std.specs.Prelude.{◌≡◌, ◌<◌, ◌^◌, length};
 ghost use Rattle.do_value.specs.Limits.{most_bytes};
 ghost use Rattle.do_value.specs.Seen.{tree_of};
 ghost use Rattle.batch_journal.specs.Parsing.{Gives, short_at, within_at, stored_at, put_at, delete_at, retry_at, alarm_at, tagged_at, op_at, some_at, many_at, batch_at};
-ghost use Rattle.batch_journal.specs.Limits.{most_key_bytes};
+ghost use Rattle.storage_map.specs.Limits.{most_key_bytes};
 
-use crate::batch::Batch;
-use crate::key::{Key, KeyFault};
-use crate::limits::{MOST_BATCH_BYTES, MOST_KEY_BYTES, MOST_RETRY, MOST_STORED_BYTES, MOST_TIME};
-use crate::op::Op;
 use crate::read_parts::{Unread, read_short, read_u32, read_u64};
 use crate::read_value::read_value;
 use do_value::{MOST_LEVELS, Value};
 use std::alloc::Global;
+use storage_map::{
+    Batch, Key, KeyFault, MOST_BATCH_BYTES, MOST_KEY_BYTES, MOST_RETRY, MOST_STORED_BYTES,
+    MOST_TIME, Op,
+};
 
 // The batch, within its limits.
 #[tactic(auto, unfolding(crate::specs::Parsing::batch_at, crate::specs::Parsing::batch_of))]

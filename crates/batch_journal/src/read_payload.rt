@@ -4,13 +4,11 @@ ghost use Rattle.batch_journal.specs.Frames.{Frame, IsFrame, payload};
 ghost use Rattle.batch_journal.specs.Payloads.{frame_read};
 ghost use Rattle.batch_journal.specs.Parsing.{Gives, object_at, some_at, many_at, batch_at, payload_at};
 
-use crate::batch::Batch;
-use crate::identity::Identity;
-use crate::limits::MOST_NAME_BYTES;
 use crate::read_op::read_batch;
 use crate::read_parts::{Unread, read_short, read_u32};
 use do_value::{MOST_BYTES, Mem, NoMemory, Text};
 use std::alloc::Global;
+use storage_map::{Batch, Identity, MOST_NAME_BYTES};
 
 // The most bytes of a class: a text's, without the 5 bytes before it.
 const MOST_CLASS_BYTES: u64 = MOST_BYTES - 5;

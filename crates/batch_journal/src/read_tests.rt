@@ -1,9 +1,9 @@
 // The bytes come from the format's document.
-use crate::Op;
 use crate::read_payload::{Payload, read_payload};
 use do_value::Value;
 use std::alloc::Global;
 use std::test::Fail;
+use storage_map::Op;
 
 // One put of 5 under k, for the object a of class C.
 const ONE_PUT: [u8; 33] = [

@@ -3,22 +3,20 @@ ghost use Rattle.std.specs.Prelude.{◌≡◌, ◌≢◌, ◌+◌, ◌<◌, ◌�
 ghost use Rattle.std.specs.List.{flat_map};
 ghost use Rattle.do_disk.specs.Disk.{IfTold, CountsFaults};
 ghost use Rattle.batch_journal.specs.Frames.{Frame, open_gate, header_text, IsFrame};
-ghost use Rattle.batch_journal.specs.Stored.{value_in, value_after, alarm_in, alarm_after};
+ghost use Rattle.storage_map.specs.Contents.{apply};
 ghost use Rattle.batch_journal.specs.Moments.{OnlyReads};
 ghost use Rattle.batch_journal.specs.Payloads.{frame_read};
 ghost use Rattle.batch_journal.specs.Reading.{payload_of, HasRead, Holds, IsRefusedFor, IsRefusalOf};
 ghost use Rattle.batch_journal.specs.Mounting.{AreRead};
 
-use crate::batch::Batch;
 use crate::header::HEADER_END;
-use crate::identity::Identity;
 use crate::journal::OPEN_GATE;
-use crate::map::Map;
 use crate::read_frame::{Found, read_frame};
 use crate::read_payload::Payload;
 use do_disk::{Disk, Failed};
 use do_value::{Mem, NoMemory};
 use std::alloc::Global;
+use storage_map::{Batch, Identity, Map};
 
 // The frames so far: their object, what they leave of its storage, the byte of the gate behind them, and the place after it.
 #[derive(Drop)]
@@ -159,10 +157,7 @@ fn same_object(first: Option<Identity>, object: Identity) -> Result<Identity, (I
 
 // Does the batches from first to last. After `NoMemory` some of them are done.
 fn apply_all(map: &mut Map, batches: &[Batch]) -> Mem<()>
-    ensures values { OnOk result ((key : List ℕ) → value_in map.new key
-        ≡ value_after key (value_in map.old key) (flat_map (λ ops. ops) batches.now)) }
-    ensures alarm { OnOk result (alarm_in map.new
-        ≡ alarm_after (alarm_in map.old) (flat_map (λ ops. ops) batches.now)) }
+    ensures { OnOk result (map.new ≡ apply map.old (flat_map (λ ops. ops) batches.now)) }
 {
     for batch in batches {
         map.apply(batch)?;

@@ -1,18 +1,17 @@
 // The bytes come from the format's document, their digest from Python's hashlib.
 ghost use Rattle.std.specs.Prelude.{IfOk, []};
-ghost use Rattle.batch_journal.specs.Limits.{Object};
+ghost use Rattle.storage_map.specs.Limits.{Object};
 ghost use Rattle.batch_journal.specs.Rest.{IsStaged};
 ghost use Rattle.batch_journal.specs.Mounting.{IsMountOf};
-ghost use Rattle.batch_journal.specs.Ops.{IsOp};
+ghost use Rattle.storage_map.specs.Ops.{IsOp};
 
-use crate::{
-    AppendFault, Batch, Identity, Journal, Key, KeyFault, MountFault, Mounted, Op, ValueLong, laws,
-};
+use crate::{AppendFault, Journal, MountFault, Mounted, laws};
 use do_disk::{Disk, Fails, MemDisk, Pick};
 use do_value::{Num, Text, Value};
 use std::alloc::Global;
 use std::process::Abort;
 use std::test::Fail;
+use storage_map::{Batch, Identity, Key, KeyFault, Op, ValueLong};
 
 // How many bytes each journal may have.
 pub(crate) const LIMIT: u64 = 4096;
@@ -55,7 +54,7 @@ pub(crate) fn object(alloc: Global) -> Result<Identity, Fail> {
 fn one(alloc: Global, op: Op) -> Result<Batch, Fail>
     requires { IsOp op }
 {
-    laws::one_op_is_a_batch();
+    storage_map::laws::one_op_is_a_batch();
     Ok(Batch::new(vec![in alloc; op]?))
 }
 

@@ -1,5 +1,5 @@
 -- Counts of faults, carried on.
-use Rattle.std.proofs.Common.{◌≡◌, ◌≤◌, ◌<◌, ℕ, Result, Ok, Err, refl, sym, subst, ◌∙◌, arith, rules}
+use Rattle.std.proofs.Common.{◌≡◌, ◌≤◌, ℕ, Result, Ok, Err, subst, arith}
 use Rattle.do_disk.specs.Disk.{CountsFaults, Rose}
 use Rattle.do_host.specs.Given.{CountsReads}
 use Rattle.do_host.specs.declared.fault.LineFault.{LineFault}

@@ -1,18 +1,18 @@
 -- Lines given, one after the other.
-use Rattle.std.proofs.Common.{◌≡◌, ◌≤◌, ◌<◌, ◌+◌, ◌⊎◌, ⊎_elim, ℕ, suc, min, List, [], ◌∷◌, ◌++◌, length, Option, Some, None, refl, sym, ap, subst, ◌∙◌, arith, append_assoc, Bool, true, false, ◌&&◌, nat_le, filter}
+use Rattle.std.proofs.Common.{◌≡◌, ◌≤◌, ◌+◌, ◌⊎◌, ⊎_elim, ℕ, suc, min, List, [], ◌∷◌, ◌++◌, length, Option, Some, refl, sym, ap, ◌∙◌, arith, append_assoc, Bool, true, false, nat_le}
 use Rattle.std.proofs.lemmas.Grind.{common_steps}
 use Rattle.std.proofs.lemmas.List.{append-nil}
 use Rattle.std.proofs.lemmas.List.Elements.{filter-append}
 use Rattle.std.proofs.lemmas.List.Folds.{list_all-append}
 use Rattle.std.specs.List.{list_all}
-use Rattle.do_host.specs.Cut.{lines, is_blank}
-use Rattle.do_host.specs.Reader.{StartsWith, Moved}
+use Rattle.do_host.specs.Cut.{lines}
+use Rattle.do_host.specs.Reader.{Moved}
 use Rattle.do_host.specs.Taken.{IsLine}
 use Rattle.do_host.specs.Going.{HasGiven, GoesOn}
 use Rattle.do_host.specs.Requests.{SeenLine, seen_at, numbered, requests, requests_after, through}
 
 -- the line's number is at most n
-abbrev is_within : ℕ → SeenLine → Bool
+abbrev pub is_within : ℕ → SeenLine → Bool
 is_within n line = nat_le line.number n
 
 -- lines within n are within any greater number
@@ -126,7 +126,7 @@ has_given_now whole given count held left going = record {
 -- ---- all lines
 
 -- all of them stay
-kept_through : (n : ℕ) (given : List SeenLine) → list_all (is_within n) given ≡ true → through n given ≡ given
+pub kept_through : (n : ℕ) (given : List SeenLine) → list_all (is_within n) given ≡ true → through n given ≡ given
 kept_through n [] all = refl
 kept_through n (line ∷ given) all =
     let parts : (nat_le line.number n ≡ true) × (list_all (is_within n) given ≡ true) = grind (arith, common_steps) in
@@ -137,7 +137,7 @@ none_seen : (n m : ℕ) (line : List ℕ) → n ≤ m → through n (seen_at (m 
 none_seen n m line le = let no_more : nat_le (m + 1) n ≡ false = grind (arith, common_steps) in grind (arith, common_steps)
 
 -- lines from number n + 1 on are past n
-none_through : (n m : ℕ) (ls : List (List ℕ)) → n ≤ m → through n (numbered m ls) ≡ []
+pub none_through : (n m : ℕ) (ls : List (List ℕ)) → n ≤ m → through n (numbered m ls) ≡ []
 none_through n m [] le = refl
 none_through n m (line ∷ ls) le = filter-append _ (seen_at (m + 1) line) (numbered (m + 1) ls) ∙ rw (none_seen n m line le) (none_through n (m + 1) ls (omega arith))
 

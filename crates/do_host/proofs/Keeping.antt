@@ -1,9 +1,8 @@
 -- What is kept of a line.
-use Rattle.std.proofs.Common.{◌≡◌, ◌≤◌, ◌<◌, ◌+◌, ℕ, zero, suc, List, [], ◌∷◌, ◌++◌, length, take, refl, sym, ap, ◌∙◌, arith, length-append, Bool, ◌&&◌}
+use Rattle.std.proofs.Common.{◌≡◌, ◌≤◌, ◌+◌, ℕ, zero, suc, List, [], ◌∷◌, ◌++◌, length, take, refl, ap, ◌∙◌, arith, length-append, Bool, ◌&&◌}
 use Rattle.std.proofs.lemmas.Grind.{common_steps}
-use Rattle.std.proofs.lemmas.List.{take-append-le}
 use Rattle.std.proofs.lemmas.List.Folds.{list_all-append}
-use Rattle.do_host.specs.Cut.{is_blank, is_blank_byte}
+use Rattle.do_host.specs.Cut.{is_blank_byte}
 use Rattle.do_host.specs.Raw.{IsRaw}
 use Rattle.do_host.specs.declared.TheConstants.{MOST_LINE_BYTES}
 use Rattle.do_host.specs.declared.raw_line.RawLine.{RawLine}

@@ -4,6 +4,8 @@ pub mod Taking
 pub mod Counts
 pub mod Keeping
 pub mod Given
+pub mod Looking
+pub mod Outcomes
 pub mod Values
 pub mod Putting
 pub mod Printing

@@ -1,5 +1,5 @@
 -- The JSON of a value has no float.
-use Rattle.std.proofs.Common.{◌≡◌, ℤ, pos, negsuc, refl, ◌∙◌, false, ◌||◌}
+use Rattle.std.proofs.Common.{◌≡◌, ℤ, pos, negsuc, refl, false}
 use Rattle.serde_json.specs.Find.{of_integer, is_float}
 use Rattle.serde_json.specs.Written.{has_float, items_have_float, members_have_float}
 use Rattle.do_value.specs.Tree.{Tree, undefined, null, boolean, number, text, list, rec, Trees, no_trees, tree, Pairs, no_pairs, pair}

@@ -1,19 +1,24 @@
 -- Reading on, from a state that was reached by reading.
-use Rattle.std.proofs.Common.{◌≡◌, ◌≤◌, ◌<◌, ◌+◌, ◌⊎◌, inl, inr, ℕ, List, [], ◌∷◌, ◌++◌, Option, Some, None, Result, Ok, Err, refl, sym, ap, subst, ◌∙◌, arith, Bool, true, false}
+use Rattle.std.proofs.Common.{◌≡◌, ◌≤◌, ◌+◌, inl, inr, ℕ, List, [], ◌∷◌, ◌++◌, length, Option, Some, None, Result, Ok, Err, refl, subst, ◌∙◌, arith, true, false}
 use Rattle.std.proofs.lemmas.List.{append-nil}
 use Rattle.do_host.specs.Cut.{is_blank}
 use Rattle.do_host.specs.Given.{Gives, IsAtEnd}
-use Rattle.do_host.specs.Going.{HasGiven, GoesOn}
 use Rattle.do_host.specs.Requests.{SeenLine, seen_at, body_of}
 use Rattle.do_host.specs.Bodies.{body_seen}
 use Rattle.do_host.specs.Seen.{seen}
 use Rattle.do_host.specs.Taken.{TakesLine}
-use Rattle.do_host.specs.Lines.{IsReading, IsFirstOf, ReadsOn}
+use Rattle.do_host.specs.Lines.{most_left, IsReading, LooksAt, ReadsOn}
 use Rattle.do_host.specs.declared.fault.LineFault.{LineFault}
+use Rattle.do_host.specs.declared.fault.LineFault.TheVariants.{NoMemory}
 use Rattle.do_host.specs.declared.line.Line.{Line}
 use Rattle.do_host.specs.declared.lines.Lines.{Lines}
 use Rattle.do_host.specs.declared.TheConstants.{MOST_LINES}
 use Rattle.do_host.proofs.Given.{goes_on, goes_on_still, has_given, has_given_now, all_at_end, all_at_most, count_at_end, count_at_most}
+use Rattle.do_host.proofs.Looking.{looked_on, looked_now, looked_fewer, seen_one}
+
+-- the answer of a fault
+abbrev fails : LineFault → Result (Option Line) LineFault
+fails fault = Err fault
 
 -- what is seen of a line that isn't blank
 seen_line : (line : List ℕ) (answer : Line) (n : ℕ) → is_blank line ≡ false → answer.number ≡ n → body_seen answer.body ≡ body_of line → seen_at n line ≡ seen answer ∷ []
@@ -47,6 +52,7 @@ module _ {S : Type 0} (left : S → Option (List ℕ)) where
       record {
         reading = on;
         first = λ whole given reading. has_given_now whole (given ++ seen answer ∷ []) new.count new.bytes.buffer _ (on whole given reading).1;
+        looked = λ whole given reading. looked_now whole (given ++ seen answer ∷ []) new.count new.bytes.buffer _ (on whole given reading).1;
         all = λ is. cc;
         total = λ is. cc;
         end = λ is. cc;
@@ -62,6 +68,7 @@ module _ {S : Type 0} (left : S → Option (List ℕ)) where
       record {
         reading = λ whole given reading. rw append-nil (on whole given reading);
         first = λ whole given reading. rw append-nil (has_given_now whole given new.count new.bytes.buffer _ (on whole given reading).1);
+        looked = λ whole given reading. rw append-nil (looked_now whole given new.count new.bytes.buffer _ (on whole given reading).1);
         all = λ is whole given reading. all_at_end whole given new.count MOST_LINES new.bytes.buffer _ (on whole given reading).1 ends.1.0 ends.1.1 most;
         total = λ is whole given reading. count_at_end whole given new.count MOST_LINES new.bytes.buffer _ (on whole given reading).1 ends.1.0 ends.1.1 most;
         end = λ is. inr ends.1.1;
@@ -73,19 +80,43 @@ module _ {S : Type 0} (left : S → Option (List ℕ)) where
   reads_most old now stays most counted = record {
     reading = λ whole given reading. rw append-nil (stays whole given reading);
     first = λ whole given reading. rw append-nil (has_given_now whole given now.count now.bytes.buffer _ (stays whole given reading).1);
+    looked = λ whole given reading. rw append-nil (looked_now whole given now.count now.bytes.buffer _ (stays whole given reading).1);
     all = λ is whole given reading. all_at_most whole given MOST_LINES now.bytes.buffer _ (rw most at (stays whole given reading).1);
     total = λ is whole given reading. most ∙ count_at_most whole given MOST_LINES now.bytes.buffer _ (rw most at (stays whole given reading).1);
     end = λ is. inl most;
     count = counted;
   }
 
-  -- a fault comes, after some bytes
-  pub reads_fault : (old now new : Lines S) (fault : LineFault) (bytes : List ℕ) → Stays old now → Gives left now.bytes new.bytes bytes → old.count ≤ new.count → ReadsOn left old new (Err fault)
-  reads_fault old now new fault bytes stays gives counted = record {
+  -- lines that were looked at, behind an answer of a fault
+  looked_at_fault : (whole : List ℕ) (given back : List SeenLine) (most more : ℕ) (new : Lines S) → length back + most ≤ more → LooksAt left whole (given ++ back) most new → LooksAt left whole (given ++ []) more new
+  looked_at_fault whole given back most more new few looked = rw append-nil (looked_fewer whole given back most more new.count (left new.bytes.source) few looked)
+
+  -- a fault comes in the middle of a line
+  pub reads_fault : (old now new : Lines S) (fault : LineFault) (bytes : List ℕ) → Stays old now → Gives left now.bytes new.bytes bytes → new.count ≡ now.count → old.count ≤ now.count → ReadsOn left old new (Err fault)
+  reads_fault old now new fault bytes stays gives same counted = record {
     reading = tt;
     first = λ whole given reading. rw append-nil (has_given whole given now.count now.bytes.buffer bytes new.bytes.buffer _ _ (stays whole given reading).1 gives);
+    looked = λ whole given reading.
+        looked_at_fault whole given [] 0 (most_left (fails fault)) new (omega arith)
+        (rw (append-nil, same) (looked_on whole given now.count now.bytes.buffer bytes new.bytes.buffer _ _ (stays whole given reading).1 gives));
     all = λ is. cc;
     total = λ is. cc;
     end = λ is. cc;
-    count = counted;
+    count = omega arith;
+  }
+
+  -- memory is wanting for a line that was taken
+  pub reads_refused : (old now new : Lines S) (line : List ℕ) (fault : LineFault) → Stays old now → TakesLine left now.bytes new.bytes line → new.count ≡ now.count + 1 → new.fault ≡ None → fault ≡ NoMemory → old.count ≤ now.count
+      → ReadsOn left old new (Err fault)
+  reads_refused old now new line fault stays takes count good wanting counted = record {
+    reading = tt;
+    first = λ whole given reading. rw append-nil (has_given whole given now.count now.bytes.buffer takes.bytes new.bytes.buffer _ _ (stays whole given reading).1 takes.gives);
+    looked = λ whole given reading.
+        let on : IsReading left whole (given ++ seen_at (now.count + 1) line) new = taken_on now new line whole given (stays whole given reading) takes count good in
+        looked_at_fault whole given (seen_at (now.count + 1) line) 0 (most_left (fails fault)) new (rw wanting (omega (arith, seen_one (now.count + 1) line)))
+        (looked_now whole (given ++ seen_at (now.count + 1) line) new.count new.bytes.buffer _ on.1);
+    all = λ is. cc;
+    total = λ is. cc;
+    end = λ is. cc;
+    count = omega arith;
   }

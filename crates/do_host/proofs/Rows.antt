@@ -1,47 +1,25 @@
 -- The row of a slot at the end of a run.
-use Rattle.std.proofs.Common.{◌≡◌, ◌≤◌, ◌<◌, ◌⊎◌, ⊎_elim, inl, inr, ℕ, List, [], ◌∷◌, ◌++◌, map, length, Option, Some, None, Result, Ok, Err, OnOk, OnErr, refl, sym, ap, subst, ◌∙◌, arith}
+use Rattle.std.proofs.Common.{◌≡◌, ⊎_elim, inl, inr, ℕ, List, [], ◌∷◌, Option, Some, None, Result, Ok, Err, OnOk, OnErr, refl, sym, subst, ◌∙◌, arith}
+use Rattle.std.specs.Prelude.{IsSome}
 use Rattle.std.specs.List.{All}
 use Rattle.std.proofs.lemmas.List.{append-nil}
 use Rattle.std.proofs.lemmas.List.Elements.{All-cons, All-nil}
 use Rattle.do_disk.specs.Disk.{Rose}
 use Rattle.batch_journal.specs.Frames.{Frame}
-use Rattle.object_core.specs.Serving.{IsServing, IsHistoryOf, object_of, disk_of, front_of, back_of}
+use Rattle.object_core.specs.Serving.{IsServing, IsHistoryOf, object_of, disk_of, front_of}
 use Rattle.object_core.specs.declared.object.Core.{Core}
-use Rattle.do_host.specs.Switch.{of_slot, posts_of, lines_of, text_of, events_in, messages_of}
+use Rattle.do_host.specs.Switch.{of_slot, text_of, events_in}
 use Rattle.do_host.specs.Served.{Stands, IsLogged, IsBlank, HasWritten, WritesFirstOf}
-use Rattle.do_host.specs.Report.{object_in, IsSlotHistory, IsQuiet, IsDiskOf, HasFailedStore}
+use Rattle.do_host.specs.Report.{object_in, IsSlotHistory, IsQuiet, HasDisk, HasFailedStore}
 use Rattle.do_host.specs.Opened.{IsFresh, IsOpened, HasFailedDisk, row_of}
-use Rattle.do_host.specs.Status.{status_in, status_of}
 use Rattle.do_host.specs.Going.{HasGiven}
 use Rattle.do_host.specs.Requests.{SeenLine}
 use Rattle.do_host.specs.declared.report.Report.{Report}
-use Rattle.do_host.specs.declared.report.SlotReport.{SlotReport}
 use Rattle.do_host.specs.declared.stop.Stop.{Stop}
-use Rattle.do_host.specs.declared.stop.Stop.TheVariants.{DiskFailed, NoMemory, ReadFailed, WriteFailed, BadSlot, NotBuilt}
 use Rattle.do_host.specs.declared.switch_log.SwitchLog.{SwitchLog}
 use Rattle.do_host.specs.declared.out_line.OutLine.{OutLine}
 use Rattle.do_host.proofs.Standing.{logged_at}
 use Rattle.do_host.proofs.Written.{written_all}
-
--- status 0 is a good end
-pub good_end : (result : Result (Unit {0}) Stop) (P : Type 0) → status_in result ≡ 0 → OnOk result P → P
-good_end (Ok done) P zero p = p
-good_end (Err DiskFailed) P zero p = cc
-good_end (Err NoMemory) P zero p = cc
-good_end (Err ReadFailed) P zero p = cc
-good_end (Err WriteFailed) P zero p = cc
-good_end (Err BadSlot) P zero p = cc
-good_end (Err NotBuilt) P zero p = cc
-
--- status 3 is a disk's fault
-pub disk_end : (result : Result (Unit {0}) Stop) → status_in result ≡ 3 → result ≡ Err DiskFailed
-disk_end (Ok done) three = cc
-disk_end (Err DiskFailed) three = refl
-disk_end (Err NoMemory) three = cc
-disk_end (Err ReadFailed) three = cc
-disk_end (Err WriteFailed) three = cc
-disk_end (Err BadSlot) three = cc
-disk_end (Err NotBuilt) three = cc
 
 -- a count that rose from some number rose from 0
 rose_from_none : (before now : ℕ) → Rose before now → Rose 0 now
@@ -85,35 +63,34 @@ module _ {D : Type 0} where
         served = ended.slot;
       }
 
-  -- after a good end nothing is under way
-  quiet_row : (moment_of : D → ℕ) (left_since : D → ℕ → List ℕ → Type 0) (told : D → Option (List ℕ)) (image : D → List ℕ → Type 0) (content : Option (List ℕ)) (core next : Core D) (log more : SwitchLog)
-      (opened : IsOpened moment_of left_since told image content core) → Stands (object_in opened.start) next more [] [] → IsServing moment_of left_since told image 0 opened.start next
-      → IsQuiet content more (row_of next)
-  quiet_row moment_of left_since told image content core next log more opened stands serving = record {
-    start = opened.start;
-    recovered = opened.recovered;
-    posted = stands.posts;
-    delivered = sym (stands.delivered ∙ append-nil (events_in (front_of next)));
-    taken = serving.history.taken;
-    durable = serving.flown;
-    released = serving.released;
-    routed = sym (stands.routed ∙ append-nil (of_slot 0 more.routed.items));
-    lined = stands.lines;
-  }
-
+  -- where the slot stands between two lines nothing is under way
   pub row_quiet : (moment_of : D → ℕ) (left_since : D → ℕ → List ℕ → Type 0) (told : D → Option (List ℕ)) (image : D → List ℕ → Type 0) (content : Option (List ℕ)) (core next : Core D) (log more : SwitchLog)
-      (result : Result (Unit {0}) Stop) (opened : IsOpened moment_of left_since told image content core) → IsFresh core → IsBlank log → status_in result ≡ 0
-      → OnOk result ((f : Option (List ℕ × List ℕ)) → Stands f core log [] [] → Stands f next more [] [])
-      → OnOk result ((since : ℕ) (start : List Frame) → IsServing moment_of left_since told image since start core → IsServing moment_of left_since told image since start next)
+      (opened : IsOpened moment_of left_since told image content core) → IsFresh core → IsBlank log
+      → ((f : Option (List ℕ × List ℕ)) → Stands f core log [] [] → Stands f next more [] [])
+      → ((since : ℕ) (start : List Frame) → IsServing moment_of left_since told image since start core → IsServing moment_of left_since told image since start next)
       → IsQuiet content more (row_of next)
-  row_quiet moment_of left_since told image content core next log more result opened fresh blank zero good serves =
-      quiet_row moment_of left_since told image content core next log more opened
-      (good_end result _ zero good (object_in opened.start) (stands_first (object_in opened.start) core log opened.object fresh blank))
-      (good_end result _ zero serves 0 opened.start opened.serving)
+  row_quiet moment_of left_since told image content core next log more opened fresh blank stands_on serves =
+      let stands : Stands (object_in opened.start) next more [] [] = stands_on (object_in opened.start) (stands_first (object_in opened.start) core log opened.object fresh blank) in
+      let serving : IsServing moment_of left_since told image 0 opened.start next = serves 0 opened.start opened.serving in
+      record {
+        start = opened.start;
+        recovered = opened.recovered;
+        posted = stands.posts;
+        delivered = sym (stands.delivered ∙ append-nil (events_in (front_of next)));
+        taken = serving.history.taken;
+        durable = serving.flown;
+        released = serving.released;
+        routed = sym (stands.routed ∙ append-nil (of_slot 0 more.routed.items));
+        lined = stands.lines;
+      }
 
   -- the disk of the row failed
   pub row_failed : (faults_of : D → ℕ) (report : Report D) (core next : Core D) → report.slots.items ≡ row_of next ∷ [] → Rose (faults_of (disk_of core)) (faults_of (disk_of next)) → HasFailedStore faults_of report
   row_failed faults_of report core next one rose = (disk_of next, inr (row_of next, one, refl), rose_from_none (faults_of (disk_of core)) (faults_of (disk_of next)) rose)
+
+-- without a row the disk that was handed out is the one that isn't mounted
+pub disk_unopened : {S : Type 0} (report : Report S) → report.slots.items ≡ [] → HasDisk report → IsSome report.unopened
+disk_unopened report none has = ⊎_elim (λ is. rw is refl) (λ row. absurd (let one : [] ≡ row.0 ∷ [] = sym none ∙ row.1 in cc)) has.1
 
 -- the first bytes of the lines were written, at any end
 pub ends_written : (result : Result (Unit {0}) Stop) (before after : Option (List ℕ)) (lines : List OutLine) → OnOk result (HasWritten before after lines)
@@ -129,15 +106,6 @@ given_none whole given left none told = record {
   beyond = [];
   first = rw none refl;
 }
-
--- status 3 of an opening is a disk's fault
-pub opening_failed : (stop : Stop) → status_of stop ≡ 3 → stop ≡ DiskFailed
-opening_failed DiskFailed three = refl
-opening_failed NoMemory three = cc
-opening_failed ReadFailed three = cc
-opening_failed WriteFailed three = cc
-opening_failed BadSlot three = cc
-opening_failed NotBuilt three = cc
 
 -- the disk that isn't mounted is one of the report
 pub unopened_failed : {S : Type 0} (faults_of : S → ℕ) (report : Report S) (unopened : Option S) → report.unopened ≡ unopened → HasFailedDisk faults_of unopened → HasFailedStore faults_of report

@@ -1,5 +1,5 @@
 -- How the slot stands after each step of a line.
-use Rattle.std.proofs.Common.{◌≡◌, ◌≢◌, ℕ, List, [], ◌∷◌, ◌++◌, map, Option, Some, None, Result, Ok, Err, OnOk, OnErr, ◌⊎◌, ⊎_elim, refl, sym, ap, ◌∙◌, append_assoc}
+use Rattle.std.proofs.Common.{◌≡◌, ◌≢◌, ℕ, List, [], ◌∷◌, ◌++◌, map, Option, None, Result, Err, ◌⊎◌, ⊎_elim, refl, sym, ap, ◌∙◌, append_assoc}
 use Rattle.std.proofs.lemmas.List.{append-nil, map-append}
 use Rattle.std.proofs.lemmas.Grind.{flat_map-append}
 use Rattle.object_core.specs.Serving.{object_of, front_of, back_of, Releases, SameLogs}
@@ -17,20 +17,6 @@ use Rattle.do_host.proofs.Switching.{of_slot_append, of_slot_more, object_on, po
 -- the answer of a refused call
 abbrev refused : CallEnd → Result Message CallEnd
 refused end = Err end
-
--- a fact that holds after a good answer, or after a fault, from another one
-pub on_ok_map : {T E : Type 0} (result : Result T E) (P Q : Type 0) → (P → Q) → OnOk result P → OnOk result Q
-on_ok_map (Ok x) P Q f p = f p
-on_ok_map (Err e) P Q f p = tt
-
-pub on_err_map : {T E : Type 0} (result : Result T E) (P Q : Type 0) → (P → Q) → OnErr result P → OnErr result Q
-on_err_map (Ok x) P Q f p = tt
-on_err_map (Err e) P Q f p = f p
-
--- a fact that holds after any good answer
-pub on_ok : {T E : Type 0} (result : Result T E) (P : Type 0) → P → OnOk result P
-on_ok (Ok x) P p = p
-on_ok (Err e) P p = tt
 
 -- one event more was delivered
 pub delivered_on : {D : Type 0} (core next : Core D) (event : Event) → (front_of next).delivered.items ≡ (front_of core).delivered.items ++ (1, event) ∷ []

@@ -1,9 +1,8 @@
 -- A line that is being read.
-use Rattle.std.proofs.Common.{◌≡◌, ◌≤◌, ◌<◌, ◌+◌, ℕ, List, [], ◌∷◌, ◌++◌, length, take, drop, Option, Some, None, refl, sym, ap, ◌∙◌, inl, inr, arith, append_assoc, Bool, true, false, ◌&&◌, ◌==◌}
-use Rattle.std.proofs.lemmas.Grind.{common_steps}
+use Rattle.std.proofs.Common.{◌≡◌, ◌<◌, ℕ, List, [], ◌∷◌, ◌++◌, length, Option, Some, refl, sym, ap, ◌∙◌, inl, inr, arith, append_assoc, true, false, ◌==◌}
 use Rattle.std.proofs.lemmas.List.{append-nil}
 use Rattle.std.proofs.lemmas.List.Folds.{list_all-append}
-use Rattle.do_host.specs.Reader.{Moved, StartsWith}
+use Rattle.do_host.specs.Reader.{Moved}
 use Rattle.do_host.specs.Given.{Gives, IsAtEnd}
 use Rattle.do_host.specs.Raw.{IsRaw}
 use Rattle.do_host.specs.Cut.{lines, line_end}

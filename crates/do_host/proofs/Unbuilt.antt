@@ -1,5 +1,5 @@
 -- What a run that ends with status 8 met.
-use Rattle.std.proofs.Common.{◌≡◌, ◌≢◌, ◌⊎◌, ⊎_elim, inl, inr, ℕ, List, [], ◌∷◌, ◌++◌, map, Option, Result, Ok, Err, OnOk, refl, sym, ap, subst, ◌∙◌, arith}
+use Rattle.std.proofs.Common.{◌≡◌, ◌≢◌, ◌⊎◌, ⊎_elim, inl, inr, ℕ, List, [], ◌∷◌, ◌++◌, map, Option, Result, Err, refl, sym, ap, subst, ◌∙◌, arith}
 use Rattle.do_disk.specs.Disk.{IfTold}
 use Rattle.batch_journal.specs.Frames.{Frame, batches_in}
 use Rattle.batch_journal.proofs.Journals.{length-journal_push}
@@ -19,33 +19,15 @@ use Rattle.do_host.specs.NotBuilt.{MeetsLimit, IsNotBuilt, AreFirstLines, IsForm
 use Rattle.do_host.specs.Opened.{IsFresh, IsOpened, row_of}
 use Rattle.do_host.specs.Report.{object_in}
 use Rattle.do_host.specs.Seen.{seen}
-use Rattle.do_host.specs.Served.{Stands, IsBlank}
-use Rattle.do_host.specs.Status.{call_stop, status_in}
+use Rattle.do_host.specs.Served.{Stands, IsBlank, StopsAt}
+use Rattle.do_host.specs.Status.{call_stop}
 use Rattle.do_host.specs.Switch.{object_after, object_through}
 use Rattle.do_host.specs.declared.line.Line.{Line}
 use Rattle.do_host.specs.declared.lines.Lines.{Lines}
 use Rattle.do_host.specs.declared.switch_log.SwitchLog.{SwitchLog}
-use Rattle.do_host.proofs.Rows.{good_end, stands_first}
+use Rattle.do_host.proofs.Rows.{stands_first}
 use Rattle.do_host.specs.declared.stop.Stop.{Stop}
-use Rattle.do_host.specs.declared.stop.Stop.TheVariants.{DiskFailed, NoMemory, ReadFailed, WriteFailed, BadSlot, NotBuilt}
-
--- a run of lines that ends so
-abbrev ended : Stop → Result (Unit {0}) Stop
-ended stop = Err stop
-
--- the same end
-pub end_is : (stop other : Stop) → ended stop ≡ ended other → stop ≡ other
-end_is stop other e = cc
-
--- status 8 is what isn't built
-pub unbuilt_end : (result : Result (Unit {0}) Stop) → status_in result ≡ 8 → result ≡ Err NotBuilt
-unbuilt_end (Ok done) eight = cc
-unbuilt_end (Err DiskFailed) eight = cc
-unbuilt_end (Err NoMemory) eight = cc
-unbuilt_end (Err ReadFailed) eight = cc
-unbuilt_end (Err WriteFailed) eight = cc
-unbuilt_end (Err BadSlot) eight = cc
-unbuilt_end (Err NotBuilt) eight = refl
+use Rattle.do_host.specs.declared.stop.Stop.TheVariants.{NotBuilt}
 
 -- the answer of a refused call
 abbrev refused : CallEnd → Result Message CallEnd
@@ -122,12 +104,18 @@ formed_on core log more line first stands accepted are is =
 pub formed_none : (first : Option (List ℕ × List ℕ)) (lines : List Line) → lines ≡ [] → AreFirstLines first lines
 formed_none first lines none = subst (AreFirstLines first) (sym none) tt
 
--- after a good end each accepted line is of the first form
+-- each accepted line is of the first form
 pub row_formed : {D : Type 0} (moment_of : D → ℕ) (left_since : D → ℕ → List ℕ → Type 0) (told_by : D → Option (List ℕ)) (image : D → List ℕ → Type 0) (content : Option (List ℕ)) (core : Core D) (log more : SwitchLog)
-    (result : Result (Unit {0}) Stop) → IsOpened moment_of left_since told_by image content core → IsFresh core → IsBlank log → status_in result ≡ 0
-    → OnOk result ((first : Option (List ℕ × List ℕ)) → Stands first core log [] [] → AreFirstLines first more.accepted.items) → IsFormed content more
-row_formed moment_of left_since told_by image content core log more result opened fresh blank zero formed = record {
+    → IsOpened moment_of left_since told_by image content core → IsFresh core → IsBlank log
+    → ((first : Option (List ℕ × List ℕ)) → Stands first core log [] [] → AreFirstLines first more.accepted.items) → IsFormed content more
+row_formed moment_of left_since told_by image content core log more opened fresh blank formed = record {
   start = opened.start;
   recovered = opened.recovered;
-  formed = good_end result _ zero formed (object_in opened.start) (stands_first (object_in opened.start) core log opened.object fresh blank);
+  formed = formed (object_in opened.start) (stands_first (object_in opened.start) core log opened.object fresh blank);
 }
+
+-- the line at which a run stops was accepted as one of the first form, or it wasn't
+pub formed_at_stop : {D : Type 0} (core : Core D) (log more : SwitchLog) (line : Line) (stop : Stop) (first : Option (List ℕ × List ℕ)) → Stands first core log [] [] → StopsAt (object_of core) line log more stop
+    → AreFirstLines first log.accepted.items → AreFirstLines first more.accepted.items
+formed_at_stop core log more line stop first stands stops are =
+    ⊎_elim (λ same. subst (AreFirstLines first) (sym same.0) are) (λ one. formed_on core log more line first stands one.0 are one.1) stops

@@ -1,5 +1,5 @@
 -- Text that a sink took, a line more.
-use Rattle.std.proofs.Common.{◌≡◌, ◌≤◌, ◌+◌, ℕ, List, [], ◌∷◌, ◌++◌, length, take, Option, Some, None, option_map, Result, Ok, Err, OnErr, refl, sym, ap, subst, ◌∙◌, arith, append_assoc}
+use Rattle.std.proofs.Common.{◌≡◌, ◌≤◌, ◌+◌, ℕ, List, [], ◌∷◌, ◌++◌, length, take, Option, Some, None, option_map, sym, ap, subst, ◌∙◌, arith, append_assoc}
 use Rattle.std.proofs.lemmas.List.{append-nil, length-append}
 use Rattle.std.proofs.lemmas.Grind.{flat_map-append}
 use Rattle.std.proofs.Math.Seq.{take-append-add, take-length}
@@ -50,8 +50,3 @@ part_written old new lines more line bytes same more_is part before was =
 -- what was written is still all of the text
 pub front_same : (taken : Option (List ℕ)) (lines more : List OutLine) → more ≡ lines → (before : Option (List ℕ)) → HasWritten before taken lines → WritesFirstOf before taken (text_of more)
 front_same taken lines more same before was = subst (λ all. WritesFirstOf before taken (text_of all)) (sym same) (written_all before taken lines was)
-
--- a fact that holds after any fault
-pub on_err : {T E : Type 0} (result : Result T E) (P : Type 0) → P → OnErr result P
-on_err (Ok x) P p = tt
-on_err (Err e) P p = p

@@ -1,5 +1,5 @@
 -- What a line of the input asks, read from its JSON (this project's profile). Values are read as those of scripts.
-use Rattle.std.specs.Prelude.{ℕ, ◌+◌, ◌^◌, pos, ℤ, List, [], ◌∷◌, length, Bool, true, false, if◌then◌else◌, nat_lt, nat_le, codes, Option, Some, None, option_map, option_and_then, Result, Ok, Err}
+use Rattle.std.specs.Prelude.{ℕ, ◌+◌, ◌^◌, pos, ℤ, List, [], ◌∷◌, length, Bool, false, if◌then◌else◌, nat_lt, nat_le, codes, Option, Some, None, option_map, option_and_then, Result, Ok, Err}
 use Rattle.std.specs.Str.{bytes_eq}
 use Rattle.std.specs.Option.{option_map_or}
 use Rattle.serde_json.specs.Data.{Data, Items, no_items, item}
@@ -7,7 +7,7 @@ use Rattle.serde_json.specs.Find.{as_number, as_u64, as_str, as_array}
 use Rattle.do_value.specs.Limits.{most_bytes}
 use Rattle.do_value.specs.Tree.{Tree}
 use Rattle.do_wire.specs.Reading.{reading_of}
-use Rattle.batch_journal.specs.Limits.{most_name_bytes}
+use Rattle.storage_map.specs.Limits.{most_name_bytes}
 
 -- A request, its values as trees, its object as the bytes of class and name.
 pub data Asked : Type 0 where

@@ -1,5 +1,5 @@
 -- What requests ask.
-use Rattle.std.specs.Prelude.{◌^◌, pos, nat_lt, ℕ, ℤ, negsuc, Bool, true, false, Result, Ok, Err}
+use Rattle.std.specs.Prelude.{◌^◌, pos, nat_lt, ℤ, negsuc, Bool, true, false, Result, Ok, Err}
 use Rattle.do_value.specs.Seen.{tree_of, trees_in}
 use Rattle.do_host.specs.Asked.{Asked, call, tick, fetched, fetch_failed, evict}
 use Rattle.do_host.specs.declared.refusal.Refusal.{Refusal}

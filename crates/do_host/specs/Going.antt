@@ -1,9 +1,9 @@
 -- What a reader of lines gave of the bytes that its source began with.
-use Rattle.std.specs.Prelude.{◌≡◌, ◌+◌, ℕ, List, ◌++◌, true, nat_le, Option, length}
+use Rattle.std.specs.Prelude.{◌≡◌, ◌≤◌, ◌+◌, ℕ, List, ◌++◌, true, nat_le, Option, length}
 use Rattle.std.specs.List.{list_all}
 use Rattle.do_host.specs.Cut.{lines}
 use Rattle.do_host.specs.Reader.{StartsWith}
-use Rattle.do_host.specs.Requests.{SeenLine, requests, requests_after}
+use Rattle.do_host.specs.Requests.{SeenLine, requests, requests_after, through}
 
 -- Of the whole input these bytes were read and the others are told to be left; the lines given are the first ones of the
 -- bytes read.
@@ -12,6 +12,17 @@ pub record HasGiven (whole : List ℕ) (given : List SeenLine) (left : Option (L
   pub source : StartsWith whole read left
   pub beyond : List SeenLine
   pub first : requests read ≡ given ++ beyond
+
+-- Of the whole input these bytes were read and the others are told to be left. Of the lines of the bytes read the first ones
+-- were looked at, so many, blank ones counted: what they ask is what the lines given ask, and behind these at most so many
+-- lines more.
+pub record HasLookedAt (whole : List ℕ) (given : List SeenLine) (most count : ℕ) (left : Option (List ℕ)) : Type 0 where
+  pub read : List ℕ
+  pub source : StartsWith whole read left
+  pub reached : count ≤ length (lines read)
+  pub more : List SeenLine
+  pub few : length more ≤ most
+  pub all : through count (requests read) ≡ given ++ more
 
 -- Reading goes on: whichever part of what is left is read next, the lines still to come are those of what the reader
 -- holds and of that part, and they are numbered on. The count is that of the lines before them.

@@ -3,9 +3,10 @@ use Rattle.std.specs.Prelude.{◌≡◌, ◌≤◌, ◌⊎◌, ℕ, List, [], �
 use Rattle.do_disk.specs.Disk.{IfTold}
 use Rattle.do_host.specs.Requests.{SeenLine, requests, through}
 use Rattle.do_host.specs.Cut.{lines as lines_of}
-use Rattle.do_host.specs.Going.{HasGiven, GoesOn}
+use Rattle.do_host.specs.Going.{HasGiven, HasLookedAt, GoesOn}
 use Rattle.do_host.specs.Seen.{seen}
 use Rattle.do_host.specs.declared.fault.LineFault.{LineFault}
+use Rattle.do_host.specs.declared.fault.LineFault.TheVariants.{ReadFailed, NoMemory}
 use Rattle.do_host.specs.declared.line.Line.{Line}
 use Rattle.do_host.specs.declared.lines.Lines.{Lines}
 use Rattle.do_host.specs.declared.TheConstants.{MOST_LINES}
@@ -20,6 +21,12 @@ lines_in (Err fault) = []
 abbrev pub fault_in : {T : Type 0} → Result T LineFault → Option LineFault
 fault_in (Ok x) = None
 fault_in (Err fault) = Some fault
+
+-- how many lines an answer may leave looked at and not given: one where memory was wanting
+abbrev pub most_left : {T : Type 0} → Result T LineFault → ℕ
+most_left (Ok x) = 0
+most_left (Err ReadFailed) = 0
+most_left (Err NoMemory) = 1
 
 module _ {S : Type 0} where
   abbrev pub source_of : Lines S → S
@@ -42,10 +49,15 @@ module _ {S : Type 0} (left : S → Option (List ℕ)) where
   abbrev pub IsFirstOf : List ℕ → List SeenLine → Lines S → Type 0
   IsFirstOf whole given lines = HasGiven whole given (left lines.bytes.source)
 
+  -- The lines given, with at most so many more, are those that it looked at.
+  abbrev pub LooksAt : List ℕ → List SeenLine → ℕ → Lines S → Type 0
+  LooksAt whole given most lines = HasLookedAt whole given most lines.count (left lines.bytes.source)
+
   -- What reading on does where it stands at no fault.
   pub record ReadsOn (old new : Lines S) (result : Result (Option Line) LineFault) : Type 0 where
     pub reading : OnOk result ((whole : List ℕ) (given : List SeenLine) → IsReading whole given old → IsReading whole (given ++ lines_in result) new)
     pub first : (whole : List ℕ) (given : List SeenLine) → IsReading whole given old → IsFirstOf whole (given ++ lines_in result) new
+    pub looked : (whole : List ℕ) (given : List SeenLine) → IsReading whole given old → LooksAt whole (given ++ lines_in result) (most_left result) new
     pub all : result ≡ Ok None → (whole : List ℕ) (given : List SeenLine) → IsReading whole given old → given ≡ through MOST_LINES (requests whole)
     pub total : result ≡ Ok None → (whole : List ℕ) (given : List SeenLine) → IsReading whole given old → count_of new ≡ min MOST_LINES (length (lines_of whole))
     pub end : result ≡ Ok None → (count_of new ≡ MOST_LINES) ⊎ IfTold (left (source_of new)) (λ rest. rest ≡ [])

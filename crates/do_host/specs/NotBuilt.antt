@@ -1,6 +1,6 @@
--- Why a run that has served lines ends with status 8: what it was asked next isn't built yet. And which lines one with status 0
--- has accepted. This project's profile.
-use Rattle.std.specs.Prelude.{◌≡◌, ◌⊎◌, ◌<◌, ◌+◌, ◌^◌, ℕ, List, [], ◌∷◌, ◌++◌, map, length, Option, Some}
+-- Why a run that has served lines ends with status 8: what it was asked next isn't built yet. And which lines a run
+-- accepts. This project's profile.
+use Rattle.std.specs.Prelude.{◌≡◌, ◌⊎◌, ◌<◌, ◌+◌, ℕ, List, [], ◌∷◌, ◌++◌, map, length, Option, Some}
 use Rattle.do_disk.specs.Disk.{IfTold}
 use Rattle.batch_journal.specs.Frames.{Frame, journal_bytes, batches_in, AreFrames}
 use Rattle.batch_journal.specs.Recovery.{Recovers}
@@ -18,6 +18,7 @@ use Rattle.do_host.specs.Report.{object_in}
 use Rattle.do_host.specs.Seen.{seen}
 use Rattle.do_host.specs.Served.{Stands}
 use Rattle.do_host.specs.Switch.{object_after, object_through}
+use Rattle.do_host.specs.declared.TheConstants.{MOST_JOURNAL_BYTES}
 use Rattle.do_host.specs.declared.line.Line.{Line}
 use Rattle.do_host.specs.declared.lines.Lines.{Lines}
 use Rattle.do_host.specs.declared.report.SlotReport.{SlotReport}
@@ -45,11 +46,11 @@ pub record MeetsLimit (limit : ℕ) (start : List Frame) (object : Option (List 
   pub past : limit < length (journal_bytes (frames ++ frame ∷ [])) + 1
 
 -- The slot's file recovered to these frames, and the line that was read next isn't of the first form for its object, or the
--- last call would have made the file longer than 2^30 bytes.
+-- last call would have made the file longer than a journal may be.
 pub record IsNotBuilt {S : Type 0} (content input rest : Option (List ℕ)) (switch : SwitchLog) (row : SlotReport S) : Type 0 where
   pub start : List Frame
   pub recovered : IfTold content (λ c. Recovers c start)
-  pub cause : MeetsOddLine (object_in start) input rest switch.accepted.items ⊎ MeetsLimit (2 ^ 30) start row.identity row.front
+  pub cause : MeetsOddLine (object_in start) input rest switch.accepted.items ⊎ MeetsLimit MOST_JOURNAL_BYTES start row.identity row.front
 
 -- each line is of the first form, where the slot has this object before the first of them
 abbrev pub AreFirstLines : Option (List ℕ × List ℕ) → List Line → Type 0

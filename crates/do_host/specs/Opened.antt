@@ -1,16 +1,17 @@
 -- What opening hands out, and why it stops.
-use Rattle.std.specs.Prelude.{◌≡◌, ◌⊎◌, ◌^◌, ◌++◌, ℕ, List, [], Option, Some, None, Result, Err}
+use Rattle.std.specs.Prelude.{◌≡◌, ◌⊎◌, ◌++◌, ℕ, List, [], Option, Some, None, Result, Err}
 use Rattle.do_disk.specs.Asks.{Ask}
 use Rattle.do_disk.specs.Disk.{IfTold, Rose}
 use Rattle.object_core.specs.Said.{IsPrefix}
 use Rattle.batch_journal.specs.Frames.{Frame}
-use Rattle.batch_journal.specs.Limits.{Object}
-use Rattle.batch_journal.specs.Recovery.{Recovers}
+use Rattle.storage_map.specs.Limits.{Object}
+use Rattle.batch_journal.specs.Recovery.{Recovers, IsUnfinished}
 use Rattle.batch_journal.specs.Refused.{IsForeign, IsDamaged, IsMixed}
 use Rattle.object_core.specs.Serving.{IsServing, limit_in, object_of, disk_of, front_of, back_of}
 use Rattle.do_host.specs.Report.{object_in}
 use Rattle.object_core.specs.declared.object.Core.{Core}
 use Rattle.do_host.specs.declared.report.SlotReport.{SlotReport}
+use Rattle.do_host.specs.declared.TheConstants.{MOST_JOURNAL_BYTES}
 use Rattle.do_host.specs.declared.stop.Stop.{Stop}
 use Rattle.do_host.specs.declared.stop.Stop.TheVariants.{DiskFailed, NoMemory, BadSlot, NotBuilt}
 
@@ -20,18 +21,26 @@ pub record IsFresh {D : Type 0} (core : Core D) : Type 0 where
   pub released : (back_of core).released.items ≡ []
 
 -- The core serves since its disk was handed out, from the frames that the file of this content recovers to, and has the
--- object that they name. Its journal may have 2^30 bytes.
+-- object that they name. Its journal's limit is that of every slot.
 pub record IsOpened {D : Type 0} (moment_of : D → ℕ) (left_since : D → ℕ → List ℕ → Type 0) (told : D → Option (List ℕ)) (image : D → List ℕ → Type 0) (content : Option (List ℕ)) (core : Core D) : Type 0 where
   pub start : List Frame
   pub recovered : IfTold content (λ c. Recovers c start)
   pub object : object_of core ≡ object_in start
   pub serving : IsServing moment_of left_since told image 0 start core
-  pub limit : limit_in core ≡ 2 ^ 30
+  pub limit : limit_in core ≡ MOST_JOURNAL_BYTES
 
 -- a disk, which was handed out at 0 faults, isn't mounted, and its count rose
 abbrev pub HasFailedDisk : {S : Type 0} → (S → ℕ) → Option S → Type 0
 HasFailedDisk faults_of None = ⊥
 HasFailedDisk faults_of (Some disk) = Rose 0 (faults_of disk)
+
+-- a crash at any moment since the disk was handed out leaves the file of this content
+abbrev pub LeavesFile : {S : Type 0} → (S → ℕ → List ℕ → Type 0) → Option (List ℕ) → S → Type 0
+LeavesFile left_since content disk = (c : List ℕ) → left_since disk 0 c → content ≡ Some c
+
+-- or, where the header of that file isn't finished, a file without frames
+abbrev pub LeavesFileOrHeader : {S : Type 0} → (S → ℕ → List ℕ → Type 0) → Option (List ℕ) → S → Type 0
+LeavesFileOrHeader left_since content disk = (c : List ℕ) → left_since disk 0 c → (content ≡ Some c) ⊎ (IfTold content IsUnfinished × Recovers c [])
 
 -- opening stops by a fault, for want of memory, at a bad slot, or where it isn't built
 abbrev pub IsOpeningStop : {T : Type 0} → Result T Stop → Type 0

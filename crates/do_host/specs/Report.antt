@@ -56,6 +56,10 @@ pub record IsQuiet {S : Type 0} (content : Option (List ℕ)) (switch : SwitchLo
 abbrev pub IsDiskOf : {S : Type 0} → Report S → S → Type 0
 IsDiskOf {S} report disk = (report.unopened ≡ Some disk) ⊎ ((row : SlotReport S) × (report.slots.items ≡ row ∷ []) × (row.store ≡ disk))
 
+-- the depot handed out the slot's disk
+abbrev pub HasDisk : {S : Type 0} → Report S → Type 0
+HasDisk {S} report = (disk : S) × IsDiskOf report disk
+
 -- the count of faults of a disk of the report rose; it was handed out at 0
 abbrev pub HasFailedStore : {S : Type 0} → (S → ℕ) → Report S → Type 0
 HasFailedStore {S} faults_of report = (disk : S) × IsDiskOf report disk × Rose 0 (faults_of disk)

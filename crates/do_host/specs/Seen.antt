@@ -1,7 +1,4 @@
 -- Requests and lines as contracts compare them.
-use Rattle.std.specs.Prelude.{◌^◌, pos, ◌&&◌, nat_lt, ℤ, negsuc, Bool, true, false, Result, Ok, Err}
-use Rattle.do_value.specs.Seen.{tree_of, trees_in}
-use Rattle.do_host.specs.Asked.{Asked, call, tick, fetched, fetch_failed, evict}
 use Rattle.do_host.specs.Requests.{SeenLine}
 use Rattle.do_host.specs.declared.line.Line.{Line}
 use Rattle.do_host.specs.Bodies.{body_seen}

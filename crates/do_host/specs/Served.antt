@@ -1,14 +1,16 @@
 -- The one slot between the steps of a run, and at its end.
-use Rattle.std.specs.Prelude.{◌≡◌, ◌⊎◌, ◌≤◌, ◌+◌, ℕ, List, [], ◌∷◌, ◌++◌, length, take, Option, None, option_map, Result, vec_len}
+use Rattle.std.specs.Prelude.{◌≡◌, ◌⊎◌, ◌≤◌, ◌+◌, ℕ, List, [], ◌∷◌, ◌++◌, length, take, Option, option_map, vec_len}
 use Rattle.std.specs.Vec.{vec_capacity}
-use Rattle.object_core.specs.Said.{IsPrefix}
 use Rattle.object_core.specs.Serving.{object_of, front_of, back_of}
 use Rattle.object_core.specs.declared.object.Core.{Core}
 use Rattle.object_core.specs.declared.timeline.Event.{Event}
 use Rattle.object_core.specs.declared.timeline.Message.{Message}
+use Rattle.do_host.specs.FirstForm.{IsFirstLine}
 use Rattle.do_host.specs.Switch.{of_slot, object_through, posts_of, line_of, lines_of, text_of, events_in, messages_of, IsSwitchRun, IsServedBy}
 use Rattle.do_host.specs.declared.line.Line.{Line}
 use Rattle.do_host.specs.declared.out_line.OutLine.{OutLine}
+use Rattle.do_host.specs.declared.stop.Stop.{Stop}
+use Rattle.do_host.specs.declared.stop.Stop.TheVariants.{NoMemory, NotBuilt}
 use Rattle.do_host.specs.declared.switch_log.SwitchLog.{SwitchLog}
 
 -- Between two steps of a slot that had this object at first: its object is that of the accepted lines, all that they post
@@ -50,9 +52,12 @@ pub record Routes (message : Message) (old new : SwitchLog) : Type 0 where
   pub accepted : new.accepted.items ≡ old.accepted.items
   pub posts : new.posts.items ≡ old.posts.items
 
--- one line more was accepted, or none
-abbrev pub AcceptsAtMost : Line → SwitchLog → SwitchLog → Type 0
-AcceptsAtMost line old new = (new.accepted.items ≡ old.accepted.items) ⊎ (new.accepted.items ≡ old.accepted.items ++ line ∷ [])
+-- The line at which a run stops wasn't accepted, for want of memory or as what isn't built yet; or it was, as one of the first
+-- form for the slot's object.
+abbrev pub StopsAt : Option (List ℕ × List ℕ) → Line → SwitchLog → SwitchLog → Stop → Type 0
+StopsAt object line old new stop =
+    ((new.accepted.items ≡ old.accepted.items) × ((stop ≡ NoMemory) ⊎ (stop ≡ NotBuilt)))
+    ⊎ ((new.accepted.items ≡ old.accepted.items ++ line ∷ []) × IsFirstLine object line)
 
 -- the text of these lines was written behind what was taken before, all of it
 abbrev pub HasWritten : Option (List ℕ) → Option (List ℕ) → List OutLine → Type 0

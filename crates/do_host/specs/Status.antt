@@ -1,6 +1,7 @@
 -- The status of a run that ends before its last line. This project's profile: 3 where the depot or a disk failed, 4 for want
 -- of memory, 5 for a read fault, 6 for a write fault, 7 for a slot whose file is no journal of one object, 8 for what isn't built yet.
-use Rattle.std.specs.Prelude.{ℕ, Result, Ok, Err}
+use Rattle.std.specs.Prelude.{ℕ, ◌==◌, ◌||◌, if◌then◌else◌, [], ◌∷◌, Result, Ok, Err}
+use Rattle.std.specs.List.{Contains}
 use Rattle.do_disk.specs.declared.depot.DepotFault.{DepotFault}
 use Rattle.do_disk.specs.declared.depot.DepotFault.TheVariants.{Failed, NoMemory as NoDepotMemory}
 use Rattle.batch_journal.specs.declared.mount.MountFault.{MountFault}
@@ -11,6 +12,18 @@ use Rattle.do_host.specs.declared.fault.LineFault.{LineFault}
 use Rattle.do_host.specs.declared.fault.LineFault.TheVariants.{ReadFailed as LineFailed, NoMemory as NoLineMemory}
 use Rattle.do_host.specs.declared.stop.Stop.{Stop}
 use Rattle.do_host.specs.declared.stop.Stop.TheVariants.{DiskFailed, NoMemory, ReadFailed, WriteFailed, BadSlot, NotBuilt}
+
+-- a status that a run may end with: 0 for all lines served, 1 for words that aren't taken, and those above
+abbrev pub IsStatus : ℕ → Type 0
+IsStatus status = Contains (0 ∷ 1 ∷ 3 ∷ 4 ∷ 5 ∷ 6 ∷ 7 ∷ 8 ∷ []) status
+
+-- a status of a run whose slot wasn't mounted
+abbrev pub IsOpeningStatus : ℕ → Type 0
+IsOpeningStatus status = Contains (3 ∷ 4 ∷ 7 ∷ 8 ∷ []) status
+
+-- how many lines may have been looked at and not accepted: one where memory was wanting, or where it isn't built yet
+abbrev pub most_waiting : ℕ → ℕ
+most_waiting status = if (status == 4) || (status == 8) then 1 else 0
 
 abbrev pub status_of : Stop → ℕ
 status_of DiskFailed = 3

@@ -1,6 +1,6 @@
 -- What passes between the lines and the one slot: posts from lines, and lines from messages. This project's profile: a
 -- call is posted to its object's slot, behind a `Bind` where the slot is new; a routed reply to a request gives one line.
-use Rattle.std.specs.Prelude.{◌≡◌, ℕ, List, [], ◌∷◌, ◌++◌, map, Option, Some, None, Result, Ok, Err, if◌then◌else◌, ◌==◌, pos, codes}
+use Rattle.std.specs.Prelude.{ℕ, List, [], ◌∷◌, ◌++◌, map, Option, Some, None, Result, Ok, Err, if◌then◌else◌, ◌==◌, pos, codes}
 use Rattle.std.specs.List.{flat_map}
 use Rattle.std.specs.Str.{bytes_eq}
 use Rattle.object_core.specs.Said.{IsPrefix}

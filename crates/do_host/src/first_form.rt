@@ -1,15 +1,15 @@
 // Which lines are served so far, and the events that they are.
 ghost use Rattle.std.specs.Prelude.{◌≡◌, ◌↔◌, ◌≤◌, ◌∷◌, [], length, IsSome, IsTrue, IfOk, codes, option_map};
-ghost use Rattle.batch_journal.specs.Limits.{most_key_bytes};
+ghost use Rattle.storage_map.specs.Limits.{most_key_bytes};
 ghost use Rattle.object_core.specs.Serving.{AreSetArgs, AreReadArgs, IsStorable};
 ghost use Rattle.do_host.specs.FirstForm.{IsFirstLine, IsFirstCall, IsFor};
 ghost use Rattle.do_host.specs.Switch.{method_number as number_of, call_posts, object_of_body};
 
 use crate::line::Line;
 use crate::request::Request;
-use batch_journal::{Identity, MOST_KEY_BYTES, MOST_STORED_BYTES};
 use do_value::{Mem, Text, Value};
 use object_core::{Caller, Event};
+use storage_map::{Identity, MOST_KEY_BYTES, MOST_STORED_BYTES};
 
 // Whether the line is a call of `set` or `read` on the slot's object, or on any object of the class C where it has none.
 pub(crate) fn is_first_form(object: Option<&Identity>, line: &Line) -> bool

@@ -46,14 +46,8 @@ pub const MOST_LINE_BYTES: u64 = 1_048_576;
 /// Where a line's first so many bytes have no LF, the next line begins after these.
 pub const MOST_CUT_BYTES: u64 = 4_294_967_296;
 
+/// The most bytes of a slot's journal.
+pub const MOST_JOURNAL_BYTES: u64 = 1_073_741_824;
+
 /// The most lines of a run.
 pub const MOST_LINES: u64 = 1_048_576;
-
-#[cfg(test)]
-mod crash_tests;
-#[cfg(test)]
-mod edge_tests;
-#[cfg(test)]
-mod run_tests;
-#[cfg(test)]
-mod tests;

@@ -25,7 +25,7 @@ impl<R: Source> Lines<R> {
     ghost use Rattle.do_host.specs.Cut.{lines as all_lines};
     ghost use Rattle.do_host.specs.Given.{CountsReads};
     ghost use Rattle.do_host.specs.Requests.{SeenLine, requests, through};
-    ghost use Rattle.do_host.specs.Lines.{lines_in, fault_in, source_of, count_of, fault_of, IsReading, IsFirstOf, ReadsOn};
+    ghost use Rattle.do_host.specs.Lines.{lines_in, fault_in, source_of, count_of, fault_of, most_left, IsReading, IsFirstOf, LooksAt, ReadsOn};
 
     /// The lines of the source from its first byte on. It takes no memory and reads nothing.
     pub fn new(alloc: Global, source: R) -> Lines<R>
@@ -49,6 +49,8 @@ impl<R: Source> Lines<R> {
             → IsReading R.left whole (given ++ lines_in result) self.new) }
         ensures first { (whole : List ℕ) (given : List SeenLine) → IsReading R.left whole given self.old
             → IsFirstOf R.left whole (given ++ lines_in result) self.new }
+        ensures looked_at { (whole : List ℕ) (given : List SeenLine) → IsReading R.left whole given self.old
+            → LooksAt R.left whole (given ++ lines_in result) (most_left result) self.new }
         ensures all { result ≡ Ok None → (whole : List ℕ) (given : List SeenLine) → IsReading R.left whole given self.old
             → given ≡ through MOST_LINES (requests whole) }
         ensures total { result ≡ Ok None → (whole : List ℕ) (given : List SeenLine) → IsReading R.left whole given self.old

@@ -1,15 +1,16 @@
 // From the words to the core of the one slot.
-ghost use Rattle.std.specs.Prelude.{◌≡◌, ◌≢◌, ◌⊎◌, ◌+◌, ◌≤◌, ◌++◌, ◌∷◌, [], ℕ, List, Err, IfOk, IfErr, IfSome, OnOk, OnErr, IsErrOf, None, Some, vec_len};
+ghost use Rattle.std.specs.Prelude.{◌≡◌, ◌≢◌, ◌⊎◌, ◌+◌, ◌≤◌, ◌++◌, ◌∷◌, [], ℕ, List, Err, IfOk, IfErr, IfSome, IsSome, OnOk, OnErr, IsErrOf, None, Some, vec_len};
 ghost use Rattle.std.specs.Vec.{vec_capacity};
 ghost use Rattle.do_disk.specs.Disk.{IfTold, Only, Rose};
 ghost use Rattle.do_disk.specs.Asks.{for_text, for_slot};
 ghost use Rattle.object_core.specs.Said.{IsPrefix};
 ghost use Rattle.object_core.specs.Serving.{CanServe};
-ghost use Rattle.do_host.specs.Opened.{IsFresh, IsOpened, IsBadFile, HasFailedDisk, IsOpeningStop, Asks};
+ghost use Rattle.do_host.specs.Opened.{IsFresh, IsOpened, IsBadFile, HasFailedDisk, IsOpeningStop, LeavesFile, LeavesFileOrHeader, Asks};
 ghost use Rattle.do_host.specs.Status.{mount_stop};
 ghost use Rattle.batch_journal.specs.Mounting.{disk_left};
 ghost use Rattle.do_host.specs.declared.script.TheConstants.{PUT_AND_READ};
 
+use crate::MOST_JOURNAL_BYTES;
 use crate::report::{Report, SlotReport};
 use crate::script::is_put_and_read;
 use crate::stop::Stop;
@@ -19,9 +20,6 @@ use do_disk::{Depot, Disk};
 use do_value::{Mem, NoMemory};
 use object_core::Core;
 use std::alloc::Global;
-
-/// The most bytes of a slot's journal.
-const MOST_JOURNAL_BYTES: u64 = 1_073_741_824;
 
 // The core of slot 0, with room for its row. The disk of a slot that isn't mounted goes to the report.
 pub(crate) fn open<P: Depot>(
@@ -38,6 +36,13 @@ pub(crate) fn open<P: Depot>(
     ensures same { (report.new.switch ≡ report.old.switch) × (report.new.lines ≡ report.old.lines) }
     ensures none_left { OnOk result (report.new.unopened ≡ None) }
     ensures asked { Asks (P.asked depot.old) (P.asked depot.new) (for_text words.entry.script.now ∷ for_slot words.entry.folder.now 0 ∷ []) }
+    ensures mounted_asked { OnOk result (P.asked depot.new ≡ P.asked depot.old ++ for_text words.entry.script.now ∷ for_slot words.entry.folder.now 0 ∷ []) }
+    ensures kept_asked { IsSome report.new.unopened → P.asked depot.new ≡ P.asked depot.old ++ for_text words.entry.script.now ∷ for_slot words.entry.folder.now 0 ∷ [] }
+    ensures mounted_script { OnOk result (IfTold (P.text_at depot.old words.entry.script.now) (λ text. text ≡ PUT_AND_READ.now)) }
+    ensures kept_script { IsSome report.new.unopened → IfTold (P.text_at depot.old words.entry.script.now) (λ text. text ≡ PUT_AND_READ.now) }
+    ensures left { IfSome report.new.unopened (LeavesFileOrHeader P.Store.left_since (P.slot_at depot.old words.entry.folder.now 0)) }
+    ensures untouched { (IsErrOf result Stop.DiskFailed → ⊥) → IfSome report.new.unopened (LeavesFile P.Store.left_since (P.slot_at depot.old words.entry.folder.now 0)) }
+    ensures bad_kept { IsErrOf result Stop.BadSlot → IsSome report.new.unopened }
     ensures stop { OnErr result (IsOpeningStop result) }
     ensures failed { IsErrOf result Stop.DiskFailed → Rose (P.faults_of depot.old) (P.faults_of depot.new) ⊎ HasFailedDisk P.Store.faults_of report.new.unopened }
     ensures bad { IsErrOf result Stop.BadSlot → IfTold (P.slot_at depot.old words.entry.folder.now 0) IsBadFile }
@@ -58,6 +63,7 @@ fn read_script<P: Depot>(depot: &mut P, path: &str) -> Result<(), Stop>
     ensures failed { IsErrOf result Stop.DiskFailed → Rose (P.faults_of depot.old) (P.faults_of depot.new) }
     ensures steady { OnOk result (P.faults_of depot.new ≡ P.faults_of depot.old) }
     ensures no_slot { IsErrOf result Stop.BadSlot → ⊥ }
+    ensures first_script { OnOk result (IfTold (P.text_at depot.old path.now) (λ text. text ≡ PUT_AND_READ.now)) }
     ensures not_built { IsErrOf result Stop.NotBuilt → IfTold (P.text_at depot.old path.now) (λ text. text ≢ PUT_AND_READ.now) }
 {
     let text = depot.text(path)?;
@@ -91,6 +97,9 @@ fn mount<D: Disk + Drop>(alloc: Global, disk: D, unopened: &mut Option<D>) -> Re
     ensures failed { IsErrOf result Stop.DiskFailed → HasFailedDisk D.faults_of unopened.new }
     ensures bad { IsErrOf result Stop.BadSlot → IfTold (D.told disk) IsBadFile }
     ensures built { IsErrOf result Stop.NotBuilt → ⊥ }
+    ensures kept { OnErr result (IsSome unopened.new) }
+    ensures left { IfSome unopened.new (LeavesFileOrHeader D.left_since (D.told disk)) }
+    ensures untouched { (IsErrOf result Stop.DiskFailed → ⊥) → IfSome unopened.new (LeavesFile D.left_since (D.told disk)) }
 {
     match Journal::mount(alloc, disk, MOST_JOURNAL_BYTES) {
         Ok(mounted) => Ok(Core::first(alloc, mounted)),

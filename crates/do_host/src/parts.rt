@@ -5,11 +5,11 @@ ghost use Rattle.do_value.specs.Seen.{tree_of, trees_in};
 ghost use Rattle.do_host.specs.Asked.{whole_in, text_in, object_in, value_in, values_in};
 ghost use Rattle.do_host.specs.Asked.{is_word as has_word, values_of as all_values};
 
-use batch_journal::Identity;
 use do_value::{Args, BuildFault, Mem, NoMemory, Num, Text, Value};
 use do_wire::{WireFault, from_json};
 use serde_json::Value as Json;
 use std::alloc::Global;
+use storage_map::Identity;
 
 pub(crate) fn is_word(json: &Json, word: &str) -> bool
     ensures { result ≡ has_word word.now (view json.now) }

@@ -10,10 +10,10 @@ use crate::first_form::call_event;
 use crate::line::Line;
 use crate::request::Request;
 use crate::switch_log::SwitchLog;
-use batch_journal::Identity;
 use do_disk::Disk;
 use do_value::{Mem, NoMemory};
 use object_core::{Core, Event};
+use storage_map::Identity;
 
 // Accepts the line, gives the slot its object, where it has none yet, and posts the call, which is handed out to be given
 // to the object. After `NoMemory` nothing was accepted or posted.

@@ -1,5 +1,5 @@
 //! The top call.
-ghost use Rattle.std.specs.Prelude.{◌≡◌, ◌≢◌, ◌⊎◌, ◌+◌, ◌≤◌, ◌++◌, ◌∷◌, [], ℕ, List, Option, map, length, min, None, vec_len, string_bytes};
+ghost use Rattle.std.specs.Prelude.{◌≡◌, ◌≢◌, ◌⊎◌, ◌+◌, ◌≤◌, ◌++◌, ◌∷◌, [], ℕ, List, Option, map, length, min, None, IfSome, IsSome, vec_len, string_bytes};
 ghost use Rattle.std.specs.Vec.{vec_capacity};
 ghost use Rattle.std.specs.List.{All};
 ghost use Rattle.do_disk.specs.Disk.{IfTold, Rose};
@@ -8,13 +8,13 @@ ghost use Rattle.object_core.specs.Serving.{CanServe};
 ghost use Rattle.do_host.specs.Cut.{lines as all_lines};
 ghost use Rattle.do_host.specs.Requests.{requests, through};
 ghost use Rattle.do_host.specs.Seen.{seen};
-ghost use Rattle.do_host.specs.Going.{HasGiven};
+ghost use Rattle.do_host.specs.Going.{HasGiven, HasLookedAt};
 ghost use Rattle.do_host.specs.Switch.{text_of};
 ghost use Rattle.do_host.specs.Served.{HasWritten, WritesFirstOf};
-ghost use Rattle.do_host.specs.Report.{IsEmpty, IsServe, AreServeWords, IsSlotHistory, IsQuiet, HasFailedStore};
+ghost use Rattle.do_host.specs.Report.{IsEmpty, IsServe, AreServeWords, IsSlotHistory, IsQuiet, HasDisk, HasFailedStore};
 ghost use Rattle.do_host.specs.NotBuilt.{IsNotBuilt, IsFormed};
-ghost use Rattle.do_host.specs.Opened.{IsFresh, IsOpened, IsBadFile, Asks, row_of};
-ghost use Rattle.do_host.specs.Status.{status_in};
+ghost use Rattle.do_host.specs.Opened.{IsFresh, IsOpened, IsBadFile, LeavesFile, LeavesFileOrHeader, Asks, row_of};
+ghost use Rattle.do_host.specs.Status.{status_in, most_waiting, IsStatus, IsOpeningStatus};
 ghost use Rattle.do_host.specs.declared.TheConstants.{MOST_LINES};
 ghost use Rattle.do_host.specs.declared.program.TheConstants.{USAGE};
 ghost use Rattle.do_host.specs.declared.script.TheConstants.{PUT_AND_READ};
@@ -51,8 +51,10 @@ pub struct Ran<R, W> {
 /// | 4 | want of memory |
 /// | 5 | only where the source's count of faults rose |
 /// | 6 | only where the sink's count of faults rose |
-/// | 7 | only where the slot's file is foreign, damaged or mixed |
-/// | 8 | what is asked for isn't built yet: another script than [`PUT_AND_READ`](crate::PUT_AND_READ), a line that isn't a call of `set` or `read` on the slot's object with a key and a value that storage takes, or a journal that would pass 2^30 bytes |
+/// | 7 | only where the slot's file is foreign, damaged or mixed; the report has its disk as `unopened`, and its file is as it was |
+/// | 8 | what is asked for isn't built yet: another script than [`PUT_AND_READ`](crate::PUT_AND_READ), a line that isn't a call of `set` or `read` on the slot's object with a key and a value that storage takes, or a journal that would pass [`MOST_JOURNAL_BYTES`](crate::MOST_JOURNAL_BYTES) |
+///
+/// No other status comes. A script that the depot tells is served only where it is that one, and only such lines are accepted.
 ///
 /// The gate isn't called yet.
 pub fn run<P: Depot, R: Source + Send, W: Sink + Send, G: TurnGate + Sync>(
@@ -72,26 +74,41 @@ pub fn run<P: Depot, R: Source + Send, W: Sink + Send, G: TurnGate + Sync>(
     ensures history { (script folder : List ℕ) → IsServe (map string_bytes words.now) script folder → All (IsSlotHistory P.Store.moment_of P.Store.left_since P.Store.image (P.slot_at depot.old folder 0) report.new.switch) report.new.slots.items }
     ensures one_slot { length report.new.slots.items ≤ 1 }
     ensures no_row { report.new.slots.items ≡ [] → (result.input ≡ input) × (report.new.switch ≡ report.old.switch) × (report.new.lines ≡ 0) }
+    // At any end: the lines that were read and accepted, and what was written.
     ensures accepted { IfTold (R.left input) (λ whole. HasGiven whole (map seen report.new.switch.accepted.items) (R.left result.input)) }
+    ensures looked_at { IfTold (R.left input) (λ whole. HasLookedAt whole (map seen report.new.switch.accepted.items) (most_waiting result.status) report.new.lines (R.left result.input)) }
+    ensures line_limit { report.new.lines ≤ MOST_LINES }
+    ensures formed { report.new.slots.items ≢ [] → (script folder : List ℕ) → IsServe (map string_bytes words.now) script folder → IsFormed (P.slot_at depot.old folder 0) report.new.switch }
     ensures written { AreServeWords (map string_bytes words.now) → WritesFirstOf (W.taken out) (W.taken result.out) (text_of report.new.switch.lines.items) }
     // Status 0: all of it, and nothing is under way.
     ensures served { result.status ≡ 0 → length report.new.slots.items ≡ 1 }
     ensures quiet { result.status ≡ 0 → (script folder : List ℕ) → IsServe (map string_bytes words.now) script folder → All (IsQuiet (P.slot_at depot.old folder 0) report.new.switch) report.new.slots.items }
     ensures all_accepted { result.status ≡ 0 → IfTold (R.left input) (λ whole. map seen report.new.switch.accepted.items ≡ through MOST_LINES (requests whole)) }
     ensures all_counted { result.status ≡ 0 → IfTold (R.left input) (λ whole. report.new.lines ≡ min MOST_LINES (length (all_lines whole))) }
-    ensures all_formed { result.status ≡ 0 → (script folder : List ℕ) → IsServe (map string_bytes words.now) script folder → IsFormed (P.slot_at depot.old folder 0) report.new.switch }
     ensures all_written { result.status ≡ 0 → HasWritten (W.taken out) (W.taken result.out) report.new.switch.lines.items }
+    // Status 5: all of what was accepted, and nothing is under way.
+    ensures read_failed { result.status ≡ 5 → Rose (R.faults_of input) (R.faults_of result.input) × (W.faults_of result.out ≡ W.faults_of out) }
+    ensures quiet_at_read_fault { result.status ≡ 5 → (script folder : List ℕ) → IsServe (map string_bytes words.now) script folder → All (IsQuiet (P.slot_at depot.old folder 0) report.new.switch) report.new.slots.items }
+    ensures written_at_read_fault { result.status ≡ 5 → AreServeWords (map string_bytes words.now) → HasWritten (W.taken out) (W.taken result.out) report.new.switch.lines.items }
     // The other statuses and their causes.
+    ensures statuses { IsStatus result.status }
     ensures usage { result.status ≡ 1 → AreServeWords (map string_bytes words.now) → ⊥ }
     ensures other_words { (AreServeWords (map string_bytes words.now) → ⊥) → ((result.status ≡ 1) ⊎ (result.status ≡ 6)) × (report.new ≡ report.old) × (P.asked depot.new ≡ P.asked depot.old) }
     ensures usage_written { (AreServeWords (map string_bytes words.now) → ⊥) → WritesFirstOf (W.taken out) (W.taken result.out) USAGE.now }
+    ensures opening_statuses { report.new.slots.items ≡ [] → AreServeWords (map string_bytes words.now) → IsOpeningStatus result.status }
     ensures bad_slot { result.status ≡ 7 → (script folder : List ℕ) → IsServe (map string_bytes words.now) script folder → IfTold (P.slot_at depot.old folder 0) IsBadFile }
     ensures other_script { result.status ≡ 8 → report.new.slots.items ≡ [] → (script folder : List ℕ) → IsServe (map string_bytes words.now) script folder → IfTold (P.text_at depot.old script) (λ text. text ≢ PUT_AND_READ.now) }
     ensures not_built { result.status ≡ 8 → (script folder : List ℕ) → IsServe (map string_bytes words.now) script folder → All (IsNotBuilt (P.slot_at depot.old folder 0) (R.left input) (R.left result.input) report.new.switch) report.new.slots.items }
     ensures failed { result.status ≡ 3 → Rose (P.faults_of depot.old) (P.faults_of depot.new) ⊎ HasFailedStore P.Store.faults_of report.new }
-    ensures asked { (script folder : List ℕ) → IsServe (map string_bytes words.now) script folder → Asks (P.asked depot.old) (P.asked depot.new) (for_text script ∷ for_slot folder 0 ∷ []) }
-    ensures read_failed { result.status ≡ 5 → Rose (R.faults_of input) (R.faults_of result.input) × (W.faults_of result.out ≡ W.faults_of out) }
     ensures write_failed { result.status ≡ 6 → Rose (W.faults_of out) (W.faults_of result.out) }
+    // The script and the slot: what the depot was asked, and what is left of a disk that isn't mounted.
+    ensures asked { (script folder : List ℕ) → IsServe (map string_bytes words.now) script folder → Asks (P.asked depot.old) (P.asked depot.new) (for_text script ∷ for_slot folder 0 ∷ []) }
+    ensures slot_asked { HasDisk report.new → (script folder : List ℕ) → IsServe (map string_bytes words.now) script folder → P.asked depot.new ≡ P.asked depot.old ++ for_text script ∷ for_slot folder 0 ∷ [] }
+    ensures first_script { HasDisk report.new → (script folder : List ℕ) → IsServe (map string_bytes words.now) script folder → IfTold (P.text_at depot.old script) (λ text. text ≡ PUT_AND_READ.now) }
+    ensures mounted { report.new.slots.items ≢ [] → report.new.unopened ≡ None }
+    ensures bad_slot_kept { result.status ≡ 7 → IsSome report.new.unopened }
+    ensures unopened { (script folder : List ℕ) → IsServe (map string_bytes words.now) script folder → IfSome report.new.unopened (LeavesFileOrHeader P.Store.left_since (P.slot_at depot.old folder 0)) }
+    ensures untouched { result.status ≢ 3 → (script folder : List ℕ) → IsServe (map string_bytes words.now) script folder → IfSome report.new.unopened (LeavesFile P.Store.left_since (P.slot_at depot.old folder 0)) }
 {
     let Some(words) = serve_words(words) else {
         return refuse_words(input, out);
@@ -140,8 +157,14 @@ fn serve_slot<D: Disk, R: Source, W: Sink>(
     ensures quiet { result.status ≡ 0 → (content : Option (List ℕ)) → IsOpened D.moment_of D.left_since D.told D.image content core → All (IsQuiet content report.new.switch) report.new.slots.items }
     ensures all_accepted { result.status ≡ 0 → IfTold (R.left input) (λ whole. map seen report.new.switch.accepted.items ≡ through MOST_LINES (requests whole)) }
     ensures all_counted { result.status ≡ 0 → IfTold (R.left input) (λ whole. report.new.lines ≡ min MOST_LINES (length (all_lines whole))) }
-    ensures all_formed { result.status ≡ 0 → (content : Option (List ℕ)) → IsOpened D.moment_of D.left_since D.told D.image content core → IsFormed content report.new.switch }
+    ensures formed { (content : Option (List ℕ)) → IsOpened D.moment_of D.left_since D.told D.image content core → IsFormed content report.new.switch }
+    ensures looked_at { IfTold (R.left input) (λ whole. HasLookedAt whole (map seen report.new.switch.accepted.items) (most_waiting result.status) report.new.lines (R.left result.input)) }
+    ensures line_limit { report.new.lines ≤ MOST_LINES }
     ensures all_written { result.status ≡ 0 → HasWritten (W.taken out) (W.taken result.out) report.new.switch.lines.items }
+    ensures quiet_at_read_fault { result.status ≡ 5 → (content : Option (List ℕ)) → IsOpened D.moment_of D.left_since D.told D.image content core → All (IsQuiet content report.new.switch) report.new.slots.items }
+    ensures written_at_read_fault { result.status ≡ 5 → HasWritten (W.taken out) (W.taken result.out) report.new.switch.lines.items }
+    ensures statuses { IsStatus result.status }
+    ensures unopened { report.new.unopened ≡ report.old.unopened }
     ensures no_usage { result.status ≡ 1 → ⊥ }
     ensures good_slot { result.status ≡ 7 → ⊥ }
     ensures not_built { result.status ≡ 8 → (content : Option (List ℕ)) → IsOpened D.moment_of D.left_since D.told D.image content core → All (IsNotBuilt content (R.left input) (R.left result.input) report.new.switch) report.new.slots.items }

@@ -2,9 +2,9 @@
 ghost use Rattle.std.specs.Prelude.{◌≡◌, [], None};
 
 use crate::switch_log::SwitchLog;
-use batch_journal::Identity;
 use object_core::{BackLog, FrontLog};
 use std::alloc::Global;
+use storage_map::Identity;
 
 /// The report of a run: its disks and its one actual history, in memory.
 #[derive(Drop)]

@@ -1,6 +1,6 @@
 //! What a line of the input asks.
-use batch_journal::Identity;
 use do_value::{Args, Mem, Text, Value};
+use storage_map::Identity;
 
 /// A request. Its numbers are whole and from 0 to 2^53 - 1; they may repeat, since a request is its line.
 #[derive(Debug, Drop)]

@@ -1,5 +1,5 @@
 // The lines of the input, one after another, over the one object.
-ghost use Rattle.std.specs.Prelude.{◌≡◌, ◌⊎◌, ◌≤◌, ◌++◌, ◌∷◌, [], ℕ, List, Option, length, map, min, IfOk, OnOk, OnErr, IsErrOf, Ok, None};
+ghost use Rattle.std.specs.Prelude.{◌≡◌, ◌⊎◌, ◌≤◌, ◌++◌, ◌∷◌, [], ℕ, List, Option, length, map, min, IfOk, IfErr, OnOk, OnErr, IsErrOf, Ok, None};
 ghost use Rattle.do_disk.specs.Disk.{Rose};
 ghost use Rattle.batch_journal.specs.Frames.{Frame};
 ghost use Rattle.object_core.specs.Serving.{IsServing, CanServe, IsHistoryOf, limit_in, object_of, disk_of};
@@ -7,10 +7,11 @@ ghost use Rattle.do_host.specs.FirstForm.{IsFirstLine};
 ghost use Rattle.do_host.specs.Cut.{lines as all_lines};
 ghost use Rattle.do_host.specs.Requests.{SeenLine, requests, through};
 ghost use Rattle.do_host.specs.Seen.{seen};
-ghost use Rattle.do_host.specs.Lines.{IsReading, IsFirstOf, source_of, count_of, fault_of};
+ghost use Rattle.do_host.specs.Lines.{IsReading, IsFirstOf, LooksAt, source_of, count_of, fault_of};
 ghost use Rattle.do_host.specs.Switch.{text_of};
 ghost use Rattle.do_host.specs.NotBuilt.{AreFirstLines, IsOddTo, EndsAtOdd, EndsAtLimit};
-ghost use Rattle.do_host.specs.Served.{Stands, IsLogged, IsBlank, AcceptsAtMost, HasWritten, WritesFirstOf};
+ghost use Rattle.do_host.specs.Served.{Stands, IsLogged, IsBlank, StopsAt, HasWritten, WritesFirstOf};
+ghost use Rattle.do_host.specs.Status.{status_in, most_waiting};
 ghost use Rattle.do_host.specs.declared.TheConstants.{MOST_LINES};
 
 use crate::first_form::is_first_form;
@@ -42,12 +43,16 @@ pub(crate) fn serve<D: Disk, R: Source, W: Sink>(
     ensures accepted { (whole : List ℕ) → IsReading R.left whole [] lines.old → IsFirstOf R.left whole (map seen log.new.accepted.items) lines.new }
     ensures all { OnOk result ((whole : List ℕ) → IsReading R.left whole [] lines.old → map seen log.new.accepted.items ≡ through MOST_LINES (requests whole)) }
     ensures counted { OnOk result ((whole : List ℕ) → IsReading R.left whole [] lines.old → count_of lines.new ≡ min MOST_LINES (length (all_lines whole))) }
-    ensures formed { OnOk result ((first : Option (List ℕ × List ℕ)) → Stands first core.old log.old [] [] → AreFirstLines first log.new.accepted.items) }
+    ensures formed { (first : Option (List ℕ × List ℕ)) → Stands first core.old log.old [] [] → AreFirstLines first log.new.accepted.items }
+    ensures looked_at { (whole : List ℕ) → IsReading R.left whole [] lines.old → LooksAt R.left whole (map seen log.new.accepted.items) (most_waiting (status_in result)) lines.new }
     ensures written { OnOk result (HasWritten (W.taken out.old) (W.taken out.new) log.new.lines.items) }
     ensures front { OnErr result (WritesFirstOf (W.taken out.old) (W.taken out.new) (text_of log.new.lines.items)) }
     ensures disk_failed { IsErrOf result Stop.DiskFailed → Rose (D.faults_of (disk_of core.old)) (D.faults_of (disk_of core.new)) }
     ensures disk_later { D.faults_of (disk_of core.old) ≤ D.faults_of (disk_of core.new) }
     ensures read_failed { IsErrOf result Stop.ReadFailed → Rose (R.faults_of (source_of lines.old)) (R.faults_of (source_of lines.new)) }
+    ensures read_stands { IsErrOf result Stop.ReadFailed → (first : Option (List ℕ × List ℕ)) → Stands first core.old log.old [] [] → Stands first core.new log.new [] [] }
+    ensures read_serving { IsErrOf result Stop.ReadFailed → (since : ℕ) (start : List Frame) → IsServing D.moment_of D.left_since D.told D.image since start core.old → IsServing D.moment_of D.left_since D.told D.image since start core.new }
+    ensures read_written { IsErrOf result Stop.ReadFailed → HasWritten (W.taken out.old) (W.taken out.new) log.new.lines.items }
     ensures write_failed { IsErrOf result Stop.WriteFailed → Rose (W.faults_of out.old) (W.faults_of out.new) }
     ensures good_slot { IsErrOf result Stop.BadSlot → ⊥ }
     ensures not_built { IsErrOf result Stop.NotBuilt → EndsAtOdd R.left core.old log.old log.new lines.old lines.new ⊎ EndsAtLimit D.moment_of D.left_since D.told D.image core.old core.new }
@@ -73,7 +78,7 @@ fn answer<D: Disk, W: Sink>(
     ensures serving { OnOk result ((since : ℕ) (start : List Frame) → IsServing D.moment_of D.left_since D.told D.image since start core.old → IsServing D.moment_of D.left_since D.told D.image since start core.new) }
     ensures history { OnErr result ((since : ℕ) (start : List Frame) → IsServing D.moment_of D.left_since D.told D.image since start core.old → IsHistoryOf D.moment_of D.left_since D.image since start core.new) }
     ensures accepted { OnOk result (log.new.accepted.items ≡ log.old.accepted.items ++ line ∷ []) }
-    ensures accepted_at_most { OnErr result (AcceptsAtMost line log.old log.new) }
+    ensures stops { IfErr result (StopsAt (object_of core.old) line log.old log.new) }
     ensures formed { OnOk result (IsFirstLine (object_of core.old) line) }
     ensures written { OnOk result ((before : Option (List ℕ)) → HasWritten before (W.taken out.old) log.old.lines.items → HasWritten before (W.taken out.new) log.new.lines.items) }
     ensures front { OnErr result ((before : Option (List ℕ)) → HasWritten before (W.taken out.old) log.old.lines.items → WritesFirstOf before (W.taken out.new) (text_of log.new.lines.items)) }

@@ -1,2 +1,4 @@
 pub mod Lookups
 pub mod Places
+pub mod Printed
+pub mod Rows

@@ -2,25 +2,35 @@
 ghost use Rattle.std.specs.Prelude.{◌≡◌, ◌^◌, ◌<◌, length, position};
 ghost use Rattle.std.specs.Str.{bytes_eq};
 ghost use Rattle.do_tree.specs.Lookup.{is_constructor, is_named};
-ghost use Rattle.do_tree.specs.Seen.{method_of};
+ghost use Rattle.do_tree.specs.Faults.{IsFaultless};
+ghost use Rattle.do_tree.specs.Seen.{method_of, script_of};
 
 use crate::script::{Class, Method, MethodKind, Script};
 
-/// A script whose classes and methods are looked up by their names. Contracts see its tree, as `tree_of`. Its type doesn't
-/// keep yet that the check finds no fault in it, and nothing makes one.
+/// A script in which the check finds no fault. Its classes and methods are looked up by their names. Contracts see its
+/// tree, as `tree_of`.
 #[derive(Drop)]
 pub struct Checked {
     script: Script,
+    ghost faultless: { IsFaultless (script_of script) },
 }
 
 impl Checked {
     ghost use Rattle.do_tree.specs.Checked.{tree_of, methods_in};
     ghost use Rattle.do_tree.specs.Lookup.{class_named, constructor_of, alarm_of, method_named};
-    ghost use Rattle.do_tree.specs.Seen.{script_of};
+
+    /// The script, in which the check is to find no fault.
+    pub fn new(script: Script) -> Checked
+        requires { IsFaultless (script_of script) }
+        ensures { tree_of result ≡ script_of script }
+    {
+        Checked { script }
+    }
 
     /// The script itself.
     pub fn script(&self) -> &Script
-        ensures { script_of result.now ≡ tree_of self.now }
+        ensures tree { script_of result.now ≡ tree_of self.now }
+        ensures faultless { IsFaultless (tree_of self.now) }
     {
         &self.script
     }

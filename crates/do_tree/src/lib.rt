@@ -11,11 +11,16 @@
 
 mod checked;
 mod expr;
+mod kind;
+mod print;
+mod print_expr;
+mod print_word;
 mod script;
 mod stmt;
 
 pub use checked::Checked;
 pub use expr::{Arg, Callback, Chain, Expr, Link, Operand, Pair};
+pub use kind::CheckKind;
 pub use script::{Class, Method, MethodKind, Name, Script};
 pub use stmt::{Binding, Block, Item, Simple, Stmt, Write};
 

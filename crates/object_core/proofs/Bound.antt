@@ -3,7 +3,7 @@ use Rattle.std.proofs.Common.{◌≡◌, ◌⊎◌, inl, inr, ℕ, ◌+◌, ◌<
 use Rattle.std.specs.List.{All, slice_index_or}
 use Rattle.std.proofs.lemmas.List.{append-nil}
 use Rattle.batch_journal.specs.Frames.{Frame, batches_in}
-use Rattle.batch_journal.specs.declared.op.Op.{Op}
+use Rattle.storage_map.specs.declared.op.Op.{Op}
 use Rattle.object_core.specs.Said.{Said, spoken, batches_of, operations, messages_in}
 use Rattle.object_core.specs.Told.{told}
 use Rattle.object_core.specs.Turn.{entry}

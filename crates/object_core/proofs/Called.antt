@@ -5,9 +5,9 @@ use Rattle.batch_journal.specs.Frames.{Frame, Name, payload}
 use Rattle.batch_journal.specs.Moments.{LeavesOnly}
 use Rattle.batch_journal.specs.Rest.{IsAtRest, IsStaged, RecoversToOneOf, IsFull, needed}
 use Rattle.batch_journal.specs.Staged.{frame_of}
-use Rattle.batch_journal.specs.Stored.{value_in, value_after}
-use Rattle.batch_journal.specs.declared.op.Op.{Op}
-use Rattle.batch_journal.specs.declared.map.Map.{Map}
+use Rattle.storage_map.specs.Stored.{value_in, value_after}
+use Rattle.storage_map.specs.declared.op.Op.{Op}
+use Rattle.storage_map.specs.declared.map.Map.{Map}
 use Rattle.batch_journal.specs.declared.journal.Journal.{Journal}
 use Rattle.batch_journal.specs.declared.journal.AppendFault.{AppendFault}
 use Rattle.batch_journal.specs.declared.journal.AppendFault.TheVariants.{DiskFailed as AppendDiskFailed, Full as AppendFull}

@@ -11,7 +11,7 @@ use Rattle.batch_journal.specs.Recovery.{Recovers, IsJournal}
 use Rattle.batch_journal.specs.Staged.{frame_of}
 use Rattle.batch_journal.specs.Rest.{IsAtRest, RecoversToOneOf}
 use Rattle.batch_journal.specs.declared.journal.Journal.{Journal}
-use Rattle.batch_journal.specs.declared.op.Op.{Op}
+use Rattle.storage_map.specs.declared.op.Op.{Op}
 use Rattle.object_core.specs.Kept.{NameOnly, RecoversTo, RecoversToPrefix}
 
 -- the batches of joined frames

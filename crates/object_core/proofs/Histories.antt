@@ -4,7 +4,7 @@ use Rattle.std.specs.List.{All, slice_index_or}
 use Rattle.std.proofs.lemmas.List.Elements.{All-push}
 use Rattle.batch_journal.specs.Frames.{Frame, batches_in}
 use Rattle.batch_journal.specs.Moments.{LeavesOnly}
-use Rattle.batch_journal.specs.declared.op.Op.{Op}
+use Rattle.storage_map.specs.declared.op.Op.{Op}
 use Rattle.object_core.specs.Said.{Said, batch, message, spoken, batches_of, operations, messages_in, IsPrefix}
 use Rattle.object_core.specs.Told.{told}
 use Rattle.object_core.specs.Kept.{NameOnly, RecoversTo, RecoversToPrefix}

@@ -3,9 +3,7 @@ use Rattle.std.proofs.Common.{◌≡◌, ℕ, ◌+◌, ◌≤◌, List, [], ◌�
 use Rattle.std.specs.List.{All, slice_index_or}
 use Rattle.std.proofs.lemmas.List.{map-append, append-nil}
 use Rattle.std.proofs.lemmas.List.Elements.{All-push}
-use Rattle.batch_journal.specs.Stored.{value_after, value_step}
-use Rattle.batch_journal.specs.declared.op.Op.{Op}
-use Rattle.do_value.specs.declared.value.Value.{Value}
+use Rattle.storage_map.specs.declared.op.Op.{Op}
 use Rattle.object_core.specs.Said.{Said, batch, message, spoken, batches_of, operations, messages_in, IsPrefix}
 use Rattle.object_core.specs.Turn.{turn_says, turn_entries, entry}
 use Rattle.object_core.specs.History.{needs_of, AreNumbered, IsFirst}
@@ -73,11 +71,6 @@ all_left before release said ops reply all is needs =
   where
     pairs : (release : Release) (reply : Message) (needs : ℕ) → release.message ≡ reply → release.needs ≡ needs → ◌≡◌ {A = Message × ℕ} (release.message, release.needs) (reply, needs)
     pairs release reply needs is same = rw (is, same) refl
-
--- what a key has after operations and more of them
-pub value_after-append : (key : List ℕ) (old : Option Value) (ops more : List Op) → value_after key old (ops ++ more) ≡ value_after key (value_after key old ops) more
-value_after-append key old [] more = refl
-value_after-append key old (op ∷ ops) more = value_after-append key (value_step key old op) ops more
 
 -- what the logs say once the front has logged a turn and the back has taken a copy of it
 pub logs_turn : (front later_front : FrontLog) (back later_back : BackLog) (event : Event) (turn taken : Turn) (ops : Option (List Op)) → turn.batch ≡ ops → taken ≡ turn

@@ -6,7 +6,7 @@ use Rattle.std.proofs.lemmas.List.{append-nil}
 use Rattle.std.proofs.lemmas.List.Sums.{sum-map, sum_by-cons}
 use Rattle.do_value.specs.declared.value.Value.{Value}
 use Rattle.do_value.specs.declared.value.Value.TheVariants.{Undefined, Null, Bool, Num, Text, List as Listed, Rec}
-use Rattle.batch_journal.specs.declared.op.Op.{Op}
+use Rattle.storage_map.specs.declared.op.Op.{Op}
 use Rattle.object_core.specs.Said.{Said, batch, message, spoken, said_by, batches_of, operations, messages_in, IsPrefix}
 use Rattle.object_core.specs.Told.{told, event_says, read_says, set_says, reply, stored_by}
 use Rattle.object_core.specs.History.{AreNumbered}

@@ -9,9 +9,9 @@ use Rattle.batch_journal.specs.Moments.{LeavesOnly}
 use Rattle.batch_journal.specs.Recovery.{Recovers}
 use Rattle.batch_journal.specs.Rest.{IsAtRest, IsStaged, RecoversToOneOf}
 use Rattle.batch_journal.specs.Staged.{frame_of}
-use Rattle.batch_journal.specs.Stored.{value_in, value_after}
-use Rattle.batch_journal.specs.declared.op.Op.{Op}
-use Rattle.batch_journal.specs.declared.map.Map.{Map}
+use Rattle.storage_map.specs.Stored.{value_in, value_after}
+use Rattle.storage_map.specs.declared.op.Op.{Op}
+use Rattle.storage_map.specs.declared.map.Map.{Map}
 use Rattle.batch_journal.specs.declared.journal.Journal.{Journal}
 use Rattle.batch_journal.specs.declared.mount.Mounted.{Mounted}
 use Rattle.object_core.specs.Said.{Said, batch, message, spoken, batches_of, operations, messages_in, IsPrefix}
@@ -28,7 +28,8 @@ use Rattle.object_core.specs.declared.back_log.Release.{Release}
 use Rattle.object_core.specs.declared.object.Core.{Core}
 use Rattle.object_core.proofs.Saying.{spoken-append, batches_of-append, messages_in-append, operations-append, AreNumbered-append, told-push, event_says-same, sum-ones, IsPrefix-more}
 use Rattle.object_core.proofs.Crashes.{batches_in-append, longer_line, fewer, whole_line, part_of_line, at_rest_recovers}
-use Rattle.object_core.proofs.Logged.{Logs, still_first, turn_spoken, numbered_on, all_left, value_after-append}
+use Rattle.object_core.proofs.Logged.{Logs, still_first, turn_spoken, numbered_on, all_left}
+use Rattle.storage_map.proofs.Folds.{value_after-append}
 use Rattle.object_core.specs.declared.timeline.Entry.{Entry}
 use Rattle.object_core.proofs.Histories.{goes_on, releases, leaves_weaker, leaves_same}
 

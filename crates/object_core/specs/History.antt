@@ -3,7 +3,7 @@
 use Rattle.std.specs.Prelude.{◌≡◌, ℕ, ◌+◌, ◌≤◌, List, [], ◌∷◌, length, map, sum, Option}
 use Rattle.std.specs.List.{All}
 use Rattle.batch_journal.specs.Frames.{Frame, batches_in}
-use Rattle.batch_journal.specs.declared.op.Op.{Op}
+use Rattle.storage_map.specs.declared.op.Op.{Op}
 use Rattle.object_core.specs.Said.{spoken, batches_of, operations, messages_in, IsPrefix}
 use Rattle.object_core.specs.Told.{told}
 use Rattle.object_core.specs.Kept.{RecoversToPrefix}

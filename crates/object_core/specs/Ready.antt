@@ -2,9 +2,9 @@
 use Rattle.std.specs.Prelude.{◌≡◌, ℕ, ◌+◌, List, [], ◌∷◌, ◌++◌, length, Option, Some, None}
 use Rattle.batch_journal.specs.Frames.{Frame}
 use Rattle.batch_journal.specs.Rest.{IsAtRest, IsStaged}
-use Rattle.batch_journal.specs.Stored.{value_in, value_after}
-use Rattle.batch_journal.specs.declared.op.Op.{Op}
-use Rattle.batch_journal.specs.declared.map.Map.{Map}
+use Rattle.storage_map.specs.Stored.{value_in, value_after}
+use Rattle.storage_map.specs.declared.op.Op.{Op}
+use Rattle.storage_map.specs.declared.map.Map.{Map}
 use Rattle.batch_journal.specs.declared.journal.Journal.{Journal}
 use Rattle.object_core.specs.Turn.{turn_entries, HasFrontRoom, HasBackRoom, SameFront, SameBack, IsTurnOf}
 use Rattle.object_core.specs.declared.timeline.Event.{Event}

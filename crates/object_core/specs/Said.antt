@@ -3,7 +3,7 @@
 -- once every batch before it is durable.
 use Rattle.std.specs.Prelude.{◌≡◌, ℕ, ◌+◌, List, [], ◌∷◌, ◌++◌}
 use Rattle.std.specs.List.{flat_map}
-use Rattle.batch_journal.specs.declared.op.Op.{Op}
+use Rattle.storage_map.specs.declared.op.Op.{Op}
 use Rattle.object_core.specs.declared.timeline.Message.{Message}
 use Rattle.object_core.specs.declared.timeline.Entry.{Entry}
 use Rattle.object_core.specs.declared.timeline.Body.{Body}

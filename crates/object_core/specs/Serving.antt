@@ -4,12 +4,12 @@ use Rattle.do_value.specs.Tree.{size_of}
 use Rattle.do_value.specs.Seen.{tree_of}
 use Rattle.do_value.specs.declared.value.Value.{Value}
 use Rattle.do_value.specs.declared.value.Value.TheVariants.{Undefined, Null, Bool, Num, Text, List as Listed, Rec}
-use Rattle.batch_journal.specs.Limits.{most_key_bytes, most_stored_bytes}
+use Rattle.storage_map.specs.Limits.{most_key_bytes, most_stored_bytes}
 use Rattle.batch_journal.specs.Frames.{Frame, batches_in}
 use Rattle.batch_journal.specs.Staged.{frame_of}
 use Rattle.batch_journal.specs.Rest.{IsAtRest, IsStaged, needed}
-use Rattle.batch_journal.specs.Stored.{value_in}
-use Rattle.batch_journal.specs.declared.op.Op.{Op}
+use Rattle.storage_map.specs.Stored.{value_in}
+use Rattle.storage_map.specs.declared.op.Op.{Op}
 use Rattle.batch_journal.specs.declared.mount.Mounted.{Mounted}
 use Rattle.object_core.specs.Said.{spoken, batches_of, operations, messages_in}
 use Rattle.object_core.specs.Told.{event_says, stored_by}

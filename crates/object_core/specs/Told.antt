@@ -5,9 +5,9 @@
 use Rattle.std.specs.Prelude.{ℕ, List, [], ◌∷◌, ◌++◌, Option, None, Result, Ok, unwrap_or, if◌then◌else◌, ◌==◌}
 use Rattle.do_value.specs.declared.value.Value.{Value}
 use Rattle.do_value.specs.declared.value.Value.TheVariants.{Undefined, Text}
-use Rattle.batch_journal.specs.declared.op.Op.{Op}
-use Rattle.batch_journal.specs.declared.op.Op.TheVariants.{Put}
-use Rattle.batch_journal.specs.Stored.{value_after}
+use Rattle.storage_map.specs.declared.op.Op.{Op}
+use Rattle.storage_map.specs.declared.op.Op.TheVariants.{Put}
+use Rattle.storage_map.specs.Stored.{value_after}
 use Rattle.object_core.specs.Said.{Said, batch, message, batches_of, operations}
 use Rattle.object_core.specs.declared.timeline.Caller.{Caller}
 use Rattle.object_core.specs.declared.timeline.Message.{Message}

@@ -1,9 +1,9 @@
 -- One event's run, as what it says and as entries of the logs.
 use Rattle.std.specs.Prelude.{◌≡◌, ℕ, ◌+◌, ◌≤◌, List, [], ◌∷◌, ◌++◌, Option, Some, None, vec_len}
 use Rattle.std.specs.Vec.{vec_capacity}
-use Rattle.batch_journal.specs.declared.op.Op.{Op}
-use Rattle.batch_journal.specs.Stored.{value_in}
-use Rattle.batch_journal.specs.declared.map.Map.{Map}
+use Rattle.storage_map.specs.declared.op.Op.{Op}
+use Rattle.storage_map.specs.Stored.{value_in}
+use Rattle.storage_map.specs.declared.map.Map.{Map}
 use Rattle.object_core.specs.Said.{Said, batch, message}
 use Rattle.object_core.specs.Told.{event_says}
 use Rattle.object_core.specs.declared.timeline.Event.{Event}

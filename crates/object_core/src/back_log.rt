@@ -6,9 +6,9 @@ ghost use Rattle.object_core.specs.Turn.{entry, turn_entries, HasBackRoom, SameB
 use crate::front_log::{push_body, push_turn};
 use crate::timeline::{Body, Cause, Entry, Message};
 use crate::turn::Turn;
-use batch_journal::Identity;
 use do_value::{Mem, NoMemory};
 use std::alloc::Global;
+use storage_map::Identity;
 
 /// The history of an object's back.
 #[derive(Debug, Drop)]

@@ -2,12 +2,12 @@
 ghost use Rattle.std.specs.Prelude.{◌≡◌, ◌≢◌, ◌≤◌, ◌++◌, ◌∷◌, [], ℕ, List, None, Some, IsSome, IfOk, OnOk, OnErr, IsErrOf};
 ghost use Rattle.std.specs.Result.{result_map_both};
 ghost use Rattle.do_disk.specs.Disk.{Rose};
-ghost use Rattle.batch_journal.specs.declared.op.Op.{Op};
+ghost use Rattle.storage_map.specs.declared.op.Op.{Op};
 ghost use Rattle.batch_journal.specs.Frames.{Frame, Name};
 ghost use Rattle.batch_journal.specs.Moments.{LeavesOnly};
 ghost use Rattle.batch_journal.specs.Staged.{frame_of};
 ghost use Rattle.batch_journal.specs.Rest.{IsAtRest, IsStaged, CanAppend, RecoversToOneOf, IsFull};
-ghost use Rattle.batch_journal.specs.Stored.{value_in, value_after};
+ghost use Rattle.storage_map.specs.Stored.{value_in, value_after};
 ghost use Rattle.object_core.specs.Turn.{HasFrontRoom, HasBackRoom, IsTurnOf};
 ghost use Rattle.object_core.specs.Ready.{LogsTurn, Lands, SameCore, SameJournal, IsReady, IsStagedTurn};
 ghost use Rattle.object_core.specs.Serving.{IsServing, CanServe, IsHistoryOf, IsFirstForm, IsFullCall, Releases, SameLogs, limit_in, object_of, disk_of, front_of, back_of};
@@ -15,10 +15,11 @@ ghost use Rattle.object_core.specs.Serving.{IsServing, CanServe, IsHistoryOf, Is
 use crate::object::{CallEnd, Core};
 use crate::timeline::{Event, Message};
 use crate::turn::{Copies, Turn, run_event};
-use batch_journal::{AppendFault, Batch, Identity, Journal, Map};
+use batch_journal::{AppendFault, Journal};
 use do_disk::Disk;
 use do_value::Mem;
 use std::alloc::Global;
+use storage_map::{Batch, Identity, Map};
 
 impl<D: Disk> Core<D> {
     /// Gives the core its object. After `NoMemory` it has none, and its logs say the same as before.

@@ -5,9 +5,9 @@ ghost use Rattle.object_core.specs.Turn.{entry, turn_entries, HasFrontRoom, Same
 
 use crate::timeline::{Body, Cause, Entry, Event};
 use crate::turn::Turn;
-use batch_journal::Identity;
 use do_value::{Mem, NoMemory};
 use std::alloc::Global;
+use storage_map::Identity;
 
 /// The history of an object's front. Each event stands with its incarnation, of which the first is 1.
 #[derive(Debug, Drop)]

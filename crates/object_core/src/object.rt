@@ -6,10 +6,11 @@ ghost use Rattle.object_core.specs.Serving.{IsMounted, IsServing, limit_in, obje
 
 use crate::back_log::BackLog;
 use crate::front_log::FrontLog;
-use batch_journal::{AppendFault, Identity, Journal, Map, Mounted};
+use batch_journal::{AppendFault, Journal, Mounted};
 use do_disk::Disk;
 use do_value::NoMemory;
 use std::alloc::Global;
+use storage_map::{Identity, Map};
 use thiserror::Error;
 
 /// One object on one thread, over its mounted slot.

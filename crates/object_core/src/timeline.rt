@@ -1,8 +1,8 @@
 //! What an object is told, and what it says.
 ghost use Rattle.std.specs.Prelude.{◌≡◌, IfOk};
 
-use batch_journal::{Batch, Identity};
 use do_value::{Args, Mem, Value};
+use storage_map::{Batch, Identity};
 
 /// Who waits for the answer to a call.
 #[derive(Clone, Copy, Debug, Drop)]

@@ -1,17 +1,17 @@
 //! One event's run: the two methods of the script of the first form.
 ghost use Rattle.std.specs.Prelude.{◌≡◌, ◌∷◌, [], ◌≤◌, ◌≢◌, None, Some, IfOk, length, unwrap_or};
 ghost use Rattle.do_value.specs.declared.value.Value.TheVariants.{Undefined, Text};
-ghost use Rattle.batch_journal.specs.declared.op.Op.TheVariants.{Put};
-ghost use Rattle.batch_journal.specs.Limits.{most_key_bytes};
-ghost use Rattle.batch_journal.specs.Stored.{value_in};
+ghost use Rattle.storage_map.specs.declared.op.Op.TheVariants.{Put};
+ghost use Rattle.storage_map.specs.Limits.{most_key_bytes};
+ghost use Rattle.storage_map.specs.Stored.{value_in};
 ghost use Rattle.object_core.specs.Told.{event_says, reply};
 ghost use Rattle.object_core.specs.Turn.{turn_says};
 ghost use Rattle.object_core.specs.Serving.{IsFirstForm, IsStorable};
 
 use crate::timeline::{Caller, Event, Message};
-use batch_journal::{Batch, Key, KeyFault, Map, Op};
 use do_value::{Mem, NoMemory, Text, Value, laws};
 use std::alloc::Global;
+use storage_map::{Batch, Key, KeyFault, Map, Op};
 
 /// What a turn says: a batch, where it writes, and then its reply.
 #[derive(Debug, Drop)]

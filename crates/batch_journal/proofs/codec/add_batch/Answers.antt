@@ -1,5 +1,5 @@
 use Rattle.std.proofs.Common.{◌≡◌, length, ap, arith}
-use Rattle.batch_journal.proofs.Sizes.{count-le_bytes, length-batch_bytes}
+use Rattle.storage_map.proofs.Sizes.{count-le_bytes, length-batch_bytes}
 use Rattle.batch_journal.proofs.codec.add_batch.Goals as goal
 
 pub overflow_cast-ops : goal.overflow_cast-ops

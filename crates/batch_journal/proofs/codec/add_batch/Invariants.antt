@@ -1,6 +1,6 @@
 use Rattle.std.proofs.Common.{◌≡◌, ◌++◌, drop}
 use Rattle.std.specs.List.{flat_map}
-use Rattle.batch_journal.specs.Ops.{op_bytes, batch_bytes}
+use Rattle.storage_map.specs.Ops.{op_bytes, batch_bytes}
 use Rattle.batch_journal.proofs.codec.add_batch.Given as goal
 
 -- with the operations that are left, the bytes are those of the batch

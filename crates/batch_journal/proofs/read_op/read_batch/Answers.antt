@@ -1,5 +1,5 @@
 use Rattle.std.proofs.Common.{◌≤◌, ◌-◌, length, arith}
-use Rattle.batch_journal.specs.Limits.{most_batch_bytes}
+use Rattle.storage_map.specs.Limits.{most_batch_bytes}
 use Rattle.batch_journal.proofs.ReadOps.{ops_shorter, batch_good}
 use Rattle.batch_journal.proofs.read_op.read_batch.Goals as goal
 

@@ -1,7 +1,7 @@
 use Rattle.std.proofs.Common.{◌≡◌, ◌++◌, ◌∷◌, [], ◌+◌, ◌-◌, List, sym, subst, rules}
 use Rattle.std.proofs.lemmas.Result.{err_from_is_err_and}
 use Rattle.batch_journal.specs.Parsing.{many_at, batch_at}
-use Rattle.batch_journal.specs.declared.op.Op.{Op}
+use Rattle.storage_map.specs.declared.op.Op.{Op}
 use Rattle.batch_journal.proofs.ReadLoops.{with_front, many_go_on, many_end, many_done}
 use Rattle.batch_journal.proofs.read_payload.read_many_batches.Goals as goal
 

@@ -1,7 +1,7 @@
 use Rattle.std.proofs.Common.{◌≡◌, List, [], ◌∷◌, Option, None, subst}
 use Rattle.std.proofs.lemmas.List.Elements.{All-nil}
 use Rattle.batch_journal.specs.Frames.{Frame}
-use Rattle.batch_journal.specs.Limits.{Object}
+use Rattle.storage_map.specs.Limits.{Object}
 use Rattle.batch_journal.specs.Reading.{IsObjectOf}
 use Rattle.batch_journal.specs.Rest.{IsAtRest}
 use Rattle.batch_journal.proofs.Held.{none_named, none_left}

@@ -1,7 +1,7 @@
-use Rattle.std.proofs.Common.{◌++◌, [], Ok, ◌≡◌, refl, sym, ap, ◌∙◌, arith}
+use Rattle.std.proofs.Common.{[], Ok, ap, ◌∙◌, arith}
 use Rattle.std.proofs.lemmas.Result.{err_from_is_err_and}
 use Rattle.do_host.proofs.Taking.{given_on, takes_at_end, takes_last, takes_none, takes_room, taking_on}
-use Rattle.do_host.proofs.Counts.{reads_ok, reads_failed, reads_refused}
+use Rattle.do_host.proofs.Counts.{reads_failed, reads_refused}
 use Rattle.do_host.proofs.cut.cut.Goals as goal
 
 pub returns-in_err-next-clause-line : goal.returns-in_err-next-clause-line

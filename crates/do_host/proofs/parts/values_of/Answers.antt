@@ -1,4 +1,3 @@
-use Rattle.std.proofs.Common.{◌≡◌}
 use Rattle.do_host.proofs.Values.{done_none, done_on, done_fail, done_all}
 use Rattle.do_host.proofs.parts.values_of.Goals as goal
 

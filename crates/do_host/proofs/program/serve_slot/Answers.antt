@@ -2,8 +2,10 @@ use Rattle.std.proofs.Common.{◌≡◌, ◌++◌, ◌∷◌, [], sym, ap, subst
 use Rattle.do_host.specs.Report.{IsSlotHistory, IsQuiet}
 use Rattle.do_host.specs.NotBuilt.{IsNotBuilt}
 use Rattle.do_host.specs.Opened.{row_of}
-use Rattle.do_host.proofs.Rows.{all_one, row_history, row_quiet, row_failed, disk_end, ends_written}
-use Rattle.do_host.proofs.Unbuilt.{unbuilt_end, row_not_built, row_formed}
+use Rattle.do_host.specs.Status.{status_in, IsStatus}
+use Rattle.do_host.proofs.Rows.{all_one, row_history, row_quiet, row_failed, ends_written}
+use Rattle.do_host.proofs.Unbuilt.{row_not_built, row_formed}
+use Rattle.do_host.proofs.Outcomes.{good_end, disk_end, read_end, unbuilt_end, end_status}
 use Rattle.do_host.proofs.program.serve_slot.Goals as goal
 
 pub returns-clause-history : goal.returns-clause-history
@@ -22,9 +24,34 @@ pub returns-clause-quiet : goal.returns-clause-quiet
 returns-clause-quiet g c = λ zero content opened.
     let next = c.serve-served.new.core in
     let one : c.add_row.new.slots.items ≡ row_of next ∷ [] = c.add_row.ensures ∙ ap (λ rows. rows ++ row_of next ∷ []) c.requires.empty.slots in
+    let good : status_in c.serve-served.result ≡ 0 = sym c.status_of.ensures ∙ zero in
     all_one (IsQuiet content c.serve-served.new.log) c.add_row.new.slots.items (row_of next) one
-    (row_quiet g.D.Disk.moment_of g.D.Disk.left_since g.D.Disk.told g.D.Disk.image content c.args.core next c.args.report.now.switch c.serve-served.new.log c.serve-served.result opened
-    c.requires.fresh c.requires.empty.switch (sym c.status_of.ensures ∙ zero) c.serve-served.ensures.stands c.serve-served.ensures.serving)
+    (row_quiet g.D.Disk.moment_of g.D.Disk.left_since g.D.Disk.told g.D.Disk.image content c.args.core next c.args.report.now.switch c.serve-served.new.log opened
+    c.requires.fresh c.requires.empty.switch (good_end c.serve-served.result _ good c.serve-served.ensures.stands) (good_end c.serve-served.result _ good c.serve-served.ensures.serving))
+
+pub returns-clause-quiet_at_read_fault : goal.returns-clause-quiet_at_read_fault
+returns-clause-quiet_at_read_fault g c = λ five content opened.
+    let next = c.serve-served.new.core in
+    let one : c.add_row.new.slots.items ≡ row_of next ∷ [] = c.add_row.ensures ∙ ap (λ rows. rows ++ row_of next ∷ []) c.requires.empty.slots in
+    let failed = read_end c.serve-served.result (sym c.status_of.ensures ∙ five) in
+    all_one (IsQuiet content c.serve-served.new.log) c.add_row.new.slots.items (row_of next) one
+    (row_quiet g.D.Disk.moment_of g.D.Disk.left_since g.D.Disk.told g.D.Disk.image content c.args.core next c.args.report.now.switch c.serve-served.new.log opened
+    c.requires.fresh c.requires.empty.switch (c.serve-served.ensures.read_stands failed) (c.serve-served.ensures.read_serving failed))
+
+pub returns-clause-written_at_read_fault : goal.returns-clause-written_at_read_fault
+returns-clause-written_at_read_fault g c = λ five. c.serve-served.ensures.read_written (read_end c.serve-served.result (sym c.status_of.ensures ∙ five))
+
+pub returns-clause-looked_at : goal.returns-clause-looked_at
+returns-clause-looked_at g c = λ whole told.
+    rw (c.status_of.ensures, c.count-report.ensures.value, c.into_source.ensures) (c.serve-served.ensures.looked_at whole (c.new-lines.ensures.reading whole told))
+
+pub returns-clause-all_counted : goal.returns-clause-all_counted
+returns-clause-all_counted g c = λ zero whole told.
+    let good : status_in c.serve-served.result ≡ 0 = sym c.status_of.ensures ∙ zero in
+    c.count-report.ensures.value ∙ good_end c.serve-served.result _ good c.serve-served.ensures.counted whole (c.new-lines.ensures.reading whole told)
+
+pub returns-clause-statuses : goal.returns-clause-statuses
+returns-clause-statuses g c = subst IsStatus (sym c.status_of.ensures) (end_status c.serve-served.result)
 
 pub returns-clause-failed : goal.returns-clause-failed
 returns-clause-failed g c = λ three.
@@ -42,7 +69,7 @@ returns-clause-not_built g c = λ eight content opened.
     all_one (IsNotBuilt content (g.R.Source.left c.args.input) (g.R.Source.left c.into_source.result) c.serve-served.new.log) c.add_row.new.slots.items (row_of next) one
     (subst (λ source. IsNotBuilt content (g.R.Source.left c.args.input) (g.R.Source.left source) c.serve-served.new.log (row_of next)) (sym c.into_source.ensures) row)
 
-pub returns-clause-all_formed : goal.returns-clause-all_formed
-returns-clause-all_formed g c = λ zero content opened.
-    row_formed g.D.Disk.moment_of g.D.Disk.left_since g.D.Disk.told g.D.Disk.image content c.args.core c.args.report.now.switch c.serve-served.new.log c.serve-served.result opened
-    c.requires.fresh c.requires.empty.switch (sym c.status_of.ensures ∙ zero) c.serve-served.ensures.formed
+pub returns-clause-formed : goal.returns-clause-formed
+returns-clause-formed g c = λ content opened.
+    row_formed g.D.Disk.moment_of g.D.Disk.left_since g.D.Disk.told g.D.Disk.image content c.args.core c.args.report.now.switch c.serve-served.new.log opened
+    c.requires.fresh c.requires.empty.switch c.serve-served.ensures.formed

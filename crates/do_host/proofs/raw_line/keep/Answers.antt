@@ -1,5 +1,4 @@
-use Rattle.std.proofs.Common.{sym, ◌∙◌, arith, take, length, ◌∷◌, [], ◌++◌, ◌≡◌, length-append}
-use Rattle.std.proofs.lemmas.Grind.{common_steps}
+use Rattle.std.proofs.Common.{sym, ◌∙◌, arith, ◌∷◌, [], ◌++◌, length-append}
 use Rattle.do_host.specs.declared.TheConstants.{MOST_LINE_BYTES}
 use Rattle.do_host.proofs.Keeping.{take_full, take_short}
 use Rattle.do_host.proofs.raw_line.keep.Goals as goal

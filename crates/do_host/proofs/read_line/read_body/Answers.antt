@@ -1,4 +1,4 @@
-use Rattle.std.proofs.Common.{◌≡◌, refl, ap, ◌∙◌}
+use Rattle.std.proofs.Common.{refl}
 use Rattle.do_host.proofs.Texts.{no_text, read_text}
 use Rattle.do_host.proofs.read_line.read_body.Goals as goal
 

@@ -1,6 +1,6 @@
-use Rattle.std.proofs.Common.{◌≡◌, ◌++◌, ◌∷◌, [], refl, sym, ap, ◌∙◌}
-use Rattle.do_host.specs.Text.{text}
-use Rattle.do_host.proofs.Written.{front_same, part_written, on_err}
+use Rattle.std.proofs.Common.{◌++◌, ◌∷◌, [], refl, ap, ◌∙◌}
+use Rattle.do_host.proofs.Outcomes.{on_err}
+use Rattle.do_host.proofs.Written.{front_same, part_written}
 use Rattle.do_host.proofs.routing.route.Goals as goal
 
 pub returns-in_err-line-clause-front : goal.returns-in_err-line-clause-front

@@ -1,4 +1,4 @@
-use Rattle.std.proofs.Common.{rules, ◌≡◌, ◌⊎◌, inr, [], ◌∷◌, ◌∙◌, ℕ, List, Option, refl, sym, subst}
+use Rattle.std.proofs.Common.{rules, ◌≡◌, ◌⊎◌, ⊎_elim, inl, inr, [], ◌∷◌, ◌∙◌, ℕ, List, Option, refl, sym, subst}
 use Rattle.std.proofs.lemmas.Result.{err_from_is_err_and}
 use Rattle.batch_journal.specs.Frames.{Frame}
 use Rattle.object_core.specs.Serving.{IsServing, IsHistoryOf, object_of, front_of}
@@ -6,10 +6,12 @@ use Rattle.do_host.specs.FirstForm.{IsFirstLine}
 use Rattle.do_host.specs.NotBuilt.{MeetsLimit}
 use Rattle.do_host.specs.Status.{call_stop}
 use Rattle.do_host.specs.declared.stop.Stop.TheVariants.{NotBuilt}
-use Rattle.do_host.specs.Served.{Stands, IsLogged, SameSwitch, Routes}
-use Rattle.do_host.proofs.Standing.{stands_called, stands_routed, logged_same, logged_refused, logged_routed, delivered_on, released_on, on_ok, on_ok_map, on_err_map}
-use Rattle.do_host.proofs.Written.{front_same, on_err}
-use Rattle.do_host.proofs.Unbuilt.{ends_at_limit, end_is}
+use Rattle.do_host.specs.declared.stop.Stop.{Stop}
+use Rattle.do_host.specs.Served.{Stands, IsLogged, SameSwitch, Routes, StopsAt}
+use Rattle.do_host.proofs.Standing.{stands_called, stands_routed, logged_same, logged_refused, logged_routed, delivered_on, released_on}
+use Rattle.do_host.proofs.Outcomes.{on_ok, on_err, on_ok_map, on_err_map, on_err_if, if_err, end_is}
+use Rattle.do_host.proofs.Written.{front_same}
+use Rattle.do_host.proofs.Unbuilt.{ends_at_limit}
 use Rattle.do_host.proofs.serving.answer.Goals as goal
 
 pub returns-then-not-is_first_form-clause-front : goal.returns-then-not-is_first_form-clause-front
@@ -90,3 +92,21 @@ pub returns-clause-formed : goal.returns-clause-formed
 returns-clause-formed g c =
     let form : IsFirstLine (object_of c.args.core.now) c.args.line = search rules in
     on_ok c.route.result _ form
+
+pub returns-in_err-event-clause-stops : goal.returns-in_err-event-clause-stops
+returns-in_err-event-clause-stops g c =
+    let p = err_from_is_err_and c.from_residual.result c.from_residual.ensures.1 in
+    if_err c.from_residual.result p.0 (StopsAt (object_of c.args.core.now) c.args.line c.args.log.now c.post.new.log) p.1 (inl (c.in_err-event.ensures.same.accepted, inl p.2))
+
+pub returns-in_err-message-clause-stops : goal.returns-in_err-message-clause-stops
+returns-in_err-message-clause-stops g c =
+    let p = err_from_is_err_and c.from_residual-in_err-message.result c.from_residual-in_err-message.ensures.1 in
+    let form : IsFirstLine (object_of c.args.core.now) c.args.line = search rules in
+    if_err c.from_residual-in_err-message.result p.0 (StopsAt (object_of c.args.core.now) c.args.line c.args.log.now c.post.new.log) p.1 (inr (c.in_ok-event.ensures.accepted, form))
+
+pub returns-clause-stops : goal.returns-clause-stops
+returns-clause-stops g c =
+    let form : IsFirstLine (object_of c.args.core.now) c.args.line = search rules in
+    let stops : SameSwitch c.post.new.log c.route.new.log ⊎ Routes c.in_ok-message.message c.post.new.log c.route.new.log → (stop : Stop) → StopsAt (object_of c.args.core.now) c.args.line c.args.log.now c.route.new.log stop =
+    λ end stop. inr (⊎_elim (λ same. same.accepted) (λ routes. routes.accepted) end ∙ c.in_ok-event.ensures.accepted, form) in
+    on_err_if c.route.result _ _ stops c.route.ensures.stopped

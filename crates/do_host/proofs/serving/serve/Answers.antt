@@ -1,10 +1,15 @@
-use Rattle.std.proofs.Common.{sym, ap, subst, ◌∙◌, arith, Ok, Err, inl, inr, ⊎_elim}
+use Rattle.std.proofs.Common.{map, Option, sym, ap, subst, ◌∙◌, arith, Ok, Err, inl, inr, ⊎_elim}
 use Rattle.std.proofs.lemmas.Result.{err_from_is_err_and}
 use Rattle.object_core.specs.Serving.{object_of, front_of}
 use Rattle.do_host.specs.NotBuilt.{MeetsLimit}
-use Rattle.do_host.proofs.Accepting.{reading_on, first_at_most, first_none}
-use Rattle.do_host.proofs.Written.{written_all, on_err}
-use Rattle.do_host.proofs.Unbuilt.{odd_next, odd_through, formed_on}
+use Rattle.do_host.specs.Lines.{LooksAt}
+use Rattle.do_host.specs.Seen.{seen}
+use Rattle.do_host.specs.Status.{status_in, most_waiting}
+use Rattle.do_host.proofs.Accepting.{reading_on, first_at_stop, first_none, looked_at_stop, looked_none_more}
+use Rattle.do_host.proofs.Outcomes.{on_err, waiting_fault}
+use Rattle.do_host.proofs.Written.{written_all}
+use Rattle.do_host.proofs.Unbuilt.{odd_next, odd_through, formed_on, formed_at_stop}
+use Rattle.do_host.specs.declared.line.Line.{Line}
 use Rattle.do_host.proofs.serving.serve.Goals as goal
 
 pub returns-in_err-line-clause-history : goal.returns-in_err-line-clause-history
@@ -16,6 +21,22 @@ returns-in_err-line-clause-accepted g c = λ whole reading.
 
 pub returns-in_err-line-clause-front : goal.returns-in_err-line-clause-front
 returns-in_err-line-clause-front g c = on_err _ _ (written_all _ _ _ c.loop-line.invariant.written)
+
+pub returns-in_err-line-clause-formed : goal.returns-in_err-line-clause-formed
+returns-in_err-line-clause-formed g c = λ first stands. c.loop-line.invariant.formed first stands
+
+pub returns-in_err-line-clause-looked_at : goal.returns-in_err-line-clause-looked_at
+returns-in_err-line-clause-looked_at g c = λ whole reading.
+    let p = err_from_is_err_and c.from_residual.result c.from_residual.ensures.1 in
+    subst (λ r. LooksAt g.R.Source.left whole (map seen c.loop-line.log.accepted.items) (most_waiting (status_in r)) c.next.new.self) (sym (p.1 ∙ ap Err p.2))
+    (looked_none_more g.R.Source.left whole (map seen c.loop-line.log.accepted.items) _ _ c.next.new.self (waiting_fault (Option Line) c.in_err-line.field-0.0)
+    (c.in_err-line.ensures.looked_at whole _ (c.loop-line.invariant.reading whole reading)))
+
+pub returns-in_err-line-clause-read_stands : goal.returns-in_err-line-clause-read_stands
+returns-in_err-line-clause-read_stands g c = λ failed first stands. c.loop-line.invariant.stands first stands
+
+pub returns-in_err-line-clause-read_serving : goal.returns-in_err-line-clause-read_serving
+returns-in_err-line-clause-read_serving g c = λ failed since start serving. c.loop-line.invariant.serving since start serving
 
 pub loop-line-preserved : goal.loop-line-preserved
 loop-line-preserved g c = record {
@@ -38,7 +59,7 @@ returns-in_err-answer-clause-history g c = λ since start serving. c.in_err-answ
 
 pub returns-in_err-answer-clause-accepted : goal.returns-in_err-answer-clause-accepted
 returns-in_err-answer-clause-accepted g c = λ whole reading.
-    first_at_most g.R.Source.left whole c.loop-line.log.accepted.items c.answer.new.log.accepted.items c.in-Some.line c.next.new.self c.in_err-answer.ensures.accepted_at_most
+    first_at_stop g.R.Source.left whole (object_of c.loop-line.core) c.loop-line.log c.answer.new.log c.in-Some.line c.in_err-answer.field-0.0 c.next.new.self c.in_err-answer.ensures.stops
     (rw c.in-Some.is at c.in_ok-line.ensures.first whole _ (c.loop-line.invariant.reading whole reading))
 
 pub returns-clause-history : goal.returns-clause-history
@@ -64,3 +85,21 @@ returns-in_err-answer-clause-not_built g c = λ stop.
       odd = λ first stands. odd_through c.loop-line.core c.loop-line.log c.answer.new.log c.in-Some.line first (c.loop-line.invariant.stands first stands) odd.same_log odd.odd;
     })) (λ full. inr (λ since start serving. subst (λ limit. MeetsLimit limit start (object_of c.answer.new.core) (front_of c.answer.new.core)) c.loop-line.invariant.limit (full since start (c.loop-line.invariant.serving since start serving))))
     (c.in_err-answer.ensures.not_built (ap Err (sym p.2) ∙ sym p.1 ∙ stop))
+
+pub returns-in_err-answer-clause-formed : goal.returns-in_err-answer-clause-formed
+returns-in_err-answer-clause-formed g c = λ first stands.
+    formed_at_stop c.loop-line.core c.loop-line.log c.answer.new.log c.in-Some.line c.in_err-answer.field-0.0 first (c.loop-line.invariant.stands first stands) c.in_err-answer.ensures.stops (c.loop-line.invariant.formed first stands)
+
+pub returns-in_err-answer-clause-looked_at : goal.returns-in_err-answer-clause-looked_at
+returns-in_err-answer-clause-looked_at g c = λ whole reading.
+    let p = err_from_is_err_and c.from_residual-in_err-answer.result c.from_residual-in_err-answer.ensures.1 in
+    subst (λ r. LooksAt g.R.Source.left whole (map seen c.answer.new.log.accepted.items) (most_waiting (status_in r)) c.next.new.self) (sym (p.1 ∙ ap Err p.2))
+    (looked_at_stop g.R.Source.left whole (object_of c.loop-line.core) c.loop-line.log c.answer.new.log c.in-Some.line c.in_err-answer.field-0.0 c.next.new.self c.in_err-answer.ensures.stops
+    (rw c.in-Some.is at c.in_ok-line.ensures.looked_at whole _ (c.loop-line.invariant.reading whole reading)))
+
+pub returns-clause-formed : goal.returns-clause-formed
+returns-clause-formed g c = λ first stands. c.loop-line.invariant.formed first stands
+
+pub returns-clause-looked_at : goal.returns-clause-looked_at
+returns-clause-looked_at g c = λ whole reading.
+    looked_none_more g.R.Source.left whole (map seen c.loop-line.log.accepted.items) 0 0 c.next.new.self (omega arith) (rw c.in_default.is at c.in_ok-line.ensures.looked_at whole _ (c.loop-line.invariant.reading whole reading))

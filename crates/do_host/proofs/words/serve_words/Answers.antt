@@ -1,4 +1,4 @@
-use Rattle.std.proofs.Common.{◌≡◌, refl, sym, ◌∙◌, string_bytes}
+use Rattle.std.proofs.Common.{refl, sym, ◌∙◌, string_bytes}
 use Rattle.do_host.proofs.Wording.{three_words}
 use Rattle.do_host.proofs.words.serve_words.Goals as goal
 

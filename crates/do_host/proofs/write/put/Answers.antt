@@ -1,4 +1,4 @@
-use Rattle.std.proofs.Common.{◌≡◌, ◌≤◌, ◌∙◌, length, drop, arith}
+use Rattle.std.proofs.Common.{◌≤◌, ◌∙◌, length, drop, arith}
 use Rattle.std.proofs.lemmas.List.{length-drop}
 use Rattle.do_host.proofs.Putting.{taken_on, rest_is}
 use Rattle.do_host.proofs.write.put.Goals as goal

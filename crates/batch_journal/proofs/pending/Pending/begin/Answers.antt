@@ -1,8 +1,8 @@
 use Rattle.std.proofs.Common.{◌≡◌, ◌+◌, ℕ, [], ◌++◌, refl, ◌∙◌, ap}
 use Rattle.std.specs.Prelude.{replicate}
 use Rattle.std.proofs.lemmas.List.Elements.{All-nil, All-cons}
-use Rattle.batch_journal.specs.Ops.{IsBatch, batch_bytes}
-use Rattle.batch_journal.specs.Frames.{object_bytes}
+use Rattle.storage_map.specs.Ops.{IsBatch, batch_bytes}
+use Rattle.storage_map.specs.Ops.{object_bytes}
 use Rattle.batch_journal.proofs.Blocks.{one_batch_unsealed}
 use Rattle.batch_journal.proofs.pending.Pending.begin.Goals as goal
 

@@ -1,7 +1,7 @@
 use Rattle.std.proofs.Common.{◌≡◌, ◌+◌, ◌-◌, ℕ, List, [], ◌∷◌, ◌++◌, length, take, drop, ◌∙◌, ap, arith, length-append}
 use Rattle.std.proofs.lemmas.List.{with_items_is}
 use Rattle.std.proofs.lemmas.List.Elements.{All-push}
-use Rattle.batch_journal.specs.Ops.{IsBatch, batch_bytes}
+use Rattle.storage_map.specs.Ops.{IsBatch, batch_bytes}
 use Rattle.batch_journal.specs.Staged.{frame_of}
 use Rattle.batch_journal.proofs.Sizes.{batches-le_bytes, length-payload, length-payload_push}
 use Rattle.batch_journal.proofs.Blocks.{length-unsealed, more_unsealed}

@@ -1,4 +1,4 @@
-use Rattle.std.proofs.Common.{◌≡◌, [], sym, ◌∙◌, ap, arith, length, take, ◌≤◌}
+use Rattle.std.proofs.Common.{sym, ◌∙◌, arith}
 use Rattle.do_host.proofs.Reading.{read_starts, nothing_left, nothing_read}
 use Rattle.do_host.proofs.buffer.Buffer.fill.Goals as goal
 

@@ -1,5 +1,5 @@
-use Rattle.std.proofs.Common.{◌≡◌, [], ◌++◌, None, refl, sym, ◌∙◌}
-use Rattle.do_host.proofs.Reading.{given_held, given_read, none_given}
+use Rattle.std.proofs.Common.{refl, sym}
+use Rattle.do_host.proofs.Reading.{given_read, none_given}
 use Rattle.do_host.proofs.bytes.Bytes.next.Goals as goal
 
 pub returns-in_ok-fill-in-None-clause-gives : goal.returns-in_ok-fill-in-None-clause-gives

@@ -1,13 +1,13 @@
-use Rattle.std.proofs.Common.{◌≡◌, ◌+◌, [], refl, sym, ap, ◌∙◌, arith}
+use Rattle.std.proofs.Common.{◌+◌, refl, sym, ◌∙◌, arith}
 use Rattle.std.proofs.lemmas.Result.{err_from_is_err_and}
-use Rattle.do_host.proofs.ReadOn.{stays_on, reads_line, reads_end, reads_most, reads_fault}
+use Rattle.do_host.proofs.ReadOn.{stays_on, reads_line, reads_end, reads_most, reads_fault, reads_refused}
 use Rattle.do_host.proofs.Counts.{reads_ok}
 use Rattle.do_host.proofs.lines.Lines.read.Goals as goal
 
 pub returns-in_err-raw-clause-on : goal.returns-in_err-raw-clause-on
 returns-in_err-raw-clause-on g c =
     let p = err_from_is_err_and c.from_residual.result c.from_residual.ensures.1 in
-    rw p.1 (reads_fault g.R.Source.left c.args.self.now c.loop-self.self _ p.0 c.in_err-raw.ensures.line.0 c.loop-self.invariant.stays c.in_err-raw.ensures.line.1 c.loop-self.invariant.counted)
+    rw p.1 (reads_fault g.R.Source.left c.args.self.now c.loop-self.self _ p.0 c.in_err-raw.ensures.line.0 c.loop-self.invariant.stays c.in_err-raw.ensures.line.1 refl c.loop-self.invariant.counted)
 
 pub returns-in_default-clause-on : goal.returns-in_default-clause-on
 returns-in_default-clause-on g c =
@@ -17,7 +17,7 @@ pub returns-in_err-body-clause-on : goal.returns-in_err-body-clause-on
 returns-in_err-body-clause-on g c =
     let p = err_from_is_err_and c.from_residual-in_err-body.result c.from_residual-in_err-body.ensures.1 in
     let took = rw c.in-Some.is at c.in_ok-raw.ensures.line in
-    rw p.1 (reads_fault g.R.Source.left c.args.self.now c.loop-self.self _ p.0 took.2.bytes c.loop-self.invariant.stays took.2.gives (omega (arith, c.loop-self.invariant.counted)))
+    rw p.1 (reads_refused g.R.Source.left c.args.self.now c.loop-self.self _ took.0 p.0 c.loop-self.invariant.stays took.2 refl c.loop-self.invariant.good p.2 c.loop-self.invariant.counted)
 
 pub returns-then-not-raw-clause-on : goal.returns-then-not-raw-clause-on
 returns-then-not-raw-clause-on g c =

@@ -4,7 +4,7 @@ use Rattle.object_core.specs.Told.{event_says}
 use Rattle.object_core.specs.Turn.{turn_says}
 use Rattle.object_core.specs.declared.back_log.BackLog.{BackLog}
 use Rattle.object_core.specs.declared.back_log.Release.{Release}
-use Rattle.batch_journal.specs.Stored.{value_in}
+use Rattle.storage_map.specs.Stored.{value_in}
 use Rattle.object_core.proofs.Logged.{logs_turn}
 use Rattle.object_core.proofs.Served.{answer_serves}
 use Rattle.object_core.proofs.object.Core.answer.Goals as goal

@@ -3,7 +3,7 @@ use Rattle.std.proofs.lemmas.Result.{err_from_is_err_and}
 use Rattle.object_core.specs.Said.{message}
 use Rattle.object_core.specs.Told.{event_says}
 use Rattle.object_core.specs.Turn.{turn_says}
-use Rattle.batch_journal.specs.Stored.{value_in}
+use Rattle.storage_map.specs.Stored.{value_in}
 use Rattle.batch_journal.specs.Staged.{frame_of}
 use Rattle.batch_journal.specs.Frames.{Frame}
 use Rattle.object_core.specs.Serving.{IsFullCall, IsServing, IsHistoryOf}

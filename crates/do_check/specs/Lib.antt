@@ -1,0 +1,4 @@
+-- The faults of a script, part by part.
+pub mod First
+pub mod Parts
+pub mod Sight

@@ -1,0 +1,157 @@
+-- What an answer's form gives, and which end each status is.
+use Rattle.std.proofs.Common.{◌≡◌, ◌≤◌, ◌⊎◌, ⊎_elim, ℕ, Option, Some, Result, Ok, Err, OnOk, OnErr, refl, sym, subst, arith}
+use Rattle.std.specs.Prelude.{IfErr, IfSome}
+use Rattle.do_host.specs.Lines.{most_left}
+use Rattle.do_host.specs.Status.{status_of, status_in, line_stop, IsStatus, IsOpeningStatus, most_waiting}
+use Rattle.do_host.specs.Opened.{IsOpeningStop}
+use Rattle.do_host.specs.declared.fault.LineFault.{LineFault}
+use Rattle.do_host.specs.declared.fault.LineFault.TheVariants.{ReadFailed as LineFailed, NoMemory as NoLineMemory}
+use Rattle.do_host.specs.declared.stop.Stop.{Stop}
+use Rattle.do_host.specs.declared.stop.Stop.TheVariants.{DiskFailed, NoMemory, ReadFailed, WriteFailed, BadSlot, NotBuilt}
+
+-- a fact that holds after a good answer, or after a fault, from another one
+pub on_ok_map : {T E : Type 0} (result : Result T E) (P Q : Type 0) → (P → Q) → OnOk result P → OnOk result Q
+on_ok_map (Ok x) P Q f p = f p
+on_ok_map (Err e) P Q f p = tt
+
+pub on_err_map : {T E : Type 0} (result : Result T E) (P Q : Type 0) → (P → Q) → OnErr result P → OnErr result Q
+on_err_map (Ok x) P Q f p = tt
+on_err_map (Err e) P Q f p = f p
+
+-- a fact that holds after any good answer
+pub on_ok : {T E : Type 0} (result : Result T E) (P : Type 0) → P → OnOk result P
+on_ok (Ok x) P p = p
+on_ok (Err e) P p = tt
+
+-- a fact that holds after any fault
+pub on_err : {T E : Type 0} (result : Result T E) (P : Type 0) → P → OnErr result P
+on_err (Ok x) P p = tt
+on_err (Err e) P p = p
+
+-- a fact that holds after the one fault that came
+pub if_err : {T E : Type 0} (result : Result T E) (e : E) (P : E → Type 0) → result ≡ Err e → P e → IfErr result P
+if_err result e P is p = subst (λ r. IfErr r P) (sym is) p
+
+-- a fact that holds after any fault, and of it
+pub on_err_if : {T E : Type 0} (result : Result T E) (Q : Type 0) (P : E → Type 0) → (Q → (e : E) → P e) → OnErr result Q → IfErr result P
+on_err_if (Ok x) Q P f q = tt
+on_err_if (Err e) Q P f q = f q e
+
+-- a fact of the value that there is
+pub if_some : {T : Type 0} (o : Option T) (x : T) (P : T → Type 0) → o ≡ Some x → P x → IfSome o P
+if_some o x P is p = subst (λ r. IfSome r P) (sym is) p
+
+-- status 0 is a good end
+pub good_end : (result : Result (Unit {0}) Stop) (P : Type 0) → status_in result ≡ 0 → OnOk result P → P
+good_end (Ok done) P zero p = p
+good_end (Err DiskFailed) P zero p = cc
+good_end (Err NoMemory) P zero p = cc
+good_end (Err ReadFailed) P zero p = cc
+good_end (Err WriteFailed) P zero p = cc
+good_end (Err BadSlot) P zero p = cc
+good_end (Err NotBuilt) P zero p = cc
+
+-- status 3 is a disk's fault
+pub disk_end : (result : Result (Unit {0}) Stop) → status_in result ≡ 3 → result ≡ Err DiskFailed
+disk_end (Ok done) three = cc
+disk_end (Err DiskFailed) three = refl
+disk_end (Err NoMemory) three = cc
+disk_end (Err ReadFailed) three = cc
+disk_end (Err WriteFailed) three = cc
+disk_end (Err BadSlot) three = cc
+disk_end (Err NotBuilt) three = cc
+
+-- status 8 is what isn't built
+pub unbuilt_end : (result : Result (Unit {0}) Stop) → status_in result ≡ 8 → result ≡ Err NotBuilt
+unbuilt_end (Ok done) eight = cc
+unbuilt_end (Err DiskFailed) eight = cc
+unbuilt_end (Err NoMemory) eight = cc
+unbuilt_end (Err ReadFailed) eight = cc
+unbuilt_end (Err WriteFailed) eight = cc
+unbuilt_end (Err BadSlot) eight = cc
+unbuilt_end (Err NotBuilt) eight = refl
+
+-- status 3 of an opening is a disk's fault
+pub opening_failed : (stop : Stop) → status_of stop ≡ 3 → stop ≡ DiskFailed
+opening_failed DiskFailed three = refl
+opening_failed NoMemory three = cc
+opening_failed ReadFailed three = cc
+opening_failed WriteFailed three = cc
+opening_failed BadSlot three = cc
+opening_failed NotBuilt three = cc
+
+-- a run of lines that ends so
+abbrev ended : Stop → Result (Unit {0}) Stop
+ended stop = Err stop
+
+-- the same end
+pub end_is : (stop other : Stop) → ended stop ≡ ended other → stop ≡ other
+end_is stop other e = cc
+
+-- an opening that ends so
+abbrev stopped : {T : Type 0} → Stop → Result T Stop
+stopped {T} stop = Err stop
+
+-- the answer of a fault
+abbrev fails : {T : Type 0} → LineFault → Result T LineFault
+fails {T} fault = Err fault
+
+-- a stop that is none of an opening
+no_opening : {T : Type 0} (stop : Stop) → (stop ≡ DiskFailed → ⊥) → (stop ≡ NoMemory → ⊥) → (stop ≡ BadSlot → ⊥) → (stop ≡ NotBuilt → ⊥) → IsOpeningStop (stopped {T = T} stop) → ⊥
+no_opening stop disk memory bad built is =
+    ⊎_elim (λ e. disk (cc)) (λ rest. ⊎_elim (λ e. memory (cc)) (λ others. ⊎_elim (λ e. bad (cc)) (λ e. built (cc)) others) rest) is
+
+-- status 5 is a read fault
+pub read_end : (result : Result (Unit {0}) Stop) → status_in result ≡ 5 → result ≡ Err ReadFailed
+read_end (Ok done) five = cc
+read_end (Err DiskFailed) five = cc
+read_end (Err NoMemory) five = cc
+read_end (Err ReadFailed) five = refl
+read_end (Err WriteFailed) five = cc
+read_end (Err BadSlot) five = cc
+read_end (Err NotBuilt) five = cc
+
+-- status 7 of an opening is a bad slot
+pub opening_bad : (stop : Stop) → status_of stop ≡ 7 → stop ≡ BadSlot
+opening_bad DiskFailed seven = cc
+opening_bad NoMemory seven = cc
+opening_bad ReadFailed seven = cc
+opening_bad WriteFailed seven = cc
+opening_bad BadSlot seven = refl
+opening_bad NotBuilt seven = cc
+
+-- each stop has a status
+pub stop_status : (stop : Stop) → IsStatus (status_of stop)
+stop_status DiskFailed = (2, omega arith, refl)
+stop_status NoMemory = (3, omega arith, refl)
+stop_status ReadFailed = (4, omega arith, refl)
+stop_status WriteFailed = (5, omega arith, refl)
+stop_status BadSlot = (6, omega arith, refl)
+stop_status NotBuilt = (7, omega arith, refl)
+
+-- each end has a status
+pub end_status : (result : Result (Unit {0}) Stop) → IsStatus (status_in result)
+end_status (Ok done) = (0, omega arith, refl)
+end_status (Err stop) = stop_status stop
+
+-- words that aren't taken have a status
+pub usage_status : (status : ℕ) → (status ≡ 1) ⊎ (status ≡ 6) → IsStatus status
+usage_status status end = ⊎_elim (λ one. (1, omega arith, sym one)) (λ six. (5, omega arith, sym six)) end
+
+-- a stop of an opening has a status of one
+pub opening_status : {T : Type 0} (stop : Stop) → IsOpeningStop (stopped {T = T} stop) → IsOpeningStatus (status_of stop)
+opening_status DiskFailed is = (0, omega arith, refl)
+opening_status NoMemory is = (1, omega arith, refl)
+opening_status ReadFailed is = absurd (no_opening ReadFailed (λ e. cc) (λ e. cc) (λ e. cc) (λ e. cc) is)
+opening_status WriteFailed is = absurd (no_opening WriteFailed (λ e. cc) (λ e. cc) (λ e. cc) (λ e. cc) is)
+opening_status BadSlot is = (2, omega arith, refl)
+opening_status NotBuilt is = (3, omega arith, refl)
+
+-- what a fault leaves looked at, the stop that it makes leaves waiting
+pub waiting_fault : (T : Type 0) (fault : LineFault) → most_left (fails {T = T} fault) ≤ most_waiting (status_of (line_stop fault))
+waiting_fault T LineFailed = omega arith
+waiting_fault T NoLineMemory = omega arith
+
+-- a line that isn't accepted is the one that waits
+pub waiting_stop : (stop : Stop) → (stop ≡ NoMemory) ⊎ (stop ≡ NotBuilt) → 1 ≤ most_waiting (status_of stop)
+waiting_stop stop refused = ⊎_elim (λ e. rw e (omega arith)) (λ e. rw e (omega arith)) refused

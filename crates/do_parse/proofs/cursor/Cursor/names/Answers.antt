@@ -1,0 +1,58 @@
+use Rattle.std.proofs.Common.{◌≡◌, ◌≤◌, ◌+◌, ℕ, List, [], ◌∷◌, ◌++◌, Option, Some, None, Result, Ok, Err, true, false, refl, sym, ◌∙◌, ap, subst, arith, rules, map, codes}
+use Rattle.do_lex.specs.declared.kind.Kind.TheVariants as kind
+use Rattle.do_lex.specs.declared.kind.Mark.TheVariants as mark
+use Rattle.do_lex.specs.declared.kind.Keyword.TheVariants as key
+use Rattle.do_tree.specs.Grammar.{IsMember, IsClass, AreNames, AreClasses, IsImport}
+use Rattle.do_tree.specs.Seen.{named_of, option_named_of, stmt_of, method_of, class_of, script_of}
+use Rattle.do_tree.specs.Tree as tree
+use Rattle.do_tree.specs.declared.script.MethodKind.TheVariants as method
+use Rattle.do_tree.specs.declared.stmt.Binding.TheVariants as bind
+use Rattle.do_parse.specs.Lists.{BeginsWith, Repeat, Starting}
+use Rattle.do_parse.specs.Parsed.{Parses, Anything, ends_by}
+use Rattle.do_parse.specs.Pieces.{IsMethodRest, IsNextName, NothingLeft}
+use Rattle.do_parse.specs.Starts as starts
+use Rattle.do_parse.specs.Then.{with_tree}
+use Rattle.do_parse.specs.Trees.{stmt_at, bound_of, names_at, signature_of, class_head_of}
+use Rattle.do_parse.proofs.Behinds.{mark_last, mark_closes, items_behind, caught_name_behind, paren_last, head_same, paren_behind, binding_behind, name_last, const_same, let_same, bound_ok, bound_stop, bound_const, bound_let, stop_other}
+use Rattle.do_parse.proofs.Dependent.{dep_stop, dep_seq}
+use Rattle.do_parse.proofs.Lists.{not_behind, started, grows_first, repeat_more, repeat_stop, repeat_end}
+use Rattle.do_parse.proofs.MemberRules.{ctx_env_same, super_same, signature_same, rest_same, constructor_same, async_same, sync_here, method_path}
+use Rattle.do_parse.proofs.NodeTrees.{items_seen, made_tree, block_seen, simple_seen, for_seen, made_seen, ok_as, key_as, plain, with_last}
+use Rattle.do_parse.proofs.ScriptBehinds.{env_close, env_behind, comma_behind, ctx_behind, super_close, super_behind, super_items, brace_behind, parameters_behind, names_close, names_behind, open_behind, more_names_behind, next_name_behind, method_body_behind, async_behind, member_behind, members_close, members_behind, head_open, head_base, head_extends, head_name, head_class, more_classes_behind, classes_behind, first_name, first_class, next_name_some, member_some, class_some, left_some, end_class, word_member, import_close, import_text, import_end_behind, import_brace, import_base, import_open}
+use Rattle.do_parse.proofs.ScriptRules.{next_name_same, names_same, no_names, no_next_name, comma_no_end, members_of_list, no_member, class_head_same, class_same, classes_same, no_class, tokens_left, import_same, no_import, import_end_same, whole_same}
+use Rattle.do_parse.proofs.Sequence.{seq, stop, read_as, read_here, handed_on, made_on, narrow}
+use Rattle.do_parse.proofs.SimpleRules.{Caught, caught_same, no_caught, stmt_deep}
+use Rattle.do_parse.proofs.Statements.{break_same, continue_same}
+use Rattle.std.specs.Option.{is_some}
+use Rattle.std.proofs.lemmas.Bool.{false≢true}
+use Rattle.do_parse.specs.Deep.{stop_of}
+use Rattle.do_parse.proofs.Exits.{grows_on, grows_none, no_memory, handed}
+use Rattle.do_parse.proofs.Falls.{falls}
+use Rattle.do_parse.proofs.cursor.Cursor.names.Goals as goal
+
+pub returns-then-next_is : goal.returns-then-next_is
+returns-then-next_is c = ok_as (ap (map named_of) c.new-names.ensures.items) (no_names c.args.self.now (c.if-next_is.ensures.0 refl))
+
+pub returns-in_err-first : goal.returns-in_err-first
+returns-in_err-first c = handed_on (λ names. names_at names.items) c.from_residual.result c.from_residual.ensures.1 (read_as (names_same c.args.self.now (λ e. false≢true (c.if-next_is.ensures.1 e))) (stop more_names_behind c.in_err-first.ensures))
+
+pub returns-in_err-push : goal.returns-in_err-push
+returns-in_err-push c = no_memory (λ names. names_at names.items) c.from_residual-in_err-push.result c.from_residual-in_err-push.ensures.1
+
+pub loop-self-init : goal.loop-self-init
+loop-self-init c = grows_on named_of [] c.push.new.self.items c.in_ok-first.first (c.in_ok-push.ensures.items ∙ ap (λ xs. xs ++ c.in_ok-first.first ∷ []) c.new-names.ensures.items) (first_name (λ e. false≢true (c.if-next_is.ensures.1 e)) c.in_ok-first.ensures)
+
+pub returns-in_err-name : goal.returns-in_err-name
+returns-in_err-name c = handed_on (λ names. names_at names.items) c.from_residual-in_err-name.result c.from_residual-in_err-name.ensures.1 (repeat_stop more_names_behind (comma_no_end c.loop-self.self (c.loop-self-test.ensures.0 refl)) c.loop-self.invariant c.in_err-name.ensures)
+
+pub returns-in_err-push-2 : goal.returns-in_err-push-2
+returns-in_err-push-2 c = no_memory (λ names. names_at names.items) c.from_residual-in_err-push-2.result c.from_residual-in_err-push-2.ensures.1
+
+pub loop-self-smaller : goal.loop-self-smaller
+loop-self-smaller c = falls tt (next_name_some (named_of c.in_ok-name.name)) c.in_ok-name.ensures
+
+pub loop-self-preserved : goal.loop-self-preserved
+loop-self-preserved c = grows_on named_of c.loop-self.names.items c.push-in-loop-self.new.self.items c.in_ok-name.name c.in_ok-push-2.ensures.items (repeat_more more_names_behind (comma_no_end c.loop-self.self (c.loop-self-test.ensures.0 refl)) c.loop-self.invariant c.in_ok-name.ensures)
+
+pub returns : goal.returns
+returns c = repeat_end (no_next_name c.loop-self.self (λ e. false≢true (c.loop-self-test.ensures.1 e))) c.loop-self.invariant

@@ -1,0 +1,4 @@
+pub mod Deletes
+pub mod Picking
+pub mod Each
+pub mod Lending

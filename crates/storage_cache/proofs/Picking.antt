@@ -1,0 +1,116 @@
+-- The pairs of some keys, picked one key after the other.
+use Rattle.std.proofs.Common.{◌≡◌, ℕ, ◌+◌, ◌<◌, ◌≤◌, List, [], ◌∷◌, ◌++◌, length, take, get_or, cond, true, false, Option, Some, None, refl, sym, ap, ◌∙◌, subst}
+use Rattle.std.specs.Prelude.{Bool, ◌||◌, String}
+use Rattle.std.specs.Str.{bytes_eq}
+use Rattle.std.specs.Set.{is_member}
+use Rattle.std.specs.List.{filter}
+use Rattle.std.specs.BTreeMap.{BTreeMap}
+use Rattle.std.specs.FinMap.{entries, entries_sorted, get, get-entries, get-empty, from_entries}
+use Rattle.std.specs.FinMap.Entries.{find-where_key, is_sorted-where_key, same_entries}
+use Rattle.std.proofs.lemmas.Cmp.{nat_list_cmp_total}
+use Rattle.std.proofs.lemmas.List.{take_more, take_all}
+use Rattle.std.proofs.lemmas.Map.Lookups.{exact_bytes}
+use Rattle.std.proofs.lemmas.Slice.Eq.{bytes_eq-Decides}
+use Rattle.do_value.specs.declared.value.Value.{Value}
+use Rattle.storage_map.specs.Contents.{Values, by_bytes}
+use Rattle.storage_map.specs.Kept.{with_bytes, kept, IsKept}
+use Rattle.std.specs.String.{string_cmp}
+use Rattle.std.specs.List.{AllByRecursion}
+use Rattle.std.specs.BTreeMap.{IsOrdered}
+use Rattle.std.proofs.Common.{inl}
+use Rattle.storage_map.proofs.Finite.{entries_kept, ascending_kept, IsShort}
+use Rattle.storage_map.proofs.Folds.{get_set}
+use Rattle.storage_map.proofs.Orders.{IsOrderly}
+use Rattle.do_value.specs.Keyed.{IsAscending}
+use Rattle.storage_cache.specs.Picked.{put_found}
+
+-- the map has the values of these keys, as far as they are there, and no others
+abbrev pub IsPicked : Values → List (List ℕ) → Values → Type 0
+IsPicked values keys picked = (q : List ℕ) → get picked q ≡ cond (is_member bytes_eq keys q) (get values q) None
+
+-- of no keys nothing
+pub picked_none : (values picked : Values) → picked ≡ from_entries [] → IsPicked values [] picked
+picked_none values picked none q = ap (λ (m : Values). get m q) none ∙ get-empty by_bytes q
+
+or_false : (b : Bool) → b ≡ (b || false)
+or_false true = refl
+or_false false = refl
+
+-- a key is among others and one more
+member_push : (keys : List (List ℕ)) (key q : List ℕ) → is_member bytes_eq (keys ++ key ∷ []) q ≡ (is_member bytes_eq keys q || bytes_eq q key)
+member_push [] key q = sym (or_false (bytes_eq q key))
+member_push (k ∷ keys) key q = elim (bytes_eq q k) as (λ b. (b || is_member bytes_eq (keys ++ key ∷ []) q) ≡ ((b || is_member bytes_eq keys q) || bytes_eq q key)) [ true ↦ refl | false ↦ member_push keys key q ]
+
+-- one more, by what the key has
+one_more : (member same : Bool) (was had : Option Value) → (same ≡ true → had ≡ was) → cond same had (cond member was None) ≡ cond (member || same) was None
+one_more true true was had alike = alike refl
+one_more true false was had alike = refl
+one_more false true was had alike = alike refl
+one_more false false was had alike = refl
+
+-- the next key has this value, or none, in the map that is picked from
+pub picked_more : (values picked more : Values) (keys : List (List ℕ)) (i : ℕ) (key : List ℕ) → i < length keys → key ≡ get_or keys i key → ((q : List ℕ) → get more q ≡ cond (bytes_eq q key) (get values key) (get picked q)) → IsPicked values (take i keys) picked → IsPicked values (take (i + 1) keys) more
+picked_more values picked more keys i key within at set is q =
+    set q
+    ∙ ap (λ (v : Option Value). cond (bytes_eq q key) (get values key) v) (is q)
+    ∙ one_more (is_member bytes_eq (take i keys) q) (bytes_eq q key) (get values q) (get values key) (λ same. ap (get values) (sym ((bytes_eq-Decides q key).0 same)))
+    ∙ ap (λ (b : Bool). cond b (get values q) None) (sym (member_push (take i keys) key q) ∙ ap (λ (ks : List (List ℕ)). is_member bytes_eq ks q) (sym (take_more keys i key within ∙ ap (λ (k : List ℕ). take i keys ++ k ∷ []) (sym at))))
+
+-- a key that isn't there changes nothing
+same_where_none : (same : Bool) (had old : Option Value) → had ≡ None → (same ≡ true → old ≡ None) → old ≡ cond same had old
+same_where_none true had old none alike = alike refl ∙ sym none
+same_where_none false had old none alike = refl
+
+cond_none : (b : Bool) → ◌≡◌ {A = Option Value} (cond b None None) None
+cond_none true = refl
+cond_none false = refl
+
+-- nothing is picked for a key that isn't there
+pub picked_absent : (values picked : Values) (keys : List (List ℕ)) (i : ℕ) (key : List ℕ) → i < length keys → key ≡ get_or keys i key → get values key ≡ None → IsPicked values (take i keys) picked → IsPicked values (take (i + 1) keys) picked
+picked_absent values picked keys i key within at none is =
+    picked_more values picked picked keys i key within at
+    (λ q. same_where_none (bytes_eq q key) (get values key) (get picked q) none
+    (λ same. is q ∙ ap (λ (v : Option Value). cond (is_member bytes_eq (take i keys) q) v None) (ap (get values) ((bytes_eq-Decides q key).0 same) ∙ none) ∙ cond_none (is_member bytes_eq (take i keys) q)))
+    is
+
+-- what is picked of all keys are the pairs whose key is one of them
+pub picked_all : (values picked : Values) (keys : List (List ℕ)) → IsPicked values keys picked → entries picked ≡ filter (λ p. is_member bytes_eq keys p.0) (entries values)
+picked_all values picked keys is =
+    let test = λ (q : List ℕ). is_member bytes_eq keys q in
+    same_entries by_bytes nat_list_cmp_total exact_bytes _ _
+    (entries_sorted picked)
+    (is_sorted-where_key by_bytes test (entries values) (entries_sorted values))
+    (λ q. sym (get-entries picked q) ∙ is q ∙ ap (λ (v : Option Value). cond (test q) v None) (get-entries values q)
+    ∙ sym (find-where_key by_bytes test q (λ x tie. ap test (sym (exact_bytes q x tie))) (entries values)))
+
+-- the next key, by what was found for it
+next_found : (values picked more : Values) (keys : List (List ℕ)) (i : ℕ) (key : List ℕ) (had : Option Value) → i < length keys → key ≡ get_or keys i key → get values key ≡ had → more ≡ put_found picked key had → IsPicked values (take i keys) picked → IsPicked values (take (i + 1) keys) more
+next_found values picked more keys i key None within at none is before = λ q. ap (λ (m : Values). get m q) is ∙ picked_absent values picked keys i key within at none before q
+next_found values picked more keys i key (Some value) within at had is before =
+    picked_more values picked more keys i key within at
+    (λ q. ap (λ (m : Values). get m q) is ∙ get_set picked key value q ∙ ap (λ (v : Option Value). cond (bytes_eq q key) v (get picked q)) (sym had))
+    before
+
+pub picked_next : (values picked more : Values) (keys : List (List ℕ)) (i : ℕ) (key : List ℕ) → i < length keys → key ≡ get_or keys i key → more ≡ put_found picked key (get values key) → IsPicked values (take i keys) picked → IsPicked values (take (i + 1) keys) more
+picked_next values picked more keys i key within at is before = next_found values picked more keys i key (get values key) within at refl is before
+
+-- at the end all are picked
+pub picked_end : (values picked : Values) (items keys : List (List ℕ)) (i : ℕ) → length items ≤ i → items ≡ keys → IsPicked values (take i items) picked → entries picked ≡ filter (λ p. is_member bytes_eq keys p.0) (entries values)
+picked_end values picked items keys i all same is = picked_all values picked keys (subst (λ (ks : List (List ℕ)). IsPicked values ks picked) (take_all i items all ∙ same) is)
+
+module _ {A : Type 0} where
+  -- a sorted map of std without entries
+  pub none_kept : (m : BTreeMap (String A) Value) → m.entries ≡ [] → kept m ≡ from_entries []
+  none_kept m none = ap (λ (es : List (String A × Value)). from_entries {R = by_bytes} (with_bytes es)) none
+
+  pub is_kept_none : (m : BTreeMap (String A) Value) → IsOrdered string_cmp m → m.entries ≡ [] → IsKept m
+  is_kept_none m ordered none = record { ordered = ordered; short = subst (AllByRecursion IsShort) (sym none) tt }
+
+  -- before the first entry all are left
+  pub all_left : (built : List (List ℕ × Value)) (left : List (String A × Value)) (m : BTreeMap (String A) Value) → IsKept m → built ≡ [] → left ≡ m.entries → built ++ with_bytes left ≡ entries (kept m)
+  all_left built left m is none all =
+      ap (λ (b : List (List ℕ × Value)). b ++ with_bytes left) none ∙ ap with_bytes all ∙ sym (entries_kept m is)
+
+  -- the pairs of a map ascend
+  pub kept_order : (m : BTreeMap (String A) Value) (pairs : List (List ℕ × Value)) → IsKept m → pairs ≡ entries (kept m) → IsOrderly pairs
+  kept_order m pairs is all = inl (subst IsAscending (sym all) (ascending_kept m is))

@@ -1,0 +1,5 @@
+pub mod Sizes
+pub mod Folds
+pub mod Members
+pub mod Orders
+pub mod Finite

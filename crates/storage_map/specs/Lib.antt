@@ -1,0 +1,10 @@
+pub mod Limits
+pub mod Alarms
+pub mod Ops
+pub mod Contents
+pub mod ContentsCode
+pub mod Stored
+pub mod Orders
+pub mod Readings
+pub mod Kept
+pub mod Laws

@@ -1,0 +1,14 @@
+use Rattle.std.proofs.Common.{◌≡◌, ◌++◌}
+use Rattle.std.specs.List.{AllByRecursion, filter}
+use Rattle.storage_map.specs.Kept.{with_bytes, kept}
+use Rattle.storage_txn.specs.Overlay.{chooses}
+use Rattle.std.specs.FinMap.{entries}
+use Rattle.storage_map.proofs.Finite.{IsShort}
+use Rattle.storage_txn.proofs.overlay.chosen.Given as goal
+
+-- the pairs so far, and those that pass of what is left, are those that pass of all; what is left has short keys
+abbrev pub invariant-loop-key : goal.invariant-loop-key
+invariant-loop-key l = record {
+  built : l.pairs.items ++ filter (λ p. chooses l.ask p.0) (with_bytes l.key-iterator) ≡ filter (λ p. chooses l.ask p.0) (entries (kept l.values));
+  short : AllByRecursion IsShort l.key-iterator;
+}

@@ -1,0 +1,38 @@
+-- When a transaction refuses a call. The limits are this project's profile.
+use Rattle.std.specs.Prelude.{◌≡◌, ◌<◌, ◌≤◌, List, [], ◌∷◌, ◌++◌, length, Option, None, Some}
+use Rattle.storage_map.specs.Limits.{most_stored_bytes, most_batch_bytes}
+use Rattle.storage_map.specs.Ops.{batch_bytes}
+use Rattle.storage_map.specs.declared.op.Op.{Op}
+use Rattle.write_batcher.specs.declared.batcher.AddFault.{AddFault}
+use Rattle.write_batcher.specs.declared.batcher.AddFault.TheVariants as adding
+use Rattle.storage_txn.specs.Writes.{value_bytes}
+use Rattle.storage_txn.specs.declared.fault.TxnFault.{TxnFault}
+use Rattle.storage_txn.specs.declared.fault.TxnFault.TheVariants.{RolledBack, ValueLong, BatchFull, NoMemory}
+
+-- a fault of the operations that are joined, as the transaction's
+abbrev pub from_add : AddFault → TxnFault
+from_add (adding.BatchFull size limit) = BatchFull size limit
+from_add adding.NoMemory = NoMemory
+
+-- It was rolled back; or the operation's value is too long and has this size; or the batch with it is too large and has
+-- this size; or none of these, and memory was wanting.
+abbrev pub IsWriteFault : Option (List Op) → Op → TxnFault → Type 0
+IsWriteFault None op RolledBack = Unit {0}
+IsWriteFault None op (ValueLong size) = ⊥
+IsWriteFault None op (BatchFull size limit) = ⊥
+IsWriteFault None op NoMemory = ⊥
+IsWriteFault (Some ops) op RolledBack = ⊥
+IsWriteFault (Some ops) op (ValueLong size) = (most_stored_bytes < value_bytes op) × (size ≡ value_bytes op)
+IsWriteFault (Some ops) op (BatchFull size limit) = (value_bytes op ≤ most_stored_bytes) × (most_batch_bytes < length (batch_bytes (ops ++ op ∷ []))) × (size ≡ length (batch_bytes (ops ++ op ∷ []))) × (limit ≡ most_batch_bytes)
+IsWriteFault (Some ops) op NoMemory = (value_bytes op ≤ most_stored_bytes) × (length (batch_bytes (ops ++ op ∷ [])) ≤ most_batch_bytes)
+
+-- it was rolled back, or it wasn't and memory was wanting
+abbrev pub IsReadFault : Option (List Op) → TxnFault → Type 0
+IsReadFault None RolledBack = Unit {0}
+IsReadFault None (ValueLong size) = ⊥
+IsReadFault None (BatchFull size limit) = ⊥
+IsReadFault None NoMemory = ⊥
+IsReadFault (Some ops) RolledBack = ⊥
+IsReadFault (Some ops) (ValueLong size) = ⊥
+IsReadFault (Some ops) (BatchFull size limit) = ⊥
+IsReadFault (Some ops) NoMemory = Unit {0}

@@ -1,0 +1,145 @@
+//! One transaction of an object.
+ghost use Rattle.std.specs.Prelude.{◌≡◌, ◌≢◌, ◌↔◌, Some, None, [], IfOk, OnOk, OnErr, IfErr, IfSome, IsNone, length};
+ghost use Rattle.do_value.specs.declared.value.Value.TheVariants.{Undefined};
+ghost use Rattle.storage_map.specs.Ops.{batch_bytes};
+ghost use Rattle.storage_txn.specs.Overlay.{below, view, IsAnswer};
+ghost use Rattle.storage_txn.specs.Writes.{ops_of, added, IsOpen, IsTaken};
+ghost use Rattle.storage_txn.specs.Faults.{IsWriteFault, IsReadFault};
+
+use crate::fault::TxnFault;
+use crate::overlay::{asked_below, overlaid};
+use do_value::Value;
+use std::alloc::Global;
+use std::marker::Model;
+use storage_map::{Batch, Key, Op, Reading, StoreAsk};
+use write_batcher::{Batcher, EMPTY_BATCH_BYTES};
+
+/// The writes of a transaction and whether it was rolled back, after the storage documentation's `transaction`.
+/// Contracts see the list of its operations, or none once it was rolled back.
+#[derive(Drop)]
+pub struct Txn {
+    alloc: Global,
+    batcher: Option<Batcher>,
+}
+
+impl Model for Txn {
+    ghost use Rattle.std.specs.Prelude.{List, Option};
+    ghost use Rattle.std.specs.Coded.{coded_list, coded_option};
+    ghost use Rattle.storage_map.specs.declared.op.Op.{Op as OneOp};
+    ghost use Rattle.storage_map.specs.contracts.op.Op as one_op;
+    ghost use Rattle.storage_txn.specs.Writes.{IsKeyed};
+
+    ghost Value = { Option (List OneOp) };
+
+    ghost coded = { coded_option (coded_list one_op.the_row.coded) };
+
+    ghost view = { λ txn. txn.batcher };
+
+    ghost invariant = { λ txn. IsKeyed txn.batcher };
+}
+
+impl Txn {
+    /// A transaction without writes.
+    pub fn new(alloc: Global) -> Txn
+        ensures { result ≡ Some [] }
+    {
+        Txn {
+            alloc,
+            batcher: Some(Batcher::new(alloc)),
+        }
+    }
+
+    /// Writes a value. `RolledBack` comes exactly after a rollback; else `ValueLong` exactly where the value is too long
+    /// to be stored; else `BatchFull` exactly where the batch would pass its limit. After a fault nothing is changed.
+    pub fn put(&mut self, key: Key, value: Value) -> Result<(), TxnFault>
+        requires { value ≢ Value.Undefined }
+        ensures put { OnOk result (self.new ≡ added self.old (Op.Put key value)) }
+        ensures taken { OnOk result (IsTaken self.old (Op.Put key value)) }
+        ensures fault { IfErr result (IsWriteFault self.old (Op.Put key value)) }
+        ensures same { OnErr result (self.new ≡ self.old) }
+    {
+        let Some(batcher) = &mut self.batcher else {
+            return Err(TxnFault::RolledBack);
+        };
+        batcher.add(Op::put(key, value)?)?;
+        Ok(())
+    }
+
+    /// Takes the key out, if it is there. `RolledBack` comes exactly after a rollback; else `BatchFull` exactly where the
+    /// batch would pass its limit. After a fault nothing is changed.
+    pub fn delete(&mut self, key: Key) -> Result<(), TxnFault>
+        ensures delete { OnOk result (self.new ≡ added self.old (Op.Delete key)) }
+        ensures taken { OnOk result (IsTaken self.old (Op.Delete key)) }
+        ensures fault { IfErr result (IsWriteFault self.old (Op.Delete key)) }
+        ensures same { OnErr result (self.new ≡ self.old) }
+    {
+        let _ = key.as_str();
+        let Some(batcher) = &mut self.batcher else {
+            return Err(TxnFault::RolledBack);
+        };
+        batcher.add(Op::Delete { key })?;
+        Ok(())
+    }
+
+    /// What is to be asked of the store, so that `view` can answer this ask: the ask itself, and for a listing the same
+    /// without its limit. `RolledBack` comes exactly after a rollback.
+    pub fn below(&self, ask: &StoreAsk) -> Result<StoreAsk, TxnFault>
+        ensures ask { IfOk result (λ answer. answer ≡ below ask.now) }
+        ensures open { OnOk result (IsOpen self.now) }
+        ensures fault { IfErr result (IsReadFault self.now) }
+    {
+        if self.batcher.is_none() {
+            return Err(TxnFault::RolledBack);
+        }
+        Ok(asked_below(ask)?)
+    }
+
+    /// The answer to the ask through the transaction's writes, from what the store answers to `below` of it.
+    /// `RolledBack` comes exactly after a rollback.
+    pub fn view(&self, ask: &StoreAsk, below: Reading) -> Result<Reading, TxnFault>
+        requires { IsAnswer ask.now below }
+        ensures view { IfOk result (λ answer. answer ≡ view (ops_of self.now) ask.now below) }
+        ensures open { OnOk result (IsOpen self.now) }
+        ensures fault { IfErr result (IsReadFault self.now) }
+    {
+        let Some(batcher) = &self.batcher else {
+            return Err(TxnFault::RolledBack);
+        };
+        Ok(overlaid(self.alloc, batcher.as_slice(), ask, below)?)
+    }
+
+    /// Drops the writes, and refuses every further call but [`commit`](Txn::commit) and [`size`](Txn::size).
+    /// `RolledBack` comes exactly where that was done before.
+    pub fn rollback(&mut self) -> Result<(), TxnFault>
+        ensures none { self.new ≡ None }
+        ensures open { OnOk result (IsOpen self.old) }
+        ensures fault { IfErr result (λ fault. (fault ≡ TxnFault.RolledBack) × (self.old ≡ None)) }
+    {
+        if self.batcher.is_none() {
+            return Err(TxnFault::RolledBack);
+        }
+        self.batcher = None;
+        Ok(())
+    }
+
+    /// The batch of the writes, in order, or `None` where there was no write or a rollback.
+    pub fn commit(self) -> Option<Batch>
+        ensures batch { IfSome result (λ batch. self ≡ Some batch) }
+        ensures none { IsNone result ↔ ops_of self ≡ [] }
+    {
+        match self.batcher {
+            Some(mut batcher) => batcher.close(),
+            None => None,
+        }
+    }
+
+    /// How many bytes the batch of the writes so far has, 4 where there are none.
+    pub fn size(&self) -> u64
+        ensures { result ≡ length (batch_bytes (ops_of self.now)) }
+    {
+        match &self.batcher {
+            Some(batcher) => batcher.size(),
+            None => EMPTY_BATCH_BYTES,
+        }
+    }
+}
