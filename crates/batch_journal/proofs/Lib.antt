@@ -1,7 +1,6 @@
 pub mod Writes
 pub mod Runs
 pub mod Journals
-pub mod Sizes
 pub mod Frames
 pub mod Held
 pub mod Headers
@@ -10,14 +9,3 @@ pub mod Verdicts
 pub mod Decided
 pub mod Blocks
 pub mod Appends
-pub mod Texts
-pub mod ReadParts
-pub mod ReadValues
-pub mod ReadLevels
-pub mod ReadBuilt
-pub mod ReadRoom
-pub mod ReadLoops
-pub mod ReadMany
-pub mod ReadStored
-pub mod ReadOps
-pub mod ReadPayloads

@@ -1,20 +1,11 @@
 -- Frames and journals as bytes. This project's profile; the digest is SHA-256 of FIPS 180-4.
-use Rattle.std.specs.Prelude.{◌≡◌, ◌≢◌, ℕ, ◌<◌, ◌^◌, List, [], ◌∷◌, ◌++◌, length, codes}
+use Rattle.std.specs.Prelude.{◌≡◌, ℕ, List, [], ◌∷◌, ◌++◌, length, codes}
 use Rattle.std.specs.List.{All, flat_map}
 use Rattle.std.specs.Int.{w32, to_be_bytes}
 use Rattle.sha2.specs.Sha256.{sha256}
-use Rattle.storage_map.specs.Limits.{Object, IsObject}
-use Rattle.storage_map.specs.Ops.{object_bytes, batch_bytes, IsBatch}
+use Rattle.storage_map.specs.Limits.{Object}
 use Rattle.storage_map.specs.declared.op.Op.{Op}
-
--- a frame: the class and the name of an object, and batches of it
-pub record Frame : Type 0 where
-  pub object : Object
-  pub batches : List (List Op)
-
--- what a frame says: the object, how many batches, and the batches
-abbrev pub payload : Frame → List ℕ
-payload frame = object_bytes frame.object ++ to_be_bytes w32 (length frame.batches) ++ flat_map batch_bytes frame.batches
+pub use Rattle.batch_codec.specs.Frames.{Frame, payload, IsFrame}
 
 -- the bytes of a frame: the payload's length, the payload, and its digest
 abbrev pub frame_bytes : Frame → List ℕ
@@ -39,13 +30,6 @@ batches_in frames = flat_map (λ frame. frame.batches) frames
 -- all operations of the frames, in order
 abbrev pub operations_in : List Frame → List Op
 operations_in frames = flat_map (λ ops. ops) (batches_in frames)
-
--- a frame of the grammar: at least one batch, each of them a batch, and a payload whose length fits 4 bytes
-pub record IsFrame (frame : Frame) : Type 0 where
-  pub object : IsObject frame.object
-  pub some : frame.batches ≢ []
-  pub each : All IsBatch frame.batches
-  pub fits : length (payload frame) < 2 ^ 32
 
 -- they all name this object
 abbrev pub Name : Object → List Frame → Type 0

@@ -6,7 +6,7 @@ ghost use Rattle.storage_map.specs.Limits.{Object};
 ghost use Rattle.batch_journal.specs.Frames.{Frame, frame_bytes, payload};
 ghost use Rattle.batch_journal.specs.Staged.{IsPending, IsUnsealed, IsSame, frame_of};
 
-use crate::codec::{add, add_batch, add_object};
+use batch_codec::write::{add, add_batch, add_object};
 use do_value::Mem;
 use sha2::{Digest, Sha256};
 use std::alloc::Global;

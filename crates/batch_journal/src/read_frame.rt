@@ -1,14 +1,12 @@
-//! Reading one frame behind an open gate.
-ghost use Rattle.std.specs.Prelude.{◌≡◌, ◌+◌, ◌<◌, ◌≤◌, ◌^◌, ◌↔◌, length, IfOk, OnOk, IsTrue, slice_range};
+//! Reading one payload behind an open gate.
+ghost use Rattle.std.specs.Prelude.{◌≡◌, ◌+◌, ◌<◌, ◌≤◌, ◌^◌, ◌↔◌, length, take, IfOk, IfSome, OnOk, None, IsTrue, slice_range};
 ghost use Rattle.std.specs.Int.{w32, to_be_bytes};
 ghost use Rattle.sha2.specs.Sha256.{sha256};
 ghost use Rattle.do_disk.specs.Disk.{IfTold, CountsFaults};
 ghost use Rattle.batch_journal.specs.Moments.{OnlyReads};
-ghost use Rattle.batch_journal.specs.Reading.{IsInBlock, IsFound, EndsWithin};
+ghost use Rattle.batch_journal.specs.Reading.{block_of, IsNoBlock, IsInBlock, IsFound, EndsWithin};
 
-use crate::read_payload::{Payload, read_payload};
 use do_disk::{Disk, Failed};
-use do_value::NoMemory;
 use sha2::{Digest, Sha256};
 use std::alloc::Global;
 
@@ -22,9 +20,9 @@ const LEAST_BYTES: u64 = 37;
 // What stands behind an open gate.
 #[derive(Drop)]
 pub(crate) enum Found {
-    // A frame, the byte of its next gate, and the place after that.
-    Frame {
-        payload: Payload,
+    // A payload with its length and its digest, the byte of the next gate, and the place after that.
+    Payload {
+        payload: Vec<u8>,
         gate: u8,
         end: u64,
     },
@@ -91,29 +89,39 @@ fn read_block<D: Disk>(alloc: Global, disk: &mut D, at: u64, size: u32) -> Resul
         return Ok(Found::NoMemory);
     };
     disk.read_at(at + LENGTH_BYTES, &mut block)?;
-    Ok(frame_in(alloc, &block, at, size))
+    Ok(payload_in(block, at, size))
 }
 
-// The frame in a block, which is its payload of this size, its digest and the next gate, where the digest is right.
-fn frame_in(alloc: Global, block: &[u8], at: u64, size: u32) -> Found
-    requires block { length block.now ≡ size + 33 }
+// The payload of this size in a block, behind which its digest and the next gate stand, where the digest is right.
+fn payload_in(block: Vec<u8>, at: u64, size: u32) -> Found
+    requires block { length block.items ≡ size + 33 }
     requires place { at + 37 + size < 2 ^ 64 }
-    ensures found { IsInBlock block.now at size result }
+    ensures found { IsInBlock block.items at size result }
     ensures within { EndsWithin (at + 37 + size) result }
 {
-    let end = size as usize;
-    let payload = &block[..end];
-    if !is_digest(&block[end..end + DIGEST_BYTES], payload) {
+    let Some(gate) = gate_behind(&block, size) else {
         return Found::NoFrame;
+    };
+    let mut payload = block;
+    payload.truncate(size as usize);
+    Found::Payload {
+        payload,
+        gate,
+        end: at + LEAST_BYTES + u64::from(size),
     }
-    match read_payload(alloc, payload) {
-        Ok(Some(payload)) => Found::Frame {
-            payload,
-            gate: block[end + DIGEST_BYTES],
-            end: at + LEAST_BYTES + u64::from(size),
-        },
-        Ok(None) => Found::NoFrame,
-        Err(NoMemory) => Found::NoMemory,
+}
+
+// The gate behind a payload of this size and its digest, where the digest is right.
+fn gate_behind(block: &[u8], size: u32) -> Option<u8>
+    requires { length block.now ≡ size + 33 }
+    ensures gate { IfSome result (λ gate. block.now ≡ block_of (take size block.now) gate) }
+    ensures none { result ≡ None → IsNoBlock block.now size }
+{
+    let end = size as usize;
+    if is_digest(&block[end..end + DIGEST_BYTES], &block[..end]) {
+        Some(block[end + DIGEST_BYTES])
+    } else {
+        None
     }
 }
 

@@ -1,22 +1,26 @@
 //! Reading a journal's frames one by one while their gates are open.
-ghost use Rattle.std.specs.Prelude.{◌≡◌, ◌≢◌, ◌+◌, ◌<◌, ◌≤◌, List, ℕ, [], ◌∷◌, ◌++◌, length, None, Some, IfOk, IfErr, IfSome, OnOk, MatchOption, ⊤};
+ghost use Rattle.std.specs.Prelude.{◌≡◌, ◌≢◌, ◌+◌, ◌-◌, ◌<◌, ◌≤◌, ◌^◌, List, ℕ, [], ◌∷◌, ◌++◌, length, None, Some, IsErr, IfOk, IfErr, IfSome, OnOk, MatchOption, ⊤};
 ghost use Rattle.std.specs.List.{flat_map};
 ghost use Rattle.do_disk.specs.Disk.{IfTold, CountsFaults};
-ghost use Rattle.batch_journal.specs.Frames.{Frame, open_gate, header_text, IsFrame};
-ghost use Rattle.storage_map.specs.Contents.{apply};
+ghost use Rattle.do_value.specs.Limits.{most_bytes};
+ghost use Rattle.storage_map.specs.Limits.{IsObject};
+ghost use Rattle.storage_map.specs.Ops.{IsOp};
+ghost use Rattle.storage_map.specs.Contents.{apply, apply_op};
+ghost use Rattle.storage_map.specs.declared.op.Op.{Op};
+ghost use Rattle.batch_codec.specs.Views.{Shows};
+ghost use Rattle.batch_journal.specs.Frames.{Frame, open_gate, header_text, payload as said_by};
 ghost use Rattle.batch_journal.specs.Moments.{OnlyReads};
-ghost use Rattle.batch_journal.specs.Payloads.{frame_read};
-ghost use Rattle.batch_journal.specs.Reading.{payload_of, HasRead, Holds, IsRefusedFor, IsRefusalOf};
+ghost use Rattle.batch_journal.specs.Reading.{HasRead, Holds, IsRefusedFor, IsRefusalOf, Refuses, GoesOn};
 ghost use Rattle.batch_journal.specs.Mounting.{AreRead};
 
 use crate::header::HEADER_END;
 use crate::journal::OPEN_GATE;
 use crate::read_frame::{Found, read_frame};
-use crate::read_payload::Payload;
+use batch_codec::{BadFrame, Batches, FrameView, OpView, Ops};
 use do_disk::{Disk, Failed};
-use do_value::{Mem, NoMemory};
+use do_value::{BuildFault, Mem, NoMemory, Text};
 use std::alloc::Global;
-use storage_map::{Batch, Identity, Map};
+use storage_map::{Identity, Map};
 
 // The frames so far: their object, what they leave of its storage, the byte of the gate behind them, and the place after it.
 #[derive(Drop)]
@@ -103,30 +107,54 @@ impl Reading {
         ensures faults { CountsFaults (D.faults_of disk.old) (D.faults_of disk.new) result }
     {
         match read_frame(alloc, disk, self.end, file_length)? {
-            Found::Frame { payload, gate, end } => Ok(self.add(payload, gate, end)),
-            Found::NoFrame => Ok(Some(Refusal::Damaged {
-                place: self.end - 1,
-            })),
+            Found::Payload { payload, gate, end } => {
+                Ok(self.read_payload(alloc, &payload, gate, end))
+            }
+            Found::NoFrame => Ok(Some(self.damaged())),
             Found::NoMemory => Ok(Some(Refusal::NoMemory)),
         }
     }
 
-    // Adds a frame, behind which this gate stands before this place.
-    fn add(&mut self, payload: Payload, gate: u8, end: u64) -> Option<Refusal>
-        ensures more { result ≡ None → (frames : List Frame) → Holds self.old frames
-            → IsFrame (frame_read payload)
-            → end ≡ self.old.end + 37 + length (payload_of payload)
-            → Holds self.new (frames ++ frame_read payload ∷ []) }
+    // Reads a payload, behind which this gate stands before this place.
+    fn read_payload(&mut self, alloc: Global, payload: &[u8], gate: u8, end: u64) -> Option<Refusal>
+        requires short { length payload.now < 2 ^ 32 }
+        requires place { 0 < self.old.end }
+        ensures more { result ≡ None → GoesOn self.old self.new payload.now }
         ensures gate { result ≡ None → self.new.gate ≡ gate }
         ensures end { result ≡ None → self.new.end ≡ end }
-        ensures refused { IfSome result (IsRefusalOf self.old.identity payload.object) }
+        ensures refused { IfSome result (Refuses self.old payload.now) }
     {
-        let Payload { object, batches } = payload;
-        match same_object(self.identity.take(), object) {
-            Ok(object) => self.identity = Some(object),
-            Err((first, other)) => return Some(Refusal::Mixed { first, other }),
+        match FrameView::read(payload) {
+            Ok(frame) => self.add(alloc, &frame, gate, end),
+            Err(BadFrame) => Some(self.damaged()),
         }
-        match apply_all(&mut self.map, &batches) {
+    }
+
+    // The refusal where the gate behind the frames so far is open and no frame stands behind it.
+    fn damaged(&self) -> Refusal
+        requires { 0 < self.now.end }
+        ensures { result ≡ Refusal.Damaged (self.now.end - 1) }
+    {
+        Refusal::Damaged {
+            place: self.end - 1,
+        }
+    }
+
+    // Adds a frame, behind which this gate stands before this place.
+    fn add(&mut self, alloc: Global, frame: &FrameView, gate: u8, end: u64) -> Option<Refusal>
+        ensures more { result ≡ None → (frames : List Frame) → Holds self.old frames
+            → end ≡ self.old.end + 37 + length (said_by frame.now)
+            → Holds self.new (frames ++ frame.now ∷ []) }
+        ensures gate { result ≡ None → self.new.gate ≡ gate }
+        ensures end { result ≡ None → self.new.end ≡ end }
+        ensures refused { IfSome result (IsRefusalOf self.old.identity frame.now.object) }
+    {
+        let (class, name) = frame.identity();
+        match same_object(alloc, self.identity.take(), class, name) {
+            Ok(object) => self.identity = Some(object),
+            Err(refusal) => return Some(refusal),
+        }
+        match apply_all(alloc, &mut self.map, frame.batches()) {
             Ok(()) => {
                 self.gate = gate;
                 self.end = end;
@@ -137,30 +165,98 @@ impl Reading {
     }
 }
 
-// The object that both name, or both where they differ. There may be no first.
-fn same_object(first: Option<Identity>, object: Identity) -> Result<Identity, (Identity, Identity)>
-    ensures same { IfOk result (λ both. both ≡ object) }
-    ensures first { IfOk result (λ both. MatchOption first ⊤ (λ named. named ≡ object)) }
-    ensures differ { IfErr result (λ two. (first ≡ Some two.0) × (two.1 ≡ object) × (two.1 ≢ two.0)) }
+// The object of this class and name, where the first, if there is one, is the same.
+fn same_object(
+    alloc: Global,
+    first: Option<Identity>,
+    class: &str,
+    name: &str,
+) -> Result<Identity, Refusal>
+    requires { IsObject (class.now, name.now) }
+    ensures same { IfOk result (λ both. both ≡ (class.now, name.now)) }
+    ensures first { IfOk result (λ both. MatchOption first ⊤ (λ named. named ≡ (class.now, name.now))) }
+    ensures differ { IfErr result (IsRefusalOf first (class.now, name.now)) }
 {
     match first {
-        None => Ok(object),
-        Some(first) => {
-            if first.equal(&object) {
-                Ok(first)
-            } else {
-                Err((first, object))
-            }
-        }
+        None => named(alloc, class, name),
+        Some(first) if first.class() == class && first.name() == name => Ok(first),
+        Some(first) => mixed(alloc, first, class, name),
+    }
+}
+
+// The first object of a journal.
+fn named(alloc: Global, class: &str, name: &str) -> Result<Identity, Refusal>
+    requires { IsObject (class.now, name.now) }
+    ensures same { IfOk result (λ object. object ≡ (class.now, name.now)) }
+    ensures memory { IfErr result (λ refusal. refusal ≡ Refusal.NoMemory) }
+{
+    match make_object(alloc, class, name) {
+        Ok(object) => Ok(object),
+        Err(NoMemory) => Err(Refusal::NoMemory),
+    }
+}
+
+// The refusal of another object than the first.
+fn mixed(alloc: Global, first: Identity, class: &str, name: &str) -> Result<Identity, Refusal>
+    requires object { IsObject (class.now, name.now) }
+    requires differ { (class.now, name.now) ≢ first }
+    ensures refusal { IfErr result (IsRefusalOf (Some first) (class.now, name.now)) }
+    ensures refused { IsErr result }
+{
+    match make_object(alloc, class, name) {
+        Ok(other) => Err(Refusal::Mixed { first, other }),
+        Err(NoMemory) => Err(Refusal::NoMemory),
+    }
+}
+
+fn make_object(alloc: Global, class: &str, name: &str) -> Mem<Identity>
+    requires { IsObject (class.now, name.now) }
+    ensures { IfOk result (λ object. object ≡ (class.now, name.now)) }
+{
+    let class = make_text(alloc, class)?;
+    let name = make_text(alloc, name)?;
+    match Identity::new(class, name) {
+        Some(object) => Ok(object),
+        None => unreachable!(),
+    }
+}
+
+fn make_text(alloc: Global, text: &str) -> Mem<Text>
+    requires { 5 + length text.now ≤ most_bytes }
+    ensures { IfOk result (λ made. made ≡ text.now) }
+{
+    match Text::new(alloc, text) {
+        Ok(text) => Ok(text),
+        Err(BuildFault::NoMemory) => Err(NoMemory),
+        Err(_) => unreachable!(),
     }
 }
 
 // Does the batches from first to last. After `NoMemory` some of them are done.
-fn apply_all(map: &mut Map, batches: &[Batch]) -> Mem<()>
-    ensures { OnOk result (map.new ≡ apply map.old (flat_map (λ ops. ops) batches.now)) }
+fn apply_all(alloc: Global, map: &mut Map, batches: Batches) -> Mem<()>
+    ensures { OnOk result (map.new ≡ apply map.old (flat_map (λ ops. ops) batches.entry.batches)) }
 {
     for batch in batches {
-        map.apply(batch)?;
+        apply_ops(alloc, map, batch.ops())?;
     }
     Ok(())
+}
+
+// Does the operations from first to last. After `NoMemory` some of them are done.
+fn apply_ops(alloc: Global, map: &mut Map, ops: Ops) -> Mem<()>
+    ensures { OnOk result (map.new ≡ apply map.old ops.entry.ops) }
+{
+    for view in ops {
+        apply_view(alloc, map, &view)?;
+    }
+    Ok(())
+}
+
+// Does the operation.
+fn apply_view(alloc: Global, map: &mut Map, view: &OpView) -> Mem<()>
+    requires { (op : Op) × IsOp op × Shows view.now op }
+    ensures { (op : Op) → IsOp op → Shows view.now op → OnOk result (map.new ≡ apply_op map.old op) }
+{
+    let op = view.to_op(alloc)?;
+    map.apply_op(&op)
 }

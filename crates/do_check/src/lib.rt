@@ -16,6 +16,3 @@ mod walk;
 pub use do_tree::CheckKind;
 pub use fault::CheckFault;
 pub use script::check;
-
-#[cfg(test)]
-mod tests;

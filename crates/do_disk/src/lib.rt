@@ -31,6 +31,3 @@ pub use memory_source::MemSource;
 pub use pick::Pick;
 pub use std_stream::{StdSink, StdSource};
 pub use stream::{Sink, Source};
-
-#[cfg(test)]
-mod tests;

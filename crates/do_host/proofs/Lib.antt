@@ -19,3 +19,7 @@ pub mod Accepting
 pub mod Rows
 pub mod Wording
 pub mod Unbuilt
+pub mod Forms
+pub mod Accepted
+pub mod Names
+pub mod Ends

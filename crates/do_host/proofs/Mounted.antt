@@ -39,6 +39,12 @@ pub object_named : (object : Option (List ℕ × List ℕ)) (frames : List Frame
 object_named object [] is = is
 object_named object (frame ∷ frames) is = is.0
 
+-- whatever a crash has left since the disk was handed out recovers to the frames that were mounted
+pub mounted_recovers : {D : Type 0} (moment_of : D → ℕ) (left_since : D → ℕ → List ℕ → Type 0) (told : D → Option (List ℕ)) (image : D → List ℕ → Type 0) (disk : D) (mounted : Mounted D)
+    → moment_of disk ≡ 0 → Only (told disk) (image disk) → (mount : IsMountOf told image moment_of left_since disk mounted) → (c : List ℕ) → left_since mounted.journal.disk 0 c → Recovers c mount.frames
+mounted_recovers moment_of left_since told image disk mounted first durable mount = λ c left.
+    ⊎_elim (λ is. mount.recovers c (durable c is)) (λ is. is) (mount.moments c (subst (λ t. left_since mounted.journal.disk t c) (sym first) left))
+
 -- since its disk was handed out a crash leaves the file, or one that recovers to the same
 pub mounted_since : {D : Type 0} (moment_of : D → ℕ) (left_since : D → ℕ → List ℕ → Type 0) (told : D → Option (List ℕ)) (image : D → List ℕ → Type 0) (disk : D) (mounted : Mounted D)
     → moment_of disk ≡ 0 → Only (told disk) (image disk) → (mount : IsMountOf told image moment_of left_since disk mounted) → ((object : List ℕ × List ℕ) → IsStaged mounted.journal object [])
@@ -51,9 +57,7 @@ mounted_since moment_of left_since told image disk mounted first durable mount s
       named = named;
       values = λ key. ap (λ (m : Contents). value_in m key) mount.map ∙ value_after-nothing (operations_in mount.frames) key;
       later = omega arith;
-      images = λ c left.
-          let recovers : Recovers c mount.frames = ⊎_elim (λ is. mount.recovers c (durable c is)) (λ is. is) (mount.moments c (subst (λ t. left_since mounted.journal.disk t c) (sym first) left)) in
-          (mount.frames, recovers, named, refl);
+      images = λ c left. (mount.frames, mounted_recovers moment_of left_since told image disk mounted first durable mount c left, named, refl);
     }
 
 -- a stop that isn't the disk's fault is a refusal

@@ -1,9 +1,11 @@
 -- What an answer's form gives, and which end each status is.
-use Rattle.std.proofs.Common.{◌≡◌, ◌≤◌, ◌⊎◌, ⊎_elim, ℕ, Option, Some, Result, Ok, Err, OnOk, OnErr, refl, sym, subst, arith}
-use Rattle.std.specs.Prelude.{IfErr, IfSome}
+use Rattle.std.proofs.Common.{◌≡◌, ◌≤◌, ◌⊎◌, ⊎_elim, ℕ, zero, suc, Option, Some, Vec, Global, Result, Ok, Err, OnOk, OnErr, refl, sym, subst, arith}
+use Rattle.std.specs.Prelude.{IfOk, IfErr, IfSome}
 use Rattle.do_host.specs.Lines.{most_left}
-use Rattle.do_host.specs.Status.{status_of, status_in, line_stop, IsStatus, IsOpeningStatus, most_waiting}
-use Rattle.do_host.specs.Opened.{IsOpeningStop}
+use Rattle.do_host.specs.EarlyEnds.{IsOpeningEnd}
+use Rattle.do_host.specs.Status.{status_of, status_in, line_stop, IsStatus, IsOpeningStatus, IsCheckStatus, most_waiting}
+use Rattle.do_host.specs.declared.early_end.EarlyEnd.{EarlyEnd}
+use Rattle.do_host.specs.declared.early_end.EarlyEnd.TheVariants.{Refused, Stopped}
 use Rattle.do_host.specs.declared.fault.LineFault.{LineFault}
 use Rattle.do_host.specs.declared.fault.LineFault.TheVariants.{ReadFailed as LineFailed, NoMemory as NoLineMemory}
 use Rattle.do_host.specs.declared.stop.Stop.{Stop}
@@ -17,6 +19,11 @@ on_ok_map (Err e) P Q f p = tt
 pub on_err_map : {T E : Type 0} (result : Result T E) (P Q : Type 0) → (P → Q) → OnErr result P → OnErr result Q
 on_err_map (Ok x) P Q f p = tt
 on_err_map (Err e) P Q f p = f p
+
+-- a fact of a good answer, from another one
+pub if_ok_map : {T E : Type 0} (result : Result T E) (P Q : T → Type 0) → ((x : T) → P x → Q x) → IfOk result P → IfOk result Q
+if_ok_map (Ok x) P Q f p = f x p
+if_ok_map (Err e) P Q f p = tt
 
 -- a fact that holds after any good answer
 pub on_ok : {T E : Type 0} (result : Result T E) (P : Type 0) → P → OnOk result P
@@ -43,13 +50,13 @@ if_some o x P is p = subst (λ r. IfSome r P) (sym is) p
 
 -- status 0 is a good end
 pub good_end : (result : Result (Unit {0}) Stop) (P : Type 0) → status_in result ≡ 0 → OnOk result P → P
-good_end (Ok done) P zero p = p
-good_end (Err DiskFailed) P zero p = cc
-good_end (Err NoMemory) P zero p = cc
-good_end (Err ReadFailed) P zero p = cc
-good_end (Err WriteFailed) P zero p = cc
-good_end (Err BadSlot) P zero p = cc
-good_end (Err NotBuilt) P zero p = cc
+good_end (Ok done) P none p = p
+good_end (Err DiskFailed) P none p = cc
+good_end (Err NoMemory) P none p = cc
+good_end (Err ReadFailed) P none p = cc
+good_end (Err WriteFailed) P none p = cc
+good_end (Err BadSlot) P none p = cc
+good_end (Err NotBuilt) P none p = cc
 
 -- status 3 is a disk's fault
 pub disk_end : (result : Result (Unit {0}) Stop) → status_in result ≡ 3 → result ≡ Err DiskFailed
@@ -89,17 +96,21 @@ pub end_is : (stop other : Stop) → ended stop ≡ ended other → stop ≡ oth
 end_is stop other e = cc
 
 -- an opening that ends so
-abbrev stopped : {T : Type 0} → Stop → Result T Stop
-stopped {T} stop = Err stop
+abbrev stopped : {T : Type 0} → Stop → Result T EarlyEnd
+stopped {T} stop = Err (Stopped stop)
 
 -- the answer of a fault
 abbrev fails : {T : Type 0} → LineFault → Result T LineFault
 fails {T} fault = Err fault
 
+other_line : {T : Type 0} (stop : Stop) (bytes : Vec ℕ Global) → stopped {T = T} stop ≡ Err (Refused bytes) → ⊥
+other_line stop bytes e = cc
+
 -- a stop that is none of an opening
-no_opening : {T : Type 0} (stop : Stop) → (stop ≡ DiskFailed → ⊥) → (stop ≡ NoMemory → ⊥) → (stop ≡ BadSlot → ⊥) → (stop ≡ NotBuilt → ⊥) → IsOpeningStop (stopped {T = T} stop) → ⊥
-no_opening stop disk memory bad built is =
-    ⊎_elim (λ e. disk (cc)) (λ rest. ⊎_elim (λ e. memory (cc)) (λ others. ⊎_elim (λ e. bad (cc)) (λ e. built (cc)) others) rest) is
+no_opening : {T : Type 0} (stop : Stop) → (stop ≡ DiskFailed → ⊥) → (stop ≡ NoMemory → ⊥) → (stop ≡ BadSlot → ⊥) → (stop ≡ NotBuilt → ⊥) → IsOpeningEnd (stopped {T = T} stop) → ⊥
+no_opening {T} stop disk memory bad built is =
+    ⊎_elim (λ refused. absurd (other_line {T = T} stop refused.1.0 refused.1.1))
+    (λ rest. ⊎_elim (λ e. disk (cc)) (λ rest. ⊎_elim (λ e. memory (cc)) (λ others. ⊎_elim (λ e. bad (cc)) (λ e. built (cc)) others) rest) rest) is
 
 -- status 5 is a read fault
 pub read_end : (result : Result (Unit {0}) Stop) → status_in result ≡ 5 → result ≡ Err ReadFailed
@@ -122,30 +133,54 @@ opening_bad NotBuilt seven = cc
 
 -- each stop has a status
 pub stop_status : (stop : Stop) → IsStatus (status_of stop)
-stop_status DiskFailed = (2, omega arith, refl)
-stop_status NoMemory = (3, omega arith, refl)
-stop_status ReadFailed = (4, omega arith, refl)
-stop_status WriteFailed = (5, omega arith, refl)
-stop_status BadSlot = (6, omega arith, refl)
-stop_status NotBuilt = (7, omega arith, refl)
+stop_status DiskFailed = (3, omega arith, refl)
+stop_status NoMemory = (4, omega arith, refl)
+stop_status ReadFailed = (5, omega arith, refl)
+stop_status WriteFailed = (6, omega arith, refl)
+stop_status BadSlot = (7, omega arith, refl)
+stop_status NotBuilt = (8, omega arith, refl)
 
 -- each end has a status
 pub end_status : (result : Result (Unit {0}) Stop) → IsStatus (status_in result)
 end_status (Ok done) = (0, omega arith, refl)
 end_status (Err stop) = stop_status stop
 
--- words that aren't taken have a status
+-- words that aren't taken have a status, and so has a script that is refused
 pub usage_status : (status : ℕ) → (status ≡ 1) ⊎ (status ≡ 6) → IsStatus status
-usage_status status end = ⊎_elim (λ one. (1, omega arith, sym one)) (λ six. (5, omega arith, sym six)) end
+usage_status status end = ⊎_elim (λ one. (1, omega arith, sym one)) (λ six. (6, omega arith, sym six)) end
+
+pub refused_status : (status : ℕ) → (status ≡ 2) ⊎ (status ≡ 6) → IsStatus status
+refused_status status end = ⊎_elim (λ two. (2, omega arith, sym two)) (λ six. (6, omega arith, sym six)) end
+
+pub refused_opening : (status : ℕ) → (status ≡ 2) ⊎ (status ≡ 6) → IsOpeningStatus status
+refused_opening status end = ⊎_elim (λ two. (0, omega arith, sym two)) (λ six. (3, omega arith, sym six)) end
+
+-- a check ends with one of its statuses
+pub refused_check : (status : ℕ) → (status ≡ 2) ⊎ (status ≡ 6) → IsCheckStatus status
+refused_check status end = ⊎_elim (λ two. (1, omega arith, sym two)) (λ six. (4, omega arith, sym six)) end
+
+pub told_check : (status : ℕ) → (status ≡ 0) ⊎ (status ≡ 6) → IsCheckStatus status
+told_check status end = ⊎_elim (λ none. (0, omega arith, sym none)) (λ six. (4, omega arith, sym six)) end
+
+pub stopped_check : (stop : Stop) → (stop ≡ DiskFailed) ⊎ (stop ≡ NoMemory) → IsCheckStatus (status_of stop)
+stopped_check stop is = ⊎_elim (λ e. rw e (2, omega arith, refl)) (λ e. rw e (3, omega arith, refl)) is
+
+pub check_status : (status : ℕ) → IsCheckStatus status → IsStatus status
+check_status status (zero, within, is) = (0, omega arith, is)
+check_status status (suc zero, within, is) = (2, omega arith, is)
+check_status status (suc (suc zero), within, is) = (3, omega arith, is)
+check_status status (suc (suc (suc zero)), within, is) = (4, omega arith, is)
+check_status status (suc (suc (suc (suc zero))), within, is) = (6, omega arith, is)
+check_status status (suc (suc (suc (suc (suc n)))), within, is) = absurd (omega (arith, within))
 
 -- a stop of an opening has a status of one
-pub opening_status : {T : Type 0} (stop : Stop) → IsOpeningStop (stopped {T = T} stop) → IsOpeningStatus (status_of stop)
-opening_status DiskFailed is = (0, omega arith, refl)
-opening_status NoMemory is = (1, omega arith, refl)
+pub opening_status : {T : Type 0} (stop : Stop) → IsOpeningEnd (stopped {T = T} stop) → IsOpeningStatus (status_of stop)
+opening_status DiskFailed is = (1, omega arith, refl)
+opening_status NoMemory is = (2, omega arith, refl)
 opening_status ReadFailed is = absurd (no_opening ReadFailed (λ e. cc) (λ e. cc) (λ e. cc) (λ e. cc) is)
 opening_status WriteFailed is = absurd (no_opening WriteFailed (λ e. cc) (λ e. cc) (λ e. cc) (λ e. cc) is)
-opening_status BadSlot is = (2, omega arith, refl)
-opening_status NotBuilt is = (3, omega arith, refl)
+opening_status BadSlot is = (4, omega arith, refl)
+opening_status NotBuilt is = (5, omega arith, refl)
 
 -- what a fault leaves looked at, the stop that it makes leaves waiting
 pub waiting_fault : (T : Type 0) (fault : LineFault) → most_left (fails {T = T} fault) ≤ most_waiting (status_of (line_stop fault))

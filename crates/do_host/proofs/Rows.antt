@@ -6,11 +6,13 @@ use Rattle.std.proofs.lemmas.List.{append-nil}
 use Rattle.std.proofs.lemmas.List.Elements.{All-cons, All-nil}
 use Rattle.do_disk.specs.Disk.{Rose}
 use Rattle.batch_journal.specs.Frames.{Frame}
-use Rattle.object_core.specs.Serving.{IsServing, IsHistoryOf, object_of, disk_of, front_of}
+use Rattle.object_core.specs.History.{line}
+use Rattle.object_core.specs.Within.{RecoversWithin}
+use Rattle.object_core.specs.Serving.{IsServing, IsWithinLimit, IsHistoryOf, limit_in, object_of, disk_of, front_of, back_of}
 use Rattle.object_core.specs.declared.object.Core.{Core}
 use Rattle.do_host.specs.Switch.{of_slot, text_of, events_in}
 use Rattle.do_host.specs.Served.{Stands, IsLogged, IsBlank, HasWritten, WritesFirstOf}
-use Rattle.do_host.specs.Report.{object_in, IsSlotHistory, IsQuiet, HasDisk, HasFailedStore}
+use Rattle.do_host.specs.Report.{object_in, IsSlotHistory, StaysWithin, IsQuiet, HasDisk, HasFailedStore}
 use Rattle.do_host.specs.Opened.{IsFresh, IsOpened, HasFailedDisk, row_of}
 use Rattle.do_host.specs.Going.{HasGiven}
 use Rattle.do_host.specs.Requests.{SeenLine}
@@ -62,6 +64,15 @@ module _ {D : Type 0} where
         run = ended.switch;
         served = ended.slot;
       }
+
+  -- no frame that a crash leaves passes the limit
+  pub row_within : (moment_of : D → ℕ) (left_since : D → ℕ → List ℕ → Type 0) (told : D → Option (List ℕ)) (image : D → List ℕ → Type 0) (content : Option (List ℕ)) (core next : Core D)
+      (opened : IsOpened moment_of left_since told image content core) → limit_in next ≡ limit_in core → IsWithinLimit left_since 0 opened.start next → StaysWithin left_since content (row_of next)
+  row_within moment_of left_since told image content core next opened same within = record {
+    start = opened.start;
+    recovered = opened.recovered;
+    within = λ c left. subst (λ limit. RecoversWithin limit opened.start (object_of next) (line (back_of next)) c) (same ∙ opened.limit) (within c left);
+  }
 
   -- where the slot stands between two lines nothing is under way
   pub row_quiet : (moment_of : D → ℕ) (left_since : D → ℕ → List ℕ → Type 0) (told : D → Option (List ℕ)) (image : D → List ℕ → Type 0) (content : Option (List ℕ)) (core next : Core D) (log more : SwitchLog)

@@ -11,9 +11,14 @@ pub mod Going
 pub mod Lines
 pub mod Text
 pub mod FirstForm
+pub mod Scripts
+pub mod ScriptLines
+pub mod Steps
+pub mod EarlyEnds
 pub mod Switch
 pub mod Status
 pub mod Served
 pub mod Report
+pub mod Commands
 pub mod Opened
 pub mod NotBuilt

@@ -7,7 +7,7 @@ use Rattle.batch_journal.specs.Frames.{Frame}
 use Rattle.storage_map.specs.Limits.{Object}
 use Rattle.batch_journal.specs.Recovery.{Recovers, IsUnfinished}
 use Rattle.batch_journal.specs.Refused.{IsForeign, IsDamaged, IsMixed}
-use Rattle.object_core.specs.Serving.{IsServing, limit_in, object_of, disk_of, front_of, back_of}
+use Rattle.object_core.specs.Serving.{IsServing, IsWithinLimit, limit_in, object_of, disk_of, front_of, back_of}
 use Rattle.do_host.specs.Report.{object_in}
 use Rattle.object_core.specs.declared.object.Core.{Core}
 use Rattle.do_host.specs.declared.report.SlotReport.{SlotReport}
@@ -21,13 +21,14 @@ pub record IsFresh {D : Type 0} (core : Core D) : Type 0 where
   pub released : (back_of core).released.items ≡ []
 
 -- The core serves since its disk was handed out, from the frames that the file of this content recovers to, and has the
--- object that they name. Its journal's limit is that of every slot.
+-- object that they name. Its journal's limit is that of every slot, and no frame that a crash leaves passes it.
 pub record IsOpened {D : Type 0} (moment_of : D → ℕ) (left_since : D → ℕ → List ℕ → Type 0) (told : D → Option (List ℕ)) (image : D → List ℕ → Type 0) (content : Option (List ℕ)) (core : Core D) : Type 0 where
   pub start : List Frame
   pub recovered : IfTold content (λ c. Recovers c start)
   pub object : object_of core ≡ object_in start
   pub serving : IsServing moment_of left_since told image 0 start core
   pub limit : limit_in core ≡ MOST_JOURNAL_BYTES
+  pub within : IsWithinLimit left_since 0 start core
 
 -- a disk, which was handed out at 0 faults, isn't mounted, and its count rose
 abbrev pub HasFailedDisk : {S : Type 0} → (S → ℕ) → Option S → Type 0

@@ -5,8 +5,10 @@ use Rattle.batch_journal.specs.Frames.{Frame}
 use Rattle.batch_journal.specs.Recovery.{Recovers}
 use Rattle.object_core.specs.Said.{spoken, messages_in}
 use Rattle.object_core.specs.History.{IsHistory, line, needs_of}
+use Rattle.object_core.specs.Within.{RecoversWithin}
 use Rattle.do_host.specs.Switch.{of_slot, posts_of, lines_of, events_in, messages_of, IsSwitchRun, IsServedBy}
 use Rattle.do_host.specs.Served.{IsBlank}
+use Rattle.do_host.specs.declared.TheConstants.{MOST_JOURNAL_BYTES}
 use Rattle.do_host.specs.declared.report.Report.{Report}
 use Rattle.do_host.specs.declared.report.SlotReport.{SlotReport}
 use Rattle.do_host.specs.declared.switch_log.SwitchLog.{SwitchLog}
@@ -17,6 +19,21 @@ IsServe words script folder = words ≡ codes "serve" ∷ script ∷ folder ∷ 
 
 abbrev pub AreServeWords : List (List ℕ) → Type 0
 AreServeWords words = (script : List ℕ) × (folder : List ℕ) × IsServe words script folder
+
+-- the words are `check`, and the path of a script
+abbrev pub IsCheck : List (List ℕ) → List ℕ → Type 0
+IsCheck words script = words ≡ codes "check" ∷ script ∷ []
+
+abbrev pub AreCheckWords : List (List ℕ) → Type 0
+AreCheckWords words = (script : List ℕ) × IsCheck words script
+
+-- the words are one of the two commands
+abbrev pub AreCommandWords : List (List ℕ) → Type 0
+AreCommandWords words = AreServeWords words ⊎ AreCheckWords words
+
+-- the words are a command over the script at this path
+abbrev pub IsOverScript : List (List ℕ) → List ℕ → Type 0
+IsOverScript words script = ((folder : List ℕ) × IsServe words script folder) ⊎ IsCheck words script
 
 -- the run hasn't begun
 pub record IsEmpty {S : Type 0} (report : Report S) : Type 0 where
@@ -38,6 +55,13 @@ pub record IsSlotHistory {S : Type 0} (moment_of : S → ℕ) (left_since : S �
   pub history : IsHistory moment_of left_since image 0 start row.store row.identity row.front row.back
   pub run : IsSwitchRun (object_in start) switch
   pub served : IsServedBy 0 switch row.front row.back
+
+-- The slot's file recovered to these frames, and whatever a crash has left since its disk was handed out has no further frame
+-- that passes the limit of a journal.
+pub record StaysWithin {S : Type 0} (left_since : S → ℕ → List ℕ → Type 0) (content : Option (List ℕ)) (row : SlotReport S) : Type 0 where
+  pub start : List Frame
+  pub recovered : IfTold content (λ c. Recovers c start)
+  pub within : (c : List ℕ) → left_since row.store 0 c → RecoversWithin MOST_JOURNAL_BYTES start row.identity (line row.back) c
 
 -- Nothing is under way: all that the accepted lines post was posted, each post was delivered, each batch is durable, each
 -- message left and was routed, and each routed message has its line.

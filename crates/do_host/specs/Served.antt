@@ -67,6 +67,10 @@ HasWritten before after lines = after ≡ option_map (λ taken. taken ++ text_of
 abbrev pub WritesFirstOf : Option (List ℕ) → Option (List ℕ) → List ℕ → Type 0
 WritesFirstOf before after text = (n : ℕ) × (n ≤ length text) × (after ≡ option_map (λ taken. taken ++ take n text) before)
 
+-- all of this text was written behind what was taken before
+abbrev pub WritesAll : Option (List ℕ) → Option (List ℕ) → List ℕ → Type 0
+WritesAll before after text = after ≡ option_map (λ taken. taken ++ text) before
+
 -- nothing was logged
 pub record IsBlank (log : SwitchLog) : Type 0 where
   pub accepted : log.accepted.items ≡ []

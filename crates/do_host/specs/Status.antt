@@ -1,6 +1,6 @@
--- The status of a run that ends before its last line. This project's profile: 3 where the depot or a disk failed, 4 for want
+-- The status of a run that ends before its last line. This project's profile: 2 for a script that is refused, 3 where the depot or a disk failed, 4 for want
 -- of memory, 5 for a read fault, 6 for a write fault, 7 for a slot whose file is no journal of one object, 8 for what isn't built yet.
-use Rattle.std.specs.Prelude.{ℕ, ◌==◌, ◌||◌, if◌then◌else◌, [], ◌∷◌, Result, Ok, Err}
+use Rattle.std.specs.Prelude.{◌≢◌, ℕ, ◌==◌, ◌||◌, if◌then◌else◌, [], ◌∷◌, Result, Ok, Err}
 use Rattle.std.specs.List.{Contains}
 use Rattle.do_disk.specs.declared.depot.DepotFault.{DepotFault}
 use Rattle.do_disk.specs.declared.depot.DepotFault.TheVariants.{Failed, NoMemory as NoDepotMemory}
@@ -13,13 +13,23 @@ use Rattle.do_host.specs.declared.fault.LineFault.TheVariants.{ReadFailed as Lin
 use Rattle.do_host.specs.declared.stop.Stop.{Stop}
 use Rattle.do_host.specs.declared.stop.Stop.TheVariants.{DiskFailed, NoMemory, ReadFailed, WriteFailed, BadSlot, NotBuilt}
 
--- a status that a run may end with: 0 for all lines served, 1 for words that aren't taken, and those above
+-- a status that a run may end with: 0 for all lines served or a script that is accepted, 1 for words that aren't taken, and
+-- those above
 abbrev pub IsStatus : ℕ → Type 0
-IsStatus status = Contains (0 ∷ 1 ∷ 3 ∷ 4 ∷ 5 ∷ 6 ∷ 7 ∷ 8 ∷ []) status
+IsStatus status = Contains (0 ∷ 1 ∷ 2 ∷ 3 ∷ 4 ∷ 5 ∷ 6 ∷ 7 ∷ 8 ∷ []) status
 
--- a status of a run whose slot wasn't mounted
+-- a status of `serve` where the slot wasn't mounted
 abbrev pub IsOpeningStatus : ℕ → Type 0
-IsOpeningStatus status = Contains (3 ∷ 4 ∷ 7 ∷ 8 ∷ []) status
+IsOpeningStatus status = Contains (2 ∷ 3 ∷ 4 ∷ 6 ∷ 7 ∷ 8 ∷ []) status
+
+-- a status of `check`
+abbrev pub IsCheckStatus : ℕ → Type 0
+IsCheckStatus status = Contains (0 ∷ 2 ∷ 3 ∷ 4 ∷ 6 ∷ []) status
+
+-- a status at which a run that serves no line writes nothing: none of those of a line that tells of the words or the script, and
+-- no write fault
+abbrev pub IsSilentStatus : ℕ → Type 0
+IsSilentStatus status = (status ≢ 0) × (status ≢ 1) × (status ≢ 2) × (status ≢ 6)
 
 -- how many lines may have been looked at and not accepted: one where memory was wanting, or where it isn't built yet
 abbrev pub most_waiting : ℕ → ℕ

@@ -1,11 +1,14 @@
 //! The host: the top call, with lines in and lines out.
 #![tactic(auto)]
 
+mod accept;
 mod buffer;
 mod bytes;
 mod cut;
+mod early_end;
 mod fault;
 mod first_form;
+mod form;
 mod line;
 mod lines;
 mod opening;
@@ -20,6 +23,7 @@ mod report;
 mod request;
 mod routing;
 mod script;
+mod script_lines;
 mod serving;
 mod stop;
 mod switch_log;

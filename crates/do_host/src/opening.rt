@@ -1,18 +1,21 @@
-// From the words to the core of the one slot.
-ghost use Rattle.std.specs.Prelude.{◌≡◌, ◌≢◌, ◌⊎◌, ◌+◌, ◌≤◌, ◌++◌, ◌∷◌, [], ℕ, List, Err, IfOk, IfErr, IfSome, IsSome, OnOk, OnErr, IsErrOf, None, Some, vec_len};
+// From the words of `serve` to the core of the one slot.
+ghost use Rattle.std.specs.Prelude.{◌≡◌, ◌⊎◌, ◌+◌, ◌≤◌, ◌++◌, ◌∷◌, [], ℕ, List, Err, IfOk, IfErr, IfSome, IsSome, OnOk, OnErr, IsErrOf, None, Some, vec_len};
 ghost use Rattle.std.specs.Vec.{vec_capacity};
 ghost use Rattle.do_disk.specs.Disk.{IfTold, Only, Rose};
 ghost use Rattle.do_disk.specs.Asks.{for_text, for_slot};
 ghost use Rattle.object_core.specs.Said.{IsPrefix};
 ghost use Rattle.object_core.specs.Serving.{CanServe};
+ghost use Rattle.do_host.specs.EarlyEnds.{IsRefusedBy, IsStoppedBy, IsOpeningEnd};
 ghost use Rattle.do_host.specs.Opened.{IsFresh, IsOpened, IsBadFile, HasFailedDisk, IsOpeningStop, LeavesFile, LeavesFileOrHeader, Asks};
+ghost use Rattle.do_host.specs.ScriptLines.{IsRefusalLine};
+ghost use Rattle.do_host.specs.Scripts.{IsFirstScript, IsOtherScript};
 ghost use Rattle.do_host.specs.Status.{mount_stop};
 ghost use Rattle.batch_journal.specs.Mounting.{disk_left};
-ghost use Rattle.do_host.specs.declared.script.TheConstants.{PUT_AND_READ};
 
 use crate::MOST_JOURNAL_BYTES;
+use crate::early_end::EarlyEnd;
 use crate::report::{Report, SlotReport};
-use crate::script::is_put_and_read;
+use crate::script::first_script;
 use crate::stop::Stop;
 use crate::words::ServeWords;
 use batch_journal::{Journal, MountFault};
@@ -21,13 +24,14 @@ use do_value::{Mem, NoMemory};
 use object_core::Core;
 use std::alloc::Global;
 
-// The core of slot 0, with room for its row. The disk of a slot that isn't mounted goes to the report.
+// The core of slot 0, with room for its row, where the script is accepted and of the first form. The disk of a slot that
+// isn't mounted goes to the report.
 pub(crate) fn open<P: Depot>(
     alloc: Global,
     words: ServeWords,
     depot: &mut P,
     report: &mut Report<P::Store>,
-) -> Result<Core<P::Store>, Stop>
+) -> Result<Core<P::Store>, EarlyEnd>
     requires { report.old.unopened ≡ None }
     ensures opened { IfOk result (IsOpened P.Store.moment_of P.Store.left_since P.Store.told P.Store.image (P.slot_at depot.old words.entry.folder.now 0)) }
     ensures fresh { IfOk result IsFresh }
@@ -38,40 +42,23 @@ pub(crate) fn open<P: Depot>(
     ensures asked { Asks (P.asked depot.old) (P.asked depot.new) (for_text words.entry.script.now ∷ for_slot words.entry.folder.now 0 ∷ []) }
     ensures mounted_asked { OnOk result (P.asked depot.new ≡ P.asked depot.old ++ for_text words.entry.script.now ∷ for_slot words.entry.folder.now 0 ∷ []) }
     ensures kept_asked { IsSome report.new.unopened → P.asked depot.new ≡ P.asked depot.old ++ for_text words.entry.script.now ∷ for_slot words.entry.folder.now 0 ∷ [] }
-    ensures mounted_script { OnOk result (IfTold (P.text_at depot.old words.entry.script.now) (λ text. text ≡ PUT_AND_READ.now)) }
-    ensures kept_script { IsSome report.new.unopened → IfTold (P.text_at depot.old words.entry.script.now) (λ text. text ≡ PUT_AND_READ.now) }
+    ensures mounted_script { OnOk result (IfTold (P.text_at depot.old words.entry.script.now) IsFirstScript) }
+    ensures kept_script { IsSome report.new.unopened → IfTold (P.text_at depot.old words.entry.script.now) IsFirstScript }
     ensures left { IfSome report.new.unopened (LeavesFileOrHeader P.Store.left_since (P.slot_at depot.old words.entry.folder.now 0)) }
-    ensures untouched { (IsErrOf result Stop.DiskFailed → ⊥) → IfSome report.new.unopened (LeavesFile P.Store.left_since (P.slot_at depot.old words.entry.folder.now 0)) }
-    ensures bad_kept { IsErrOf result Stop.BadSlot → IsSome report.new.unopened }
-    ensures stop { OnErr result (IsOpeningStop result) }
-    ensures failed { IsErrOf result Stop.DiskFailed → Rose (P.faults_of depot.old) (P.faults_of depot.new) ⊎ HasFailedDisk P.Store.faults_of report.new.unopened }
-    ensures bad { IsErrOf result Stop.BadSlot → IfTold (P.slot_at depot.old words.entry.folder.now 0) IsBadFile }
-    ensures not_built { IsErrOf result Stop.NotBuilt → IfTold (P.text_at depot.old words.entry.script.now) (λ text. text ≢ PUT_AND_READ.now) }
+    ensures untouched { (IsStoppedBy result Stop.DiskFailed → ⊥) → IfSome report.new.unopened (LeavesFile P.Store.left_since (P.slot_at depot.old words.entry.folder.now 0)) }
+    ensures bad_kept { IsStoppedBy result Stop.BadSlot → IsSome report.new.unopened }
+    ensures end { OnErr result (IsOpeningEnd result) }
+    ensures failed { IsStoppedBy result Stop.DiskFailed → Rose (P.faults_of depot.old) (P.faults_of depot.new) ⊎ HasFailedDisk P.Store.faults_of report.new.unopened }
+    ensures bad { IsStoppedBy result Stop.BadSlot → IfTold (P.slot_at depot.old words.entry.folder.now 0) IsBadFile }
+    ensures not_built { IsStoppedBy result Stop.NotBuilt → IfTold (P.text_at depot.old words.entry.script.now) IsOtherScript }
+    ensures refused { (line : List ℕ) → IsRefusedBy result line → IfTold (P.text_at depot.old words.entry.script.now) (λ text. IsRefusalLine text line) }
+    ensures refused_whole { (line : List ℕ) → IsRefusedBy result line → P.asked depot.new ≡ P.asked depot.old ++ for_text words.entry.script.now ∷ [] }
+    ensures refused_same { (line : List ℕ) → IsRefusedBy result line → report.new ≡ report.old }
 {
-    read_script(depot, words.script)?;
+    first_script(alloc, depot, words.script)?;
     make_row(&mut report.slots)?;
     let disk = depot.slot(words.folder, 0)?;
-    mount(alloc, disk, &mut report.unopened)
-}
-
-// Reads the script, and tests that it is the one that is served so far.
-fn read_script<P: Depot>(depot: &mut P, path: &str) -> Result<(), Stop>
-    ensures asked { Asks (P.asked depot.old) (P.asked depot.new) (for_text path.now ∷ []) }
-    ensures whole { OnOk result (P.asked depot.new ≡ P.asked depot.old ++ for_text path.now ∷ []) }
-    ensures same_slots { (folder : List ℕ) (number : ℕ) → P.slot_at depot.new folder number ≡ P.slot_at depot.old folder number }
-    ensures stop { OnErr result (IsOpeningStop result) }
-    ensures failed { IsErrOf result Stop.DiskFailed → Rose (P.faults_of depot.old) (P.faults_of depot.new) }
-    ensures steady { OnOk result (P.faults_of depot.new ≡ P.faults_of depot.old) }
-    ensures no_slot { IsErrOf result Stop.BadSlot → ⊥ }
-    ensures first_script { OnOk result (IfTold (P.text_at depot.old path.now) (λ text. text ≡ PUT_AND_READ.now)) }
-    ensures not_built { IsErrOf result Stop.NotBuilt → IfTold (P.text_at depot.old path.now) (λ text. text ≢ PUT_AND_READ.now) }
-{
-    let text = depot.text(path)?;
-    if is_put_and_read(text.as_slice()) {
-        Ok(())
-    } else {
-        Err(Stop::NotBuilt)
-    }
+    Ok(mount(alloc, disk, &mut report.unopened)?)
 }
 
 fn make_row<S>(slots: &mut Vec<SlotReport<S>>) -> Mem<()>

@@ -1,7 +1,7 @@
 // From an accepted line to its posts.
 ghost use Rattle.std.specs.Prelude.{◌≡◌, ◌++◌, ◌∷◌, [], ◌+◌, ◌≤◌, ℕ, List, map, IsSome, Option, IfOk, IfSome, OnOk, OnErr, None, Some, option_map, vec_len};
 ghost use Rattle.batch_journal.specs.Frames.{Frame};
-ghost use Rattle.object_core.specs.Serving.{IsFirstForm, IsServing, SameLogs, limit_in, object_of, disk_of, front_of, back_of};
+ghost use Rattle.object_core.specs.Serving.{IsFirstForm, IsServing, IsWithinLimit, SameLogs, limit_in, object_of, disk_of, front_of, back_of};
 ghost use Rattle.do_host.specs.FirstForm.{IsFirstLine};
 ghost use Rattle.do_host.specs.Switch.{binds, call_posts, object_of_body};
 ghost use Rattle.do_host.specs.Served.{Stands, SameSwitch, HasPostRoom};
@@ -28,6 +28,7 @@ pub(crate) fn post<D: Disk>(core: &mut Core<D>, log: &mut SwitchLog, line: Line)
     ensures same_logs { OnErr result (SameLogs core.old core.new) }
     ensures same_released { (back_of core.new).released.items ≡ (back_of core.old).released.items }
     ensures serving { (since : ℕ) (start : List Frame) → IsServing D.moment_of D.left_since D.told D.image since start core.old → IsServing D.moment_of D.left_since D.told D.image since start core.new }
+    ensures within { (since : ℕ) (start : List Frame) → IsWithinLimit D.left_since since start core.old → IsWithinLimit D.left_since since start core.new }
     ensures same_disk { disk_of core.new ≡ disk_of core.old }
     ensures same_limit { limit_in core.new ≡ limit_in core.old }
 {
@@ -97,6 +98,7 @@ fn bind<D: Disk>(core: &mut Core<D>, bound: Option<Bound>) -> Mem<Option<Identit
     ensures same_logs { OnErr result (SameLogs core.old core.new) }
     ensures same_released { (back_of core.new).released.items ≡ (back_of core.old).released.items }
     ensures serving { (since : ℕ) (start : List Frame) → IsServing D.moment_of D.left_since D.told D.image since start core.old → IsServing D.moment_of D.left_since D.told D.image since start core.new }
+    ensures within { (since : ℕ) (start : List Frame) → IsWithinLimit D.left_since since start core.old → IsWithinLimit D.left_since since start core.new }
     ensures same_disk { disk_of core.new ≡ disk_of core.old }
     ensures same_limit { limit_in core.new ≡ limit_in core.old }
 {

@@ -10,21 +10,24 @@ ghost use Rattle.do_host.specs.Requests.{requests, through};
 ghost use Rattle.do_host.specs.Seen.{seen};
 ghost use Rattle.do_host.specs.Going.{HasGiven, HasLookedAt};
 ghost use Rattle.do_host.specs.Switch.{text_of};
-ghost use Rattle.do_host.specs.Served.{HasWritten, WritesFirstOf};
-ghost use Rattle.do_host.specs.Report.{IsEmpty, IsServe, AreServeWords, IsSlotHistory, IsQuiet, HasDisk, HasFailedStore};
+ghost use Rattle.do_host.specs.Served.{HasWritten, WritesFirstOf, WritesAll};
+ghost use Rattle.do_host.specs.Scripts.{IsFirstScript, IsOtherScript};
+ghost use Rattle.do_host.specs.ScriptLines.{IsRefusalLine, IsScriptLine, IsCheckLine};
+ghost use Rattle.do_host.specs.Report.{IsEmpty, IsServe, AreServeWords, IsCheck, AreCheckWords, AreCommandWords, IsOverScript, IsSlotHistory, StaysWithin, IsQuiet, HasDisk, HasFailedStore};
 ghost use Rattle.do_host.specs.NotBuilt.{IsNotBuilt, IsFormed};
 ghost use Rattle.do_host.specs.Opened.{IsFresh, IsOpened, IsBadFile, LeavesFile, LeavesFileOrHeader, Asks, row_of};
-ghost use Rattle.do_host.specs.Status.{status_in, most_waiting, IsStatus, IsOpeningStatus};
+ghost use Rattle.do_host.specs.Status.{status_in, most_waiting, IsStatus, IsOpeningStatus, IsCheckStatus, IsSilentStatus};
 ghost use Rattle.do_host.specs.declared.TheConstants.{MOST_LINES};
 ghost use Rattle.do_host.specs.declared.program.TheConstants.{USAGE};
-ghost use Rattle.do_host.specs.declared.script.TheConstants.{PUT_AND_READ};
 
+use crate::early_end::EarlyEnd;
 use crate::lines::Lines;
 use crate::opening::open;
 use crate::report::{Report, SlotReport};
+use crate::script::told_script;
 use crate::serving::serve;
 use crate::stop::Stop;
-use crate::words::serve_words;
+use crate::words::{Command, command_of};
 use crate::write::put;
 use do_disk::{Depot, Disk, Sink, Source, TurnGate};
 use object_core::{Core, CoreParts};
@@ -41,20 +44,23 @@ pub struct Ran<R, W> {
     pub out: W,
 }
 
-/// Runs the program: `serve SCRIPT FOLDER` serves the lines of the input over slot 0 of the folder.
+/// Runs the program: `serve SCRIPT FOLDER` serves the lines of the input over slot 0 of the folder, and `check SCRIPT` tells
+/// of the script alone.
 ///
 /// | status | comes |
 /// |---|---|
-/// | 0 | the input was read to its end, or through line [`MOST_LINES`](crate::MOST_LINES), and each call has its reply |
-/// | 1 | exactly where the words aren't `serve SCRIPT FOLDER`; prints `["usage"]` |
+/// | 0 | `serve`: the input was read to its end, or through line [`MOST_LINES`](crate::MOST_LINES), and each call has its reply; `check`: the script is accepted; prints `["script",[names]]`, the classes in the order of the text |
+/// | 1 | exactly where the words are neither command; prints `["usage"]` |
+/// | 2 | where the script is refused; prints `["script-refused",place,kind]`, its first fault |
 /// | 3 | only where the count of faults of the depot or of the slot's disk rose |
 /// | 4 | want of memory |
 /// | 5 | only where the source's count of faults rose |
 /// | 6 | only where the sink's count of faults rose |
 /// | 7 | only where the slot's file is foreign, damaged or mixed; the report has its disk as `unopened`, and its file is as it was |
-/// | 8 | what is asked for isn't built yet: another script than [`PUT_AND_READ`](crate::PUT_AND_READ), a line that isn't a call of `set` or `read` on the slot's object with a key and a value that storage takes, or a journal that would pass [`MOST_JOURNAL_BYTES`](crate::MOST_JOURNAL_BYTES) |
+/// | 8 | what is asked for isn't built yet: another accepted script than [`PUT_AND_READ`](crate::PUT_AND_READ), separators and comments aside, a line that isn't a call of `set` or `read` on the slot's object with a key and a value that storage takes, or a journal that would pass [`MOST_JOURNAL_BYTES`](crate::MOST_JOURNAL_BYTES) |
 ///
-/// No other status comes. A script that the depot tells is served only where it is that one, and only such lines are accepted.
+/// No other status comes. A script that the depot tells is served only where it is accepted and has the tokens of that one,
+/// and only such lines are accepted.
 ///
 /// The gate isn't called yet.
 pub fn run<P: Depot, R: Source + Send, W: Sink + Send, G: TurnGate + Sync>(
@@ -72,6 +78,8 @@ pub fn run<P: Depot, R: Source + Send, W: Sink + Send, G: TurnGate + Sync>(
     // was delivered begins what the accepted lines post, what was routed begins what was released, and the output's lines
     // begin those of the routed messages.
     ensures history { (script folder : List ℕ) → IsServe (map string_bytes words.now) script folder → All (IsSlotHistory P.Store.moment_of P.Store.left_since P.Store.image (P.slot_at depot.old folder 0) report.new.switch) report.new.slots.items }
+    // No frame that this leaves passes the limit of a journal, but those that the slot's file had.
+    ensures within { (script folder : List ℕ) → IsServe (map string_bytes words.now) script folder → All (StaysWithin P.Store.left_since (P.slot_at depot.old folder 0)) report.new.slots.items }
     ensures one_slot { length report.new.slots.items ≤ 1 }
     ensures no_row { report.new.slots.items ≡ [] → (result.input ≡ input) × (report.new.switch ≡ report.old.switch) × (report.new.lines ≡ 0) }
     // At any end: the lines that were read and accepted, and what was written.
@@ -79,43 +87,88 @@ pub fn run<P: Depot, R: Source + Send, W: Sink + Send, G: TurnGate + Sync>(
     ensures looked_at { IfTold (R.left input) (λ whole. HasLookedAt whole (map seen report.new.switch.accepted.items) (most_waiting result.status) report.new.lines (R.left result.input)) }
     ensures line_limit { report.new.lines ≤ MOST_LINES }
     ensures formed { report.new.slots.items ≢ [] → (script folder : List ℕ) → IsServe (map string_bytes words.now) script folder → IsFormed (P.slot_at depot.old folder 0) report.new.switch }
-    ensures written { AreServeWords (map string_bytes words.now) → WritesFirstOf (W.taken out) (W.taken result.out) (text_of report.new.switch.lines.items) }
-    // Status 0: all of it, and nothing is under way.
-    ensures served { result.status ≡ 0 → length report.new.slots.items ≡ 1 }
+    ensures written { report.new.slots.items ≢ [] → WritesFirstOf (W.taken out) (W.taken result.out) (text_of report.new.switch.lines.items) }
+    ensures silent { report.new.slots.items ≡ [] → IsSilentStatus result.status → W.taken result.out ≡ W.taken out }
+    // Status 0 of `serve`: all of it, and nothing is under way.
+    ensures served { result.status ≡ 0 → AreServeWords (map string_bytes words.now) → length report.new.slots.items ≡ 1 }
     ensures quiet { result.status ≡ 0 → (script folder : List ℕ) → IsServe (map string_bytes words.now) script folder → All (IsQuiet (P.slot_at depot.old folder 0) report.new.switch) report.new.slots.items }
-    ensures all_accepted { result.status ≡ 0 → IfTold (R.left input) (λ whole. map seen report.new.switch.accepted.items ≡ through MOST_LINES (requests whole)) }
-    ensures all_counted { result.status ≡ 0 → IfTold (R.left input) (λ whole. report.new.lines ≡ min MOST_LINES (length (all_lines whole))) }
-    ensures all_written { result.status ≡ 0 → HasWritten (W.taken out) (W.taken result.out) report.new.switch.lines.items }
+    ensures all_accepted { result.status ≡ 0 → AreServeWords (map string_bytes words.now) → IfTold (R.left input) (λ whole. map seen report.new.switch.accepted.items ≡ through MOST_LINES (requests whole)) }
+    ensures all_counted { result.status ≡ 0 → AreServeWords (map string_bytes words.now) → IfTold (R.left input) (λ whole. report.new.lines ≡ min MOST_LINES (length (all_lines whole))) }
+    ensures all_written { result.status ≡ 0 → AreServeWords (map string_bytes words.now) → HasWritten (W.taken out) (W.taken result.out) report.new.switch.lines.items }
     // Status 5: all of what was accepted, and nothing is under way.
     ensures read_failed { result.status ≡ 5 → Rose (R.faults_of input) (R.faults_of result.input) × (W.faults_of result.out ≡ W.faults_of out) }
     ensures quiet_at_read_fault { result.status ≡ 5 → (script folder : List ℕ) → IsServe (map string_bytes words.now) script folder → All (IsQuiet (P.slot_at depot.old folder 0) report.new.switch) report.new.slots.items }
     ensures written_at_read_fault { result.status ≡ 5 → AreServeWords (map string_bytes words.now) → HasWritten (W.taken out) (W.taken result.out) report.new.switch.lines.items }
+    // The script: status 2 has its fault, and what goes past the check has an accepted one.
+    ensures refused { result.status ≡ 2 → (script : List ℕ) → IsOverScript (map string_bytes words.now) script → IfTold (P.text_at depot.old script) (λ text. (line : List ℕ) × IsRefusalLine text line × WritesAll (W.taken out) (W.taken result.out) line) }
+    ensures refused_alone { result.status ≡ 2 → (report.new ≡ report.old) × ((script : List ℕ) → IsOverScript (map string_bytes words.now) script → P.asked depot.new ≡ P.asked depot.old ++ for_text script ∷ []) }
+    ensures refused_in_part { result.status ≡ 6 → report.new.slots.items ≡ [] → (script folder : List ℕ) → IsServe (map string_bytes words.now) script folder → IfTold (P.text_at depot.old script) (λ text. (line : List ℕ) × IsRefusalLine text line × WritesFirstOf (W.taken out) (W.taken result.out) line) }
+    ensures first_script { HasDisk report.new → (script folder : List ℕ) → IsServe (map string_bytes words.now) script folder → IfTold (P.text_at depot.old script) IsFirstScript }
+    ensures other_script { result.status ≡ 8 → report.new.slots.items ≡ [] → (script folder : List ℕ) → IsServe (map string_bytes words.now) script folder → IfTold (P.text_at depot.old script) IsOtherScript }
+    // `check`: it asks the depot for the script alone, and neither reads the input nor touches the report.
+    ensures checked { result.status ≡ 0 → (script : List ℕ) → IsCheck (map string_bytes words.now) script → IfTold (P.text_at depot.old script) (λ text. (line : List ℕ) × IsScriptLine text line × WritesAll (W.taken out) (W.taken result.out) line) }
+    ensures checked_in_part { result.status ≡ 6 → (script : List ℕ) → IsCheck (map string_bytes words.now) script → IfTold (P.text_at depot.old script) (λ text. (line : List ℕ) × IsCheckLine text line × WritesFirstOf (W.taken out) (W.taken result.out) line) }
+    ensures check_alone { AreCheckWords (map string_bytes words.now) → IsCheckStatus result.status × (report.new ≡ report.old) × (result.input ≡ input) }
+    ensures check_asked { (script : List ℕ) → IsCheck (map string_bytes words.now) script → Asks (P.asked depot.old) (P.asked depot.new) (for_text script ∷ []) }
+    ensures checked_asked { result.status ≡ 0 → (script : List ℕ) → IsCheck (map string_bytes words.now) script → P.asked depot.new ≡ P.asked depot.old ++ for_text script ∷ [] }
     // The other statuses and their causes.
     ensures statuses { IsStatus result.status }
-    ensures usage { result.status ≡ 1 → AreServeWords (map string_bytes words.now) → ⊥ }
-    ensures other_words { (AreServeWords (map string_bytes words.now) → ⊥) → ((result.status ≡ 1) ⊎ (result.status ≡ 6)) × (report.new ≡ report.old) × (P.asked depot.new ≡ P.asked depot.old) }
-    ensures usage_written { (AreServeWords (map string_bytes words.now) → ⊥) → WritesFirstOf (W.taken out) (W.taken result.out) USAGE.now }
+    ensures usage { result.status ≡ 1 → AreCommandWords (map string_bytes words.now) → ⊥ }
+    ensures other_words { (AreCommandWords (map string_bytes words.now) → ⊥) → ((result.status ≡ 1) ⊎ (result.status ≡ 6)) × (report.new ≡ report.old) × (P.asked depot.new ≡ P.asked depot.old) }
+    ensures usage_written { (AreCommandWords (map string_bytes words.now) → ⊥) → WritesFirstOf (W.taken out) (W.taken result.out) USAGE.now }
+    ensures usage_whole { result.status ≡ 1 → WritesAll (W.taken out) (W.taken result.out) USAGE.now }
     ensures opening_statuses { report.new.slots.items ≡ [] → AreServeWords (map string_bytes words.now) → IsOpeningStatus result.status }
     ensures bad_slot { result.status ≡ 7 → (script folder : List ℕ) → IsServe (map string_bytes words.now) script folder → IfTold (P.slot_at depot.old folder 0) IsBadFile }
-    ensures other_script { result.status ≡ 8 → report.new.slots.items ≡ [] → (script folder : List ℕ) → IsServe (map string_bytes words.now) script folder → IfTold (P.text_at depot.old script) (λ text. text ≢ PUT_AND_READ.now) }
     ensures not_built { result.status ≡ 8 → (script folder : List ℕ) → IsServe (map string_bytes words.now) script folder → All (IsNotBuilt (P.slot_at depot.old folder 0) (R.left input) (R.left result.input) report.new.switch) report.new.slots.items }
     ensures failed { result.status ≡ 3 → Rose (P.faults_of depot.old) (P.faults_of depot.new) ⊎ HasFailedStore P.Store.faults_of report.new }
     ensures write_failed { result.status ≡ 6 → Rose (W.faults_of out) (W.faults_of result.out) }
-    // The script and the slot: what the depot was asked, and what is left of a disk that isn't mounted.
+    // The slot: what the depot was asked, and what is left of a disk that isn't mounted.
     ensures asked { (script folder : List ℕ) → IsServe (map string_bytes words.now) script folder → Asks (P.asked depot.old) (P.asked depot.new) (for_text script ∷ for_slot folder 0 ∷ []) }
     ensures slot_asked { HasDisk report.new → (script folder : List ℕ) → IsServe (map string_bytes words.now) script folder → P.asked depot.new ≡ P.asked depot.old ++ for_text script ∷ for_slot folder 0 ∷ [] }
-    ensures first_script { HasDisk report.new → (script folder : List ℕ) → IsServe (map string_bytes words.now) script folder → IfTold (P.text_at depot.old script) (λ text. text ≡ PUT_AND_READ.now) }
     ensures mounted { report.new.slots.items ≢ [] → report.new.unopened ≡ None }
     ensures bad_slot_kept { result.status ≡ 7 → IsSome report.new.unopened }
     ensures unopened { (script folder : List ℕ) → IsServe (map string_bytes words.now) script folder → IfSome report.new.unopened (LeavesFileOrHeader P.Store.left_since (P.slot_at depot.old folder 0)) }
     ensures untouched { result.status ≢ 3 → (script folder : List ℕ) → IsServe (map string_bytes words.now) script folder → IfSome report.new.unopened (LeavesFile P.Store.left_since (P.slot_at depot.old folder 0)) }
 {
-    let Some(words) = serve_words(words) else {
-        return refuse_words(input, out);
-    };
-    match open(alloc, words, depot, report) {
-        Ok(core) => serve_slot(alloc, core, input, out, report),
-        Err(stop) => Ran {
+    match command_of(words) {
+        Command::Serve(words) => match open(alloc, words, depot, report) {
+            Ok(core) => serve_slot(alloc, core, input, out, report),
+            Err(EarlyEnd::Refused(line)) => end_with(line.as_slice(), 2, input, out),
+            Err(EarlyEnd::Stopped(stop)) => Ran {
+                status: stop.status(),
+                input,
+                out,
+            },
+        },
+        Command::Check(script) => check_script(alloc, script, depot, input, out),
+        Command::Unknown => end_with(USAGE.as_bytes(), 1, input, out),
+    }
+}
+
+// Tells the classes of the script, or why it is refused.
+fn check_script<P: Depot, R, W: Sink>(
+    alloc: Global,
+    script: &str,
+    depot: &mut P,
+    input: R,
+    out: W,
+) -> Ran<R, W>
+    ensures status { IsCheckStatus result.status }
+    ensures input { result.input ≡ input }
+    ensures told { result.status ≡ 0 → IfTold (P.text_at depot.old script.now) (λ text. (line : List ℕ) × IsScriptLine text line × WritesAll (W.taken out) (W.taken result.out) line) }
+    ensures refused { result.status ≡ 2 → IfTold (P.text_at depot.old script.now) (λ text. (line : List ℕ) × IsRefusalLine text line × WritesAll (W.taken out) (W.taken result.out) line) }
+    ensures in_part { result.status ≡ 6 → IfTold (P.text_at depot.old script.now) (λ text. (line : List ℕ) × IsCheckLine text line × WritesFirstOf (W.taken out) (W.taken result.out) line) }
+    ensures silent { IsSilentStatus result.status → W.taken result.out ≡ W.taken out }
+    ensures asked { Asks (P.asked depot.old) (P.asked depot.new) (for_text script.now ∷ []) }
+    ensures told_asked { result.status ≡ 0 → P.asked depot.new ≡ P.asked depot.old ++ for_text script.now ∷ [] }
+    ensures refused_asked { result.status ≡ 2 → P.asked depot.new ≡ P.asked depot.old ++ for_text script.now ∷ [] }
+    ensures failed { result.status ≡ 3 → Rose (P.faults_of depot.old) (P.faults_of depot.new) }
+    ensures write_failed { result.status ≡ 6 → Rose (W.faults_of out) (W.faults_of result.out) }
+{
+    match told_script(alloc, depot, script) {
+        Ok(line) => end_with(line.as_slice(), 0, input, out),
+        Err(EarlyEnd::Refused(line)) => end_with(line.as_slice(), 2, input, out),
+        Err(EarlyEnd::Stopped(stop)) => Ran {
             status: stop.status(),
             input,
             out,
@@ -123,16 +176,18 @@ pub fn run<P: Depot, R: Source + Send, W: Sink + Send, G: TurnGate + Sync>(
     }
 }
 
-// Answers words that aren't taken.
-fn refuse_words<R, W: Sink>(input: R, out: W) -> Ran<R, W>
-    ensures status { (result.status ≡ 1) ⊎ (result.status ≡ 6) }
+// Writes a line, and ends with the status, or where a write fails with that of a write fault.
+fn end_with<R, W: Sink>(line: &[u8], status: u8, input: R, out: W) -> Ran<R, W>
+    requires { status ≢ 6 }
+    ensures status { (result.status ≡ status) ⊎ (result.status ≡ 6) }
     ensures input { result.input ≡ input }
-    ensures written { WritesFirstOf (W.taken out) (W.taken result.out) USAGE.now }
+    ensures whole { result.status ≢ 6 → WritesAll (W.taken out) (W.taken result.out) line.now }
+    ensures written { WritesFirstOf (W.taken out) (W.taken result.out) line.now }
     ensures failed { result.status ≡ 6 → Rose (W.faults_of out) (W.faults_of result.out) }
 {
     let mut out = out;
-    let status = match put(&mut out, USAGE.as_bytes()) {
-        Ok(()) => 1,
+    let status = match put(&mut out, line) {
+        Ok(()) => status,
         Err(_) => Stop::WriteFailed.status(),
     };
     Ran { status, input, out }
@@ -151,6 +206,7 @@ fn serve_slot<D: Disk, R: Source, W: Sink>(
     requires empty { IsEmpty report.old }
     requires room { vec_len report.old.slots + 1 ≤ vec_capacity report.old.slots }
     ensures history { (content : Option (List ℕ)) → IsOpened D.moment_of D.left_since D.told D.image content core → All (IsSlotHistory D.moment_of D.left_since D.image content report.new.switch) report.new.slots.items }
+    ensures within { (content : Option (List ℕ)) → IsOpened D.moment_of D.left_since D.told D.image content core → All (StaysWithin D.left_since content) report.new.slots.items }
     ensures one_slot { length report.new.slots.items ≡ 1 }
     ensures accepted { IfTold (R.left input) (λ whole. HasGiven whole (map seen report.new.switch.accepted.items) (R.left result.input)) }
     ensures written { WritesFirstOf (W.taken out) (W.taken result.out) (text_of report.new.switch.lines.items) }
@@ -166,6 +222,7 @@ fn serve_slot<D: Disk, R: Source, W: Sink>(
     ensures statuses { IsStatus result.status }
     ensures unopened { report.new.unopened ≡ report.old.unopened }
     ensures no_usage { result.status ≡ 1 → ⊥ }
+    ensures no_refusal { result.status ≡ 2 → ⊥ }
     ensures good_slot { result.status ≡ 7 → ⊥ }
     ensures not_built { result.status ≡ 8 → (content : Option (List ℕ)) → IsOpened D.moment_of D.left_since D.told D.image content core → All (IsNotBuilt content (R.left input) (R.left result.input) report.new.switch) report.new.slots.items }
     ensures failed { result.status ≡ 3 → HasFailedStore D.faults_of report.new }

@@ -1,15 +1,95 @@
-// The script of the first form.
-ghost use Rattle.std.specs.Prelude.{◌≡◌, ◌↔◌, IsTrue};
-ghost use Rattle.do_host.specs.declared.script.TheConstants.{PUT_AND_READ};
+// The script at a path: read, parsed and checked.
+ghost use Rattle.std.specs.Prelude.{◌≡◌, ◌⊎◌, ◌++◌, ◌∷◌, [], ℕ, List, IfOk, OnOk, OnErr};
+ghost use Rattle.do_disk.specs.Disk.{IfTold, Rose};
+ghost use Rattle.do_disk.specs.Asks.{for_text};
+ghost use Rattle.do_host.specs.EarlyEnds.{IsRefusedBy, IsStoppedBy, IsOpeningEnd};
+ghost use Rattle.do_host.specs.Opened.{Asks};
+ghost use Rattle.do_host.specs.ScriptLines.{IsRefusalLine, IsScriptLine};
+ghost use Rattle.do_host.specs.Scripts.{IsFirstScript, IsOtherScript};
 
-/// The one script that is served so far: a class C with `set`, which puts a value under a key and answers it, and `read`,
-/// which answers what stands under a key.
+use crate::accept::accept;
+use crate::early_end::EarlyEnd;
+use crate::form::has_first_form;
+use crate::script_lines::script_line;
+use crate::stop::Stop;
+use do_disk::Depot;
+use std::alloc::Global;
+
+/// The one script that is served so far, but for separators and comments: a class C with `set`, which puts a value under a
+/// key and answers it, and `read`, which answers what stands under a key.
 pub const PUT_AND_READ: &str =
     "export class C extends DurableObject {\n  async set(k, v) { this.ctx.storage.put(k, v); return v; }\n  async read(k) { return await this.ctx.storage.get(k); }\n}\n";
 
-// Whether the text is that script, byte for byte.
-pub(crate) fn is_put_and_read(text: &[u8]) -> bool
-    ensures { IsTrue result ↔ text.now ≡ PUT_AND_READ.now }
+// Reads the script, and tests that it is accepted and of the first form.
+pub(crate) fn first_script<P: Depot>(
+    alloc: Global,
+    depot: &mut P,
+    path: &str,
+) -> Result<(), EarlyEnd>
+    ensures asked { Asks (P.asked depot.old) (P.asked depot.new) (for_text path.now ∷ []) }
+    ensures whole { OnOk result (P.asked depot.new ≡ P.asked depot.old ++ for_text path.now ∷ []) }
+    ensures same_slots { (folder : List ℕ) (number : ℕ) → P.slot_at depot.new folder number ≡ P.slot_at depot.old folder number }
+    ensures end { OnErr result (IsOpeningEnd result) }
+    ensures failed { IsStoppedBy result Stop.DiskFailed → Rose (P.faults_of depot.old) (P.faults_of depot.new) }
+    ensures steady { OnOk result (P.faults_of depot.new ≡ P.faults_of depot.old) }
+    ensures no_slot { IsStoppedBy result Stop.BadSlot → ⊥ }
+    ensures first_script { OnOk result (IfTold (P.text_at depot.old path.now) IsFirstScript) }
+    ensures not_built { IsStoppedBy result Stop.NotBuilt → IfTold (P.text_at depot.old path.now) IsOtherScript }
+    ensures refused { (line : List ℕ) → IsRefusedBy result line → IfTold (P.text_at depot.old path.now) (λ text. IsRefusalLine text line) }
+    ensures refused_whole { (line : List ℕ) → IsRefusedBy result line → P.asked depot.new ≡ P.asked depot.old ++ for_text path.now ∷ [] }
 {
-    text == PUT_AND_READ.as_bytes()
+    let text = depot.text(path)?;
+    test_form(alloc, text.as_slice())
+}
+
+// Tests that a text is accepted and of the first form.
+fn test_form(alloc: Global, text: &[u8]) -> Result<(), EarlyEnd>
+    ensures first { OnOk result (IsFirstScript text.now) }
+    ensures other { IsStoppedBy result Stop.NotBuilt → IsOtherScript text.now }
+    ensures refused { (line : List ℕ) → IsRefusedBy result line → IsRefusalLine text.now line }
+    ensures end { OnErr result (((line : List ℕ) × IsRefusedBy result line) ⊎ IsStoppedBy result Stop.NoMemory ⊎ IsStoppedBy result Stop.NotBuilt) }
+{
+    match accept(alloc, text) {
+        Ok(_checked) => {
+            if has_first_form(text) {
+                Ok(())
+            } else {
+                Err(EarlyEnd::Stopped(Stop::NotBuilt))
+            }
+        }
+        Err(end) => Err(end),
+    }
+}
+
+// Reads the script, and gives the line that tells its classes, where it is accepted.
+pub(crate) fn told_script<P: Depot>(
+    alloc: Global,
+    depot: &mut P,
+    path: &str,
+) -> Result<Vec<u8>, EarlyEnd>
+    ensures asked { Asks (P.asked depot.old) (P.asked depot.new) (for_text path.now ∷ []) }
+    ensures whole { OnOk result (P.asked depot.new ≡ P.asked depot.old ++ for_text path.now ∷ []) }
+    ensures end { OnErr result (((line : List ℕ) × IsRefusedBy result line) ⊎ IsStoppedBy result Stop.DiskFailed ⊎ IsStoppedBy result Stop.NoMemory) }
+    ensures failed { IsStoppedBy result Stop.DiskFailed → Rose (P.faults_of depot.old) (P.faults_of depot.new) }
+    ensures told { IfOk result (λ line. IfTold (P.text_at depot.old path.now) (λ text. IsScriptLine text line.items)) }
+    ensures refused { (line : List ℕ) → IsRefusedBy result line → IfTold (P.text_at depot.old path.now) (λ text. IsRefusalLine text line) }
+    ensures refused_whole { (line : List ℕ) → IsRefusedBy result line → P.asked depot.new ≡ P.asked depot.old ++ for_text path.now ∷ [] }
+{
+    let text = depot.text(path)?;
+    accepted_line(alloc, text.as_slice())
+}
+
+// The line that tells the classes of a text, where it is accepted.
+fn accepted_line(alloc: Global, text: &[u8]) -> Result<Vec<u8>, EarlyEnd>
+    ensures told { IfOk result (λ line. IsScriptLine text.now line.items) }
+    ensures refused { (line : List ℕ) → IsRefusedBy result line → IsRefusalLine text.now line }
+    ensures end { OnErr result (((line : List ℕ) × IsRefusedBy result line) ⊎ IsStoppedBy result Stop.NoMemory) }
+{
+    match accept(alloc, text) {
+        Ok(checked) => match script_line(alloc, checked.script()) {
+            Ok(line) => Ok(line),
+            Err(_) => Err(EarlyEnd::Stopped(Stop::NoMemory)),
+        },
+        Err(end) => Err(end),
+    }
 }

@@ -2,7 +2,7 @@
 ghost use Rattle.std.specs.Prelude.{◌≡◌, ◌⊎◌, ◌≤◌, ◌++◌, ◌∷◌, [], ℕ, List, Option, length, map, min, IfOk, IfErr, OnOk, OnErr, IsErrOf, Ok, None};
 ghost use Rattle.do_disk.specs.Disk.{Rose};
 ghost use Rattle.batch_journal.specs.Frames.{Frame};
-ghost use Rattle.object_core.specs.Serving.{IsServing, CanServe, IsHistoryOf, limit_in, object_of, disk_of};
+ghost use Rattle.object_core.specs.Serving.{IsServing, IsWithinLimit, CanServe, IsHistoryOf, limit_in, object_of, disk_of};
 ghost use Rattle.do_host.specs.FirstForm.{IsFirstLine};
 ghost use Rattle.do_host.specs.Cut.{lines as all_lines};
 ghost use Rattle.do_host.specs.Requests.{SeenLine, requests, through};
@@ -40,6 +40,8 @@ pub(crate) fn serve<D: Disk, R: Source, W: Sink>(
     ensures logged { OnErr result ((first : Option (List ℕ × List ℕ)) → Stands first core.old log.old [] [] → IsLogged first core.new log.new) }
     ensures history { (since : ℕ) (start : List Frame) → IsServing D.moment_of D.left_since D.told D.image since start core.old → IsHistoryOf D.moment_of D.left_since D.image since start core.new }
     ensures serving { OnOk result ((since : ℕ) (start : List Frame) → IsServing D.moment_of D.left_since D.told D.image since start core.old → IsServing D.moment_of D.left_since D.told D.image since start core.new) }
+    ensures within { (since : ℕ) (start : List Frame) → IsServing D.moment_of D.left_since D.told D.image since start core.old → IsWithinLimit D.left_since since start core.old → IsWithinLimit D.left_since since start core.new }
+    ensures same_limit { limit_in core.new ≡ limit_in core.old }
     ensures accepted { (whole : List ℕ) → IsReading R.left whole [] lines.old → IsFirstOf R.left whole (map seen log.new.accepted.items) lines.new }
     ensures all { OnOk result ((whole : List ℕ) → IsReading R.left whole [] lines.old → map seen log.new.accepted.items ≡ through MOST_LINES (requests whole)) }
     ensures counted { OnOk result ((whole : List ℕ) → IsReading R.left whole [] lines.old → count_of lines.new ≡ min MOST_LINES (length (all_lines whole))) }
@@ -77,6 +79,7 @@ fn answer<D: Disk, W: Sink>(
     ensures logged { OnErr result ((first : Option (List ℕ × List ℕ)) → Stands first core.old log.old [] [] → IsLogged first core.new log.new) }
     ensures serving { OnOk result ((since : ℕ) (start : List Frame) → IsServing D.moment_of D.left_since D.told D.image since start core.old → IsServing D.moment_of D.left_since D.told D.image since start core.new) }
     ensures history { OnErr result ((since : ℕ) (start : List Frame) → IsServing D.moment_of D.left_since D.told D.image since start core.old → IsHistoryOf D.moment_of D.left_since D.image since start core.new) }
+    ensures within { (since : ℕ) (start : List Frame) → IsServing D.moment_of D.left_since D.told D.image since start core.old → IsWithinLimit D.left_since since start core.old → IsWithinLimit D.left_since since start core.new }
     ensures accepted { OnOk result (log.new.accepted.items ≡ log.old.accepted.items ++ line ∷ []) }
     ensures stops { IfErr result (StopsAt (object_of core.old) line log.old log.new) }
     ensures formed { OnOk result (IsFirstLine (object_of core.old) line) }

@@ -36,7 +36,7 @@ fn line_json(alloc: Global, line: &OutLine) -> Mem<Json>
     }
 }
 
-fn json_text(alloc: Global, json: &Json) -> Result<Vec<u8>, AllocError>
+pub(crate) fn json_text(alloc: Global, json: &Json) -> Result<Vec<u8>, AllocError>
     requires { has_float (view json.now) ≡ false }
     ensures { IfOk result (λ bytes. bytes.items ≡ compact_text (view json.now) ++ line_end ∷ []) }
 {

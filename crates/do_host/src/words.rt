@@ -1,5 +1,16 @@
 // The words of a run.
-ghost use Rattle.std.specs.Prelude.{◌≡◌, ◌≢◌, ◌↔◌, IsTrue, ◌∷◌, [], List, ℕ, IfSome, None, map, codes, string_bytes};
+ghost use Rattle.std.specs.Prelude.{◌≡◌, ◌↔◌, IsTrue, map, codes, string_bytes};
+ghost use Rattle.do_host.specs.Commands.{IsCommand};
+
+// What the words ask for.
+#[derive(Clone, Copy, Drop)]
+pub(crate) enum Command<'a> {
+    Serve(ServeWords<'a>),
+    // Tells of the script at this path.
+    Check(&'a str),
+    // The words are no command.
+    Unknown,
+}
 
 // What `serve` is told: the path of the script, and the folder of the slots.
 #[derive(Clone, Copy, Drop)]
@@ -8,17 +19,17 @@ pub(crate) struct ServeWords<'a> {
     pub(crate) folder: &'a str,
 }
 
-// The words `serve SCRIPT FOLDER`; `None` for any others.
-pub(crate) fn serve_words(words: &[String]) -> Option<ServeWords<'_>>
-    ensures serve { IfSome result (λ told. map string_bytes words.now ≡ codes "serve" ∷ told.script.now ∷ told.folder.now ∷ []) }
-    ensures other { result ≡ None → (script folder : List ℕ) → map string_bytes words.now ≢ codes "serve" ∷ script ∷ folder ∷ [] }
+// The command `serve SCRIPT FOLDER` or `check SCRIPT`.
+pub(crate) fn command_of(words: &[String]) -> Command<'_>
+    ensures { IsCommand (map string_bytes words.now) result }
 {
     match words {
-        [serve, script, folder] if is_serve(serve.as_str()) => Some(ServeWords {
+        [serve, script, folder] if is_serve(serve.as_str()) => Command::Serve(ServeWords {
             script: script.as_str(),
             folder: folder.as_str(),
         }),
-        _ => None,
+        [check, script] if is_check(check.as_str()) => Command::Check(script.as_str()),
+        _ => Command::Unknown,
     }
 }
 
@@ -26,4 +37,10 @@ fn is_serve(word: &str) -> bool
     ensures { IsTrue result ↔ word.now ≡ codes "serve" }
 {
     word == "serve"
+}
+
+fn is_check(word: &str) -> bool
+    ensures { IsTrue result ↔ word.now ≡ codes "check" }
+{
+    word == "check"
 }

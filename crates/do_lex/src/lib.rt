@@ -17,6 +17,3 @@ pub use fault::LexFault;
 pub use kind::{Keyword, Kind, Mark};
 pub use pieces::{LONGEST_SCRIPT, Span};
 pub use tokens::{Token, Tokens};
-
-#[cfg(test)]
-mod tests;

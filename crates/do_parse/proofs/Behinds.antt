@@ -35,7 +35,7 @@ use Rattle.do_parse.proofs.ForRules.{IsForTail, listed, one_kind}
 use Rattle.do_parse.proofs.Lists.{not_behind, begins_with, behind_repeat, NotBehind}
 use Rattle.do_parse.proofs.Sequence.{Same, Stands, Behind, read_as}
 use Rattle.do_parse.proofs.SimpleRules.{simple_stands}
-use Rattle.do_parse.proofs.Standing.{stands_as, mark_with, mark_no_else, list_stands, block_stands, block_at_stands, stmt_stands, expr_then_stands, in_parens_stands, name_stands, word_stands}
+use Rattle.do_parse.proofs.Standing.{stands_as, mark_with, mark_no_else, list_stands, block_at_stands, stmt_stands, expr_then_stands, in_parens_stands, name_stands, word_stands}
 use Rattle.do_parse.proofs.Statements.{at_is, stmt_up, expr_up, expr_down, stmt_down}
 use Rattle.do_parse.proofs.Tokens.{is_else, else_or_not, agree_start}
 

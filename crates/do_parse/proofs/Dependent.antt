@@ -8,9 +8,9 @@ use Rattle.do_tree.specs.Grammar.{BeginsWithNo}
 use Rattle.do_tree.specs.Lexeme.{Lexeme, place}
 use Rattle.do_parse.specs.declared.stop.Stop.{Stop}
 use Rattle.do_parse.specs.declared.stop.Stop.TheVariants.{Unexpected, TooNested, NoMemory}
-use Rattle.do_parse.specs.Parsed.{BeginAlike, HasRead, Agree, Phrase, Follow, ElseAsNext, AreLexemesOf, HasPhrase, CanBegin, IsWrongNext, IsTooDeepNext, Says, Parses}
+use Rattle.do_parse.specs.Parsed.{BeginAlike, HasRead, Agree, Phrase, Follow, ElseAsNext, AreLexemesOf, HasPhrase, CanBegin, IsDeepBehind, IsWrongNext, IsTooDeepNext, Says, Parses}
 use Rattle.do_parse.proofs.Tokens.{are_append, read_more, agree_front, agree_back, else_alike}
-use Rattle.do_parse.proofs.Sequence.{Stands, Behind, shift, regroup, else_front}
+use Rattle.do_parse.proofs.Sequence.{Stands, Behind, shift, regroup, else_front, deep_more}
 
 -- One phrase, and then one that depends on its tree and tells the tree of both.
 pub record Dep {A B : Type 0} (P : Phrase A) (Q : A → Phrase B) (ts us : List Lexeme) (b : B) : Type 0 where
@@ -50,6 +50,7 @@ module _ {A B : Type 0} (P : Phrase A) (Q : A → Phrase B) (Ends Ends' : Follow
     is_next = p.is_next;
     too_deep = p.too_deep;
     begun = begun_dep (p.used ++ p.deep ∷ []) p.begun;
+    each = λ ts us b a is e. p.each ts is.between is.value a is.first ((n is.value).may is.between us b is.second e);
   }
   stop_dep old new NoMemory p = tt
 
@@ -97,6 +98,12 @@ module _ {A B : Type 0} (P : Phrase A) (Q : A → Phrase B) (Ends Ends' : Follow
       let one = p.only ts is.between is.value (agree_front p.read r agree) is.first ((n is.value).may is.between us b is.second e) in
       none is.between us b (agree_back is.between p.read r agree one.0) (subst (λ x. Q x is.between us b) one.1 is.second) e
 
+  deep_dep : (used : List Lexeme) → HasRead mid new used → ((ts us : List Lexeme) (b : B) → Agree mid new ts → Q a ts us b → Ends' us → IsDeepBehind used ts)
+      → (ts us : List Lexeme) (b : B) → Agree old new ts → Dep P Q ts us b → Ends' us → IsDeepBehind (p.used ++ used) ts
+  deep_dep used r each ts us b agree is e =
+      let one = p.only ts is.between is.value (agree_front p.read r agree) is.first ((n is.value).may is.between us b is.second e) in
+      deep_more p.used used ts is.between one.0 (each is.between us b (agree_back is.between p.read r agree one.0) (subst (λ x. Q x is.between us b) one.1 is.second) e)
+
   dep_so : (r : Result B Stop) → Says (Q a) Ends' mid new r → Says (Dep P Q) Ends' old new r
   dep_so (Ok b) q = dep_ok b q
   dep_so (Err Unexpected) q = record {
@@ -118,6 +125,7 @@ module _ {A B : Type 0} (P : Phrase A) (Q : A → Phrase B) (Ends Ends' : Follow
         let c = begun_behind (q.read.front ++ q.token ∷ []) q.rest (q.used ++ q.deep ∷ []) (are_append q.read.front (q.token ∷ []) q.used (q.deep ∷ []) q.read.are (q.is_next, tt))
         (q.read.split ∙ ap (λ xs. q.read.front ++ xs) q.next ∙ sym (append_assoc q.read.front (q.token ∷ []) q.rest)) q.begun in
         subst (λ xs. CanBegin (Dep P Q) Ends' xs) (sym (append_assoc p.used q.used (q.deep ∷ []))) c;
+    each = deep_dep q.used q.read q.each;
   }
   dep_so (Err NoMemory) q = tt
 

@@ -25,9 +25,6 @@ takes_begins {k} {d} {ts} {us} may h t = subst (λ xs. ends_by may xs) (sym t.fi
 pub mark_begins : {m : Mark} {d : ℕ} (may : Kind → Bool) → may (kind.Mark m) ≡ true → BeginsBy (At (TakesMark m d)) (ends_by may)
 mark_begins may h = record { may = λ ts us a t. takes_begins may h t.takes }
 
-pub key_begins : {k : Keyword} {d : ℕ} (may : Kind → Bool) → may (kind.Keyword k) ≡ true → BeginsBy (At (TakesKey k d)) (ends_by may)
-key_begins may h = record { may = λ ts us a t. takes_begins may h t.takes }
-
 -- anything may stand there
 pub anything_begins : {A : Type 0} {P : Phrase A} → BeginsBy P Anything
 anything_begins = record { may = λ ts us a p. tt }

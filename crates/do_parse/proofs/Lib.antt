@@ -4,6 +4,7 @@ pub mod Dependent
 pub mod Facts
 pub mod FactsExpr
 pub mod First
+pub mod Held
 pub mod Lists
 pub mod Statements
 pub mod Deep
@@ -31,6 +32,7 @@ pub mod TooDeep
 pub mod Exits
 pub mod Whole
 pub mod Top
+pub mod OneFault
 pub mod Cutting
 pub mod Rows
 pub mod Empty
@@ -38,3 +40,5 @@ pub mod Turns
 pub mod Peeking
 pub mod Bindings
 pub mod Escapes
+pub mod Unescaping
+pub mod Sound

@@ -78,6 +78,7 @@ module _ {A : Type 0} (P : Phrase A) (k : Kind) (Ends : Follow) (old new : List 
     is_next = p.is_next;
     too_deep = p.too_deep;
     begun = record { rest = p.begun.rest; tree = p.begun.tree; is = λ us e. (p.begun.is us e).1 };
+    each = λ ts us other agree is e. p.each ts us other agree (begins_with old k ts h (begins_so agree), is) e;
   }
   started_so (Err NoMemory) p = tt
 

@@ -103,6 +103,3 @@ last_tree tree' x (Err s) = refl
 
 pub with_last : {A N X : Type 0} {Is : Phrase A} {Ends : Follow} {old new : List Token} (tree' : N → A) (x : X) (r : Result N Stop) → Parses Is Ends old new (with_tree (λ (b : X × A). b.1) (with_tree (λ (a : A). (x, a)) (with_tree tree' r))) → Parses Is Ends old new (with_tree tree' r)
 with_last {A} {N} {X} {Is} {Ends} {old} {new} tree' x r h = subst (λ y. Parses Is Ends old new y) (last_tree tree' x r) h
-
-pub plain_back : {A : Type 0} {Is : Phrase A} {Ends : Follow} {old new : List Token} {r : Result A Stop} → Parses Is Ends old new r → Parses Is Ends old new (with_tree (λ x. x) r)
-plain_back {A} {Is} {Ends} {old} {new} {r} h = subst (λ x. Parses Is Ends old new x) (sym (with_same (λ x. x) (λ x. refl) r)) h

@@ -25,7 +25,7 @@ use Rattle.do_parse.specs.Starts.{kind_next, place_next, expr_start, begins_expr
 use Rattle.do_parse.specs.Taken.{IsName, IsAnyName, IsTextName}
 use Rattle.do_parse.specs.Then.{Then, At, with_tree}
 use Rattle.do_parse.proofs.Sequence.{Stands, Behind, Same, seq, stop, read_as}
-use Rattle.do_parse.proofs.Facts.{BeginsBy, takes_begins, mark_begins, key_begins, anything_begins, mark_stands, key_stands, last, before}
+use Rattle.do_parse.proofs.Facts.{BeginsBy, takes_begins, mark_begins, anything_begins, mark_stands, key_stands, last, before}
 use Rattle.do_parse.proofs.FactsExpr.{expr_stands}
 use Rattle.do_parse.proofs.First.{kind_first, first_is_next, place_is_next, takes_first, takes_with, first_with, expr_first}
 use Rattle.do_parse.proofs.Lists.{nothing_there}

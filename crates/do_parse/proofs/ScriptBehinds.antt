@@ -214,15 +214,6 @@ member_some m t = elim (member_first [] [] m t) [ inl h ↦ none-some _ h | inr 
 pub class_some : (x : tree.Class) → IsClass [] [] x → ⊥
 class_some x t = classes_first [] [] (x ∷ []) (g.AreClasses.last t)
 
--- the classes go on where a token is left, and end where none is
-pub left_behind : (now : List Token) (k : Kind) → kind_next now ≡ Some k → NotBehind NothingLeft now
-left_behind [] k h = absurd (none-some k h)
-left_behind (t ∷ now) k h = tokens_left t now
-
-pub none_left : (now : List Token) → kind_next now ≡ None → now ≡ []
-none_left [] h = refl
-none_left (t ∷ now) h = absurd (none-some t.kind (sym h))
-
 -- a member begins with a name where neither of the keywords is next
 pub word_member : (now : List Token) → ¬ (kind_next now ≡ Some (kind.Keyword key.Constructor)) → ¬ (kind_next now ≡ Some (kind.Keyword key.Async)) → Same IsMember (Starting kind.Word IsMember) (λ m. m) Anything now
 word_member now h k = record { to = λ ts us m t. t.1; from = from }

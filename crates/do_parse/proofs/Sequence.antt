@@ -12,9 +12,9 @@ use Rattle.do_tree.specs.Grammar.{BeginsWithNo}
 use Rattle.do_tree.specs.Lexeme.{Lexeme, place}
 use Rattle.do_parse.specs.declared.stop.Stop.{Stop}
 use Rattle.do_parse.specs.declared.stop.Stop.TheVariants.{Unexpected, TooNested, NoMemory}
-use Rattle.do_parse.specs.Parsed.{IsLexeme, BeginAlike, HasRead, Agree, Phrase, Follow, Anything, ends_by, ElseIsNext, ElseAsNext, AreLexemesOf, HasPhrase, CanBegin, IsWrongNext, IsTooDeepNext, Says, Parses}
+use Rattle.do_parse.specs.Parsed.{IsLexeme, BeginAlike, HasRead, Agree, Phrase, Follow, Anything, ends_by, ElseIsNext, ElseAsNext, AreLexemesOf, HasPhrase, CanBegin, IsDeepBehind, IsWrongNext, IsTooDeepNext, Says, Parses}
 use Rattle.do_parse.specs.Then.{Then, with_tree, IsMade}
-use Rattle.do_parse.proofs.Tokens.{are_append, cons_some, nothing_used, nothing_between, begins_so, read_nothing, agree_start, read_more, agree_front, agree_back, next_alike, else_alike}
+use Rattle.do_parse.proofs.Tokens.{are_append, cons_some, nothing_used, nothing_between, begins_so, read_nothing, agree_start, read_more, agree_front, agree_back, else_alike}
 
 -- A phrase can stand, and then begins with no else.
 pub record Stands {A : Type 0} (Is : Phrase A) (Ends : Follow) : Type 0 where
@@ -72,6 +72,7 @@ module _ {A B : Type 0} (P : Phrase A) (Q : Phrase B) (Ends Ends' : Follow) (may
     is_next = p.is_next;
     too_deep = p.too_deep;
     begun = begun_by may can p.begun;
+    each = λ ts us pair a is e. p.each ts is.between pair.0 a is.first (may is.between us pair.1 is.second e);
   }
   stop_so old new NoMemory p = tt
 
@@ -86,6 +87,15 @@ else_front (f ∷ fs) gs mid (u ∷ us) ms a h e = subst (λ ts. ElseAsNext ts (
 put_some : (us : List Lexeme) (l : Lexeme) → us ++ l ∷ [] ≡ [] → ⊥
 put_some [] l h = cons_some l [] h
 put_some (u ∷ us) l h = cons_some u (us ++ l ∷ []) h
+
+-- a token that is held too deep stands behind more lexemes that were read
+pub deep_more : (us vs ts ms : List Lexeme) → ts ≡ us ++ ms → IsDeepBehind vs ms → IsDeepBehind (us ++ vs) ts
+deep_more us vs ts ms h d = record {
+  next = d.next;
+  more = d.more;
+  parts = h ∙ ap (λ xs. us ++ xs) d.parts ∙ sym (append_assoc us vs (d.next ∷ d.more));
+  too_deep = d.too_deep;
+}
 
 module _ {A B : Type 0} (P : Phrase A) (Q : Phrase B) (Ends Ends' : Follow) (may : (ts us : List Lexeme) (b : B) → Q ts us b → Ends' us → Ends ts) (old mid new : List Token) (a : A) (p : HasPhrase P Ends old mid a) where
   -- two phrases were read
@@ -126,6 +136,13 @@ module _ {A B : Type 0} (P : Phrase A) (Q : Phrase B) (Ends Ends' : Follow) (may
       let one = p.only ts is.between pair.0 (agree_front p.read r agree) is.first (may is.between us pair.1 is.second e) in
       none is.between us pair.1 (agree_back is.between p.read r agree one.0) is.second e
 
+  -- in each two phrases that begin so the next token is held by too many
+  deep_seq : (used : List Lexeme) → HasRead mid new used → ((ts us : List Lexeme) (b : B) → Agree mid new ts → Q ts us b → Ends' us → IsDeepBehind used ts)
+      → (ts us : List Lexeme) (pair : A × B) → Agree old new ts → Then P Q ts us pair → Ends' us → IsDeepBehind (p.used ++ used) ts
+  deep_seq used r each ts us pair agree is e =
+      let one = p.only ts is.between pair.0 (agree_front p.read r agree) is.first (may is.between us pair.1 is.second e) in
+      deep_more p.used used ts is.between one.0 (each is.between us pair.1 (agree_back is.between p.read r agree one.0) is.second e)
+
   -- the second of two phrases gave this answer
   seq_so : (IsWrongNext Q Ends' mid mid → CanBegin (Then P Q) Ends' (p.used ++ [])) → (r : Result B Stop) → Says Q Ends' mid new r → Says (Then P Q) Ends' old new (with_tree (λ b. (a, b)) r)
   seq_so empty (Ok b) q = seq_ok b q
@@ -151,6 +168,7 @@ module _ {A B : Type 0} (P : Phrase A) (Q : Phrase B) (Ends Ends' : Follow) (may
         let c = begun_seq (q.read.front ++ q.token ∷ []) q.rest (q.used ++ q.deep ∷ []) (are_append q.read.front (q.token ∷ []) q.used (q.deep ∷ []) q.read.are (q.is_next, tt))
         (q.read.split ∙ ap (λ xs. q.read.front ++ xs) q.next ∙ sym (append_assoc q.read.front (q.token ∷ []) q.rest)) (λ h. absurd (put_some q.used q.deep h)) q.begun in
         subst (λ xs. CanBegin (Then P Q) Ends' xs) (sym (append_assoc p.used q.used (q.deep ∷ []))) c;
+    each = deep_seq q.used q.read q.each;
   }
   seq_so empty (Err NoMemory) q = tt
 
@@ -235,6 +253,7 @@ module _ {A B : Type 0} (Is : Phrase A) (Other : Phrase B) (tree : B → A) (End
     is_next = p.is_next;
     too_deep = p.too_deep;
     begun = begun_as (p.used ++ p.deep ∷ []) p.begun;
+    each = λ ts us other agree is e. let x = same.from ts us other (begins_so agree) is e in p.each ts us x.0 agree x.2 e;
   }
   as_so (Err NoMemory) p = tt
 
@@ -301,6 +320,7 @@ module _ {A B : Type 0} (Is : Phrase A) (Other : Phrase B) (tree : B → A) (End
     too_deep = p.too_deep;
     begun = begun_here (p.read.front ++ p.token ∷ []) p.rest (p.used ++ p.deep ∷ []) (are_append p.read.front (p.token ∷ []) p.used (p.deep ∷ []) p.read.are (p.is_next, tt))
         (p.read.split ∙ ap (λ xs. p.read.front ++ xs) p.next ∙ sym (append_assoc p.read.front (p.token ∷ []) p.rest)) p.begun;
+    each = λ ts us other agree is e. let x = same.from ts us other (begins_so agree) is e in p.each ts us x.0 agree x.2 e;
   }
   here_so (Err NoMemory) p = tt
 
@@ -338,6 +358,7 @@ module _ {A : Type 0} (Is : Phrase A) (Ends Fewer : Follow) (h : (us : List Lexe
     is_next = p.is_next;
     too_deep = p.too_deep;
     begun = record { rest = p.begun.rest; tree = p.begun.tree; is = λ us e. p.begun.is us (h us e) };
+    each = λ ts us other agree is e. p.each ts us other agree is (h us e);
   }
   narrow_so (Err NoMemory) p = tt
 
@@ -355,9 +376,10 @@ wrong_here {A} {Is} {Ends} {now} c h = record {
   };
 }
 
--- Some phrase begins with the next token, which too many phrases hold.
-pub deep_here : {A : Type 0} {Is : Phrase A} {Ends : Follow} (t : Token) (rest : List Token) (l : Lexeme) → IsLexeme t l → most_inside < l.inside → CanBegin Is Ends (l ∷ []) → Parses Is Ends (t ∷ rest) (t ∷ rest) (Err TooNested)
-deep_here {A} {Is} {Ends} t rest l i d c = record {
+-- Some phrase begins with the next token, which too many phrases hold in each.
+pub deep_here : {A : Type 0} {Is : Phrase A} {Ends : Follow} (t : Token) (rest : List Token) (l : Lexeme) → IsLexeme t l → most_inside < l.inside → CanBegin Is Ends (l ∷ [])
+    → ((ts us : List Lexeme) (a : A) → Is ts us a → IsDeepBehind [] ts) → Parses Is Ends (t ∷ rest) (t ∷ rest) (Err TooNested)
+deep_here {A} {Is} {Ends} t rest l i d c each = record {
   so = record {
     used = [];
     read = read_nothing (t ∷ rest);
@@ -368,5 +390,6 @@ deep_here {A} {Is} {Ends} t rest l i d c = record {
     is_next = i;
     too_deep = d;
     begun = c;
+    each = λ ts us a agree is e. each ts us a is;
   };
 }

@@ -35,6 +35,7 @@ use Rattle.do_parse.proofs.FactsExpr.{expr_stands}
 use Rattle.do_parse.proofs.First.{kind_first, first_is_next, place_is_next, first_with, with_first, takes_with, takes_first, expr_first, simple_first, start_of, start_is, stmt_first, can_stmt}
 use Rattle.do_parse.proofs.ForRules.{one_kind}
 use Rattle.do_parse.proofs.Lists.{not_behind, begins_with, nothing_there}
+use Rattle.do_parse.proofs.Held.{stmt_held, deep_first}
 use Rattle.do_parse.proofs.Sequence.{Same, SameHere, Stands, Behind, wrong_here, deep_here}
 use Rattle.do_parse.proofs.Standing.{stands_as, stmt_stands, name_stands}
 use Rattle.do_parse.proofs.Tokens.{is_else}
@@ -358,7 +359,7 @@ stmt_deep_at : (d : ℕ) → most_inside < d → (t : Token) (now : List Token) 
 stmt_deep_at d m t now (inl c) =
     let b = stmt_begins d t.kind t.text.now t.at {Ends = Anything} c.0 in
     subst (λ s. Parses (IsStmt d) Anything (t ∷ now) (t ∷ now) (Err s)) (sym c.1)
-    (deep_here t now (lexeme t.kind t.text.now t.at b.inside) (record { kind = refl; text = refl; at = refl }) (omega (arith, m, b.enough)) b.begun)
+    (deep_here t now (lexeme t.kind t.text.now t.at b.inside) (record { kind = refl; text = refl; at = refl }) (omega (arith, m, b.enough)) b.begun (λ ts us s i. deep_first d ts m (stmt_held i)))
 stmt_deep_at d m t now (inr c) =
     subst (λ s. Parses (IsStmt d) Anything (t ∷ now) (t ∷ now) (Err s)) (sym c.1)
     (wrong_here (stmt_stands d {Ends = Anything}).begun (λ ts us s b i e. false≢true (sym c.0 ∙ ap can_stmt (sym (first_is_next (t ∷ now) ts b)) ∙ stmt_first i)))

@@ -44,12 +44,6 @@ pub list_stands : {A : Type 0} (P : Phrase A) (m : Mark) → Stands (Repeat P) (
 list_stands P m = record { begun = record { rest = []; tree = []; is = λ us e. rep_stop }; no_else = mark_no_else m }
 
 -- blocks and statements
-pub block_stands : (d : ℕ) {Ends : Follow} → Stands (IsBlock d) Ends
-block_stands d = record {
-  begun = record { rest = mark_token mark.OpenBrace d ∷ mark_token mark.CloseBrace d ∷ []; tree = tree.no_items; is = λ us e. block_is d us };
-  no_else = λ us e h. false≢true (ap is_else h);
-}
-
 pub block_at_stands : (d : ℕ) {Ends : Follow} → Stands (IsBlockAt d) Ends
 block_at_stands d = record {
   begun = record { rest = mark_token mark.OpenBrace d ∷ mark_token mark.CloseBrace d ∷ []; tree = record { at = 0; items = tree.no_items }; is = λ us e. record { at_is = refl; block_is = block_is d us } };

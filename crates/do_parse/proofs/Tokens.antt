@@ -151,10 +151,6 @@ agree_back {old} {mid} {new} {us} {vs} {ts} ms r s a h =
       next = p.next;
     }
 
--- the token behind those that were read is the next one
-pub next_alike : {old new : List Token} {us ts : List Lexeme} (ms : List Lexeme) → HasRead old new us → Agree old new ts → ts ≡ us ++ ms → BeginAlike new ms
-next_alike {old} {new} {us} {ts} ms r a h = begins_so (agree_back ms r (read_nothing new) a h)
-
 -- whether a kind is the one of `else`
 abbrev pub is_else : Kind → Bool
 is_else (kind.Keyword key.Else) = true

@@ -17,6 +17,7 @@ use Rattle.do_parse.proofs.Deep.{lexeme, un_begins, expr_begins}
 use Rattle.do_parse.proofs.Exprs.{un_stands}
 use Rattle.do_parse.proofs.FactsExpr.{expr_stands}
 use Rattle.do_parse.proofs.First.{kind_first, first_is_next, expr_first, un_first}
+use Rattle.do_parse.proofs.Held.{expr_held, un_held, deep_first}
 use Rattle.do_parse.proofs.Sequence.{wrong_here, deep_here}
 
 -- a kind begins an expression or not
@@ -31,7 +32,7 @@ expr_at_once : (d : ℕ) → most_inside < d → (t : Token) (now : List Token) 
     → Parses (IsExpr d) (ends_by behind_expr) (t ∷ now) (t ∷ now) (Err (stop_at (Some t.kind)))
 expr_at_once d m t now (inl c) =
     subst (λ s. Parses (IsExpr d) (ends_by behind_expr) (t ∷ now) (t ∷ now) (Err s)) (sym c.1)
-    (deep_here t now (lexeme t.kind t.text.now t.at (suc d)) (record { kind = refl; text = refl; at = refl }) (omega (arith, m)) (expr_begins d t.kind t.text.now t.at c.0))
+    (deep_here t now (lexeme t.kind t.text.now t.at (suc d)) (record { kind = refl; text = refl; at = refl }) (omega (arith, m)) (expr_begins d t.kind t.text.now t.at c.0) (λ ts us e i. deep_first d ts m (expr_held i)))
 expr_at_once d m t now (inr c) =
     subst (λ s. Parses (IsExpr d) (ends_by behind_expr) (t ∷ now) (t ∷ now) (Err s)) (sym c.1)
     (wrong_here (expr_stands d).begun (λ ts us e b i f. false≢true (sym c.0 ∙ ap begins_expr (sym (first_is_next (t ∷ now) ts b)) ∙ expr_first i)))
@@ -44,7 +45,7 @@ un_at_once : (d : ℕ) → most_inside < d → (t : Token) (now : List Token) �
     → Parses (IsUn d) (ends_by behind_un) (t ∷ now) (t ∷ now) (Err (stop_at (Some t.kind)))
 un_at_once d m t now (inl c) =
     subst (λ s. Parses (IsUn d) (ends_by behind_un) (t ∷ now) (t ∷ now) (Err s)) (sym c.1)
-    (deep_here t now (lexeme t.kind t.text.now t.at d) (record { kind = refl; text = refl; at = refl }) m (un_begins d t.kind t.text.now t.at c.0))
+    (deep_here t now (lexeme t.kind t.text.now t.at d) (record { kind = refl; text = refl; at = refl }) m (un_begins d t.kind t.text.now t.at c.0) (λ ts us e i. deep_first d ts m (un_held i)))
 un_at_once d m t now (inr c) =
     subst (λ s. Parses (IsUn d) (ends_by behind_un) (t ∷ now) (t ∷ now) (Err s)) (sym c.1)
     (wrong_here (un_stands d).begun (λ ts us e b i f. false≢true (sym c.0 ∙ ap begins_expr (sym (first_is_next (t ∷ now) ts b)) ∙ un_first i)))

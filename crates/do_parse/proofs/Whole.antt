@@ -6,16 +6,17 @@ use Rattle.do_lex.specs.Cut.{IsCut}
 use Rattle.do_lex.specs.declared.pieces.Span.{Span}
 use Rattle.do_lex.specs.declared.fault.LexFault.{LexFault}
 use Rattle.do_lex.specs.declared.tokens.Token.{Token}
-use Rattle.do_tree.specs.Accepts.{AreLexemes, IsShallow, IsScriptText, Begins, BeginsAt, IsUnexpected, IsTooNested, EndsEarly, IsTokenFault, end_of}
+use Rattle.do_tree.specs.Accepts.{most_inside, AreLexemes, IsShallow, IsScriptText, Begins, BeginsAt, IsUnexpected, EndsEarly, IsTokenFault, end_of}
 use Rattle.do_tree.specs.Accepts as accepts
 use Rattle.do_tree.specs.Grammar.{IsScript}
 use Rattle.do_tree.specs.Lexeme.{Lexeme}
 use Rattle.do_tree.specs.Tree.{Script}
 use Rattle.do_parse.specs.Cuts.{AreSlices, IsLexed}
-use Rattle.do_parse.specs.Parsed.{IsLexeme, AreLexemesOf, BeginAlike, HasRead, Agree, CanBegin, Parses}
+use Rattle.do_parse.specs.Fault.{IsNestedTooFar}
+use Rattle.do_parse.specs.Parsed.{IsLexeme, AreLexemesOf, BeginAlike, HasRead, Agree, CanBegin, IsDeepBehind, Parses}
 use Rattle.do_parse.specs.Pieces.{IsWhole, NothingLeft}
 use Rattle.do_parse.specs.declared.stop.Stop.TheVariants.{Unexpected, TooNested}
-use Rattle.do_parse.proofs.Tokens.{are_append}
+use Rattle.do_parse.proofs.Tokens.{are_append, heads_alike, tails_alike}
 
 -- tokens and spans
 to_lexemes : (text : List ℕ) (ts : List Token) (ls : List Lexeme) → AreSlices text ts → AreLexemesOf ts ls → AreLexemes text (map span_of ts) ls
@@ -168,25 +169,55 @@ unexpected_at text tokens rest t last l p =
       at_is = refl;
     }
 
+-- the lexeme of a token more is the one that stands behind those that were read
+last_is : (front : List Token) (t : Token) (us xs more rest : List Lexeme) (u x : Lexeme) → AreLexemesOf front us → AreLexemesOf (front ++ t ∷ []) (xs ++ x ∷ []) → xs ++ x ∷ [] ++ rest ≡ us ++ u ∷ more → x ≡ u
+last_is [] t [] [] more rest u x a b h = heads_alike x u rest more h
+last_is [] t [] (y ∷ []) more rest u x a b h = absurd b.1
+last_is [] t [] (y ∷ z ∷ ys) more rest u x a b h = absurd b.1
+last_is [] t (v ∷ us) xs more rest u x a b h = absurd a
+last_is (f ∷ front) t [] xs more rest u x a b h = absurd a
+last_is (f ∷ []) t (v ∷ us) [] more rest u x a b h = absurd b.1
+last_is (f ∷ g ∷ front) t (v ∷ us) [] more rest u x a b h = absurd b.1
+last_is (f ∷ front) t (v ∷ us) (y ∷ ys) more rest u x a b h = last_is front t us ys more rest u x a.1 b.1 (tails_alike y v (ys ++ x ∷ [] ++ rest) (us ++ u ∷ more) h)
+
+-- in each script that begins so, a lexeme behind these is held by too many phrases
+abbrev EachDeep : List Token → List Token → List Lexeme → Type 0
+EachDeep tokens new used = (ts us : List Lexeme) (s : Script) → Agree tokens new ts → IsWhole ts us s → NothingLeft us → IsDeepBehind used ts
+
+each_nested : (text : List ℕ) (tokens front rest : List Token) (t : Token) (used : List Lexeme) → AreSlices text tokens → tokens ≡ front ++ t ∷ rest → AreLexemesOf front used
+    → EachDeep tokens (t ∷ rest) used → (ts : List Lexeme) (l : Lexeme) → AreLexemes text (map span_of front ++ span_of t ∷ []) (ts ++ l ∷ []) → Begins (ts ++ l ∷ []) → most_inside < l.inside
+each_nested text tokens front rest t used s h are_used each ts l are b =
+    let few : AreSlices text (front ++ t ∷ []) = slices_some text front rest t (subst (λ xs. AreSlices text xs) h s) in
+    let of : AreLexemesOf (front ++ t ∷ []) (ts ++ l ∷ []) = of_lexemes text (front ++ t ∷ []) (ts ++ l ∷ []) few (subst (λ xs. AreLexemes text xs (ts ++ l ∷ [])) (sym (map-append span_of front (t ∷ []))) are) in
+    let x = last_of text front t (ts ++ l ∷ []) of in
+    let d =
+    each (ts ++ l ∷ [] ++ b.rest) [] b.script
+    (record { front = front; split = h; begin = x.begin; back = x.end ∷ b.rest; parts = ap (λ y. y ++ b.rest) x.parts ∙ append_assoc x.begin (x.end ∷ []) b.rest; are = x.are; next = x.is })
+    (script_whole b.is) refl in
+    subst (λ (y : Lexeme). most_inside < y.inside) (sym (last_is front t used ts d.more b.rest d.next l are_used of d.parts)) d.too_deep
+
 -- A token is held by too many phrases.
-pub nested_at : (text : List ℕ) (tokens new : List Token) (last : Option LexFault) → IsLexed text tokens last → (p : Parses IsWhole NothingLeft tokens new (Err TooNested)) → IsTooNested text p.so.token.at
+pub nested_at : (text : List ℕ) (tokens new : List Token) (last : Option LexFault) → IsLexed text tokens last → (p : Parses IsWhole NothingLeft tokens new (Err TooNested)) → IsNestedTooFar text p.so.token.at
 nested_at text tokens new last l p =
     let r = p.so.read in
     let t = p.so.token in
     let h : tokens ≡ r.front ++ t ∷ p.so.rest = r.split ∙ ap (λ xs. r.front ++ xs) p.so.next in
     let few : AreSlices text (r.front ++ t ∷ []) = slices_some text r.front p.so.rest t (subst (λ xs. AreSlices text xs) h l.slices) in
     record {
-      before = map span_of r.front;
-      span = span_of t;
-      last = last;
-      read = read_so text tokens r.front p.so.rest t last l h;
-      begun = begun_at text tokens r.front (t ∷ p.so.rest) p.so.used l.slices h r.are r.shallow (begins_before p.so.used p.so.deep p.so.begun);
-      tokens = p.so.used;
-      token = p.so.deep;
-      are = subst (λ xs. AreLexemes text xs (p.so.used ++ p.so.deep ∷ [])) (map-append span_of r.front (t ∷ []))
-          (to_lexemes text (r.front ++ t ∷ []) (p.so.used ++ p.so.deep ∷ []) few (are_append r.front (t ∷ []) p.so.used (p.so.deep ∷ []) r.are (p.so.is_next, tt)));
-      shallow = r.shallow;
-      deep = p.so.too_deep;
-      begins = begins (p.so.used ++ p.so.deep ∷ []) p.so.begun;
-      at_is = refl;
+      nested = record {
+        before = map span_of r.front;
+        span = span_of t;
+        last = last;
+        read = read_so text tokens r.front p.so.rest t last l h;
+        begun = begun_at text tokens r.front (t ∷ p.so.rest) p.so.used l.slices h r.are r.shallow (begins_before p.so.used p.so.deep p.so.begun);
+        tokens = p.so.used;
+        token = p.so.deep;
+        are = subst (λ xs. AreLexemes text xs (p.so.used ++ p.so.deep ∷ [])) (map-append span_of r.front (t ∷ []))
+            (to_lexemes text (r.front ++ t ∷ []) (p.so.used ++ p.so.deep ∷ []) few (are_append r.front (t ∷ []) p.so.used (p.so.deep ∷ []) r.are (p.so.is_next, tt)));
+        shallow = r.shallow;
+        deep = p.so.too_deep;
+        begins = begins (p.so.used ++ p.so.deep ∷ []) p.so.begun;
+        at_is = refl;
+      };
+      each = each_nested text tokens r.front p.so.rest t p.so.used l.slices h r.are (subst (λ x. EachDeep tokens x p.so.used) p.so.next p.so.each);
     }

@@ -1,27 +1,35 @@
 -- What each fault of a text says.
-use Rattle.std.specs.Prelude.{◌≡◌, ◌<◌, ◌⊎◌, ℕ, List, [], ◌∷◌, map, length, Option, Some, None}
-use Rattle.do_lex.specs.Cursor.{span_of}
+use Rattle.std.specs.Prelude.{◌≡◌, ◌<◌, ◌≤◌, ◌⊎◌, ℕ, List, [], ◌∷◌, ◌++◌, length, Option, Some, None}
 use Rattle.do_lex.specs.declared.fault.LexFault.{LexFault}
 use Rattle.do_lex.specs.declared.fault.LexFault.TheVariants as lex
-use Rattle.do_lex.specs.declared.tokens.Token.{Token}
-use Rattle.do_tree.specs.Accepts.{IsTokenFault, IsUnexpected, EndsEarly, IsTooNested, end_of}
+use Rattle.do_lex.specs.declared.pieces.TheConstants.{LONGEST_SCRIPT}
+use Rattle.do_tree.specs.Accepts.{most_inside, AreLexemes, Begins, IsTokenFault, IsUnexpected, EndsEarly, IsTooNested}
+use Rattle.do_tree.specs.Lexeme.{Lexeme}
 use Rattle.do_parse.specs.declared.fault.ParseFault.{ParseFault}
 use Rattle.do_parse.specs.declared.fault.ParseKind.{ParseKind}
 use Rattle.do_parse.specs.declared.fault.ParseKind.TheVariants as kind
 
--- The most bytes of a script.
-abbrev pub longest : ℕ
-longest = 262144
+-- The first token that is held by too many phrases: so it is in each script that begins with the tokens up to it, of
+-- which there is one.
+pub record IsNestedTooFar (text : List ℕ) (at : ℕ) : Type 0 where
+  pub nested : IsTooNested text at
+  pub each : (tokens : List Lexeme) (token : Lexeme) → AreLexemes text (nested.before ++ nested.span ∷ []) (tokens ++ token ∷ [])
+      → Begins (tokens ++ token ∷ []) → most_inside < token.inside
 
--- The fault at this place of this text. For want of memory nothing is said.
+-- The text has no more bytes than a script may have.
+abbrev pub IsWithinLimit : List ℕ → Type 0
+IsWithinLimit text = length text ≤ LONGEST_SCRIPT
+
+-- The fault at this place of this text. That the text is too long comes first. Of want of memory nothing is said but the
+-- place.
 abbrev pub IsFaultAt : List ℕ → ParseKind → ℕ → Type 0
-IsFaultAt text kind.TooLong at = (longest < length text) × (at ≡ longest)
-IsFaultAt text kind.BadChar at = IsTokenFault text (lex.BadChar at)
-IsFaultAt text kind.OpenText at = IsTokenFault text (lex.OpenText at)
-IsFaultAt text kind.LongNumber at = IsTokenFault text (lex.LongNumber at)
-IsFaultAt text kind.Unexpected at = IsUnexpected text at ⊎ EndsEarly text at
-IsFaultAt text kind.TooNested at = IsTooNested text at
-IsFaultAt text kind.NoMemory at = Unit {0}
+IsFaultAt text kind.TooLong at = (LONGEST_SCRIPT < length text) × (at ≡ LONGEST_SCRIPT)
+IsFaultAt text kind.BadChar at = IsWithinLimit text × IsTokenFault text (lex.BadChar at)
+IsFaultAt text kind.OpenText at = IsWithinLimit text × IsTokenFault text (lex.OpenText at)
+IsFaultAt text kind.LongNumber at = IsWithinLimit text × IsTokenFault text (lex.LongNumber at)
+IsFaultAt text kind.Unexpected at = IsWithinLimit text × (IsUnexpected text at ⊎ EndsEarly text at)
+IsFaultAt text kind.TooNested at = IsWithinLimit text × IsNestedTooFar text at
+IsFaultAt text kind.NoMemory at = at ≡ 0
 
 abbrev pub IsFault : List ℕ → ParseFault → Type 0
 IsFault text fault = IsFaultAt text fault.kind fault.place

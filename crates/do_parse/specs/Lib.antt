@@ -9,6 +9,7 @@ pub mod Lists
 pub mod Parsed
 pub mod Pieces
 pub mod Ranks
+pub mod Sound
 pub mod Starts
 pub mod Taken
 pub mod Then

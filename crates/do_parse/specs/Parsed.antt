@@ -73,6 +73,13 @@ ElseIsNext (t ∷ _) = t.kind ≡ kind.Keyword key.Else
 abbrev pub ElseAsNext : List Token → List Lexeme → Type 0
 ElseAsNext new us = ElseIsNext new ⊎ BeginsWithNo (kind.Keyword key.Else) us
 
+-- Lexemes that are those that were read, and behind them one that too many phrases hold.
+pub record IsDeepBehind (used ts : List Lexeme) : Type 0 where
+  pub next : Lexeme
+  pub more : List Lexeme
+  pub parts : ts ≡ used ++ next ∷ more
+  pub too_deep : most_inside < next.inside
+
 -- Some phrase begins with these lexemes.
 pub record CanBegin {A : Type 0} (Is : Phrase A) (Ends : Follow) (front : List Lexeme) : Type 0 where
   pub rest : List Lexeme
@@ -94,7 +101,7 @@ module _ {A : Type 0} (Is : Phrase A) (Ends : Follow) (old new : List Token) whe
     pub begun : CanBegin Is Ends used
     pub none : (ts us : List Lexeme) (tree : A) → Agree old new ts → Is ts us tree → Ends us → ⊥
 
-  -- The next token is held by too many phrases, and some phrase begins with the tokens up to it.
+  -- The next token is held by too many phrases, in each phrase that begins with the tokens up to it. Some phrase does.
   pub record IsTooDeepNext : Type 0 where
     pub used : List Lexeme
     pub read : HasRead old new used
@@ -105,6 +112,7 @@ module _ {A : Type 0} (Is : Phrase A) (Ends : Follow) (old new : List Token) whe
     pub is_next : IsLexeme token deep
     pub too_deep : most_inside < deep.inside
     pub begun : CanBegin Is Ends (used ++ deep ∷ [])
+    pub each : (ts us : List Lexeme) (tree : A) → Agree old new ts → Is ts us tree → Ends us → IsDeepBehind used ts
 
   -- What an answer says.
   abbrev pub Says : Result A Stop → Type 0

@@ -1,6 +1,7 @@
 //! The public call.
 ghost use Rattle.std.specs.Prelude.{◌≡◌, ◌<◌, IfOk, IfErr, Err, length};
-ghost use Rattle.do_parse.specs.Fault.{IsFault, longest, of_token, wrong_at};
+ghost use Rattle.do_lex.specs.declared.pieces.TheConstants.{LONGEST_SCRIPT};
+ghost use Rattle.do_parse.specs.Fault.{IsFault, of_token, wrong_at};
 ghost use Rattle.do_tree.specs.Accepts.{IsScriptText};
 ghost use Rattle.do_tree.specs.Seen.{script_of};
 ghost use Rattle.do_tree.specs.Tree as tree;
@@ -20,7 +21,7 @@ pub fn parse(alloc: Global, text: &[u8]) -> Result<Script, ParseFault>
     ensures accepts { IfOk result (λ script. IsScriptText text.now (script_of script)) }
     ensures only { IfOk result (λ script. (other : tree.Script) → IsScriptText text.now other → other ≡ script_of script) }
     ensures refuses { IfErr result (λ fault. IsFault text.now fault) }
-    ensures too_long { longest < length text.now → result ≡ Err (record { place = longest; kind = ParseKind.TooLong }) }
+    ensures too_long { LONGEST_SCRIPT < length text.now → result ≡ Err (record { place = LONGEST_SCRIPT; kind = ParseKind.TooLong }) }
 {
     if text.len() > LONGEST_SCRIPT {
         return Err(ParseFault {

@@ -2,7 +2,9 @@
 ghost use Rattle.std.specs.Prelude.{◌≡◌, ◌<◌, ◌≤◌, ◌↔◌, ◌^◌, ℕ, List, Option, Some, IsTrue, drop, length, Ok, codes};
 ghost use Rattle.do_lex.specs.declared.tokens.Token.{Token};
 ghost use Rattle.do_lex.specs.declared.kind.Kind.TheVariants as kinds;
+ghost use Rattle.do_lex.specs.declared.pieces.TheConstants.{LONGEST_SCRIPT};
 ghost use Rattle.do_parse.specs.Parsed.{Parses, Anything};
+ghost use Rattle.do_parse.specs.Sound.{AreSound};
 ghost use Rattle.do_parse.specs.Starts as starts;
 ghost use Rattle.do_parse.specs.Taken.{IsPeeked, IsTaken, token_next, IsName, IsAnyName, IsTextName, IsGivenText};
 ghost use Rattle.do_parse.specs.Lists.{Starting};
@@ -14,10 +16,9 @@ ghost use Rattle.do_tree.specs.Seen.{named_of};
 use crate::made::number;
 use crate::starts::{ExprStart, expr_start};
 use crate::stop::Stop;
-use crate::text::{number_of, text_of};
+use crate::text::{new_text, number_of, text_of};
 use do_lex::{Keyword, Kind, Mark, Token};
 use do_tree::{Expr, Name};
-use do_value::Text;
 use std::alloc::Global;
 use std::marker::Model;
 use std::sync::Arc;
@@ -33,17 +34,19 @@ pub(crate) struct Cursor<'a> {
 impl<'a> Model for Cursor<'a> {
     ghost use Rattle.std.specs.Prelude.{List, ◌≤◌, drop, length};
     ghost use Rattle.do_lex.specs.declared.tokens.Token.{Token};
+    ghost use Rattle.do_parse.specs.Sound.{AreSound};
 
     ghost Value = { List Token };
 
     ghost view = { λ c. drop c.at c.tokens.now };
 
-    ghost invariant = { λ c. c.at ≤ length c.tokens.now };
+    ghost invariant = { λ c. (c.at ≤ length c.tokens.now) × AreSound c.tokens.now };
 }
 
 impl<'a> Cursor<'a> {
     /// All the tokens are left.
     pub(crate) fn new(alloc: Global, tokens: &'a [Token<'a>]) -> Cursor<'a>
+        requires { AreSound tokens.now }
         ensures { result ≡ tokens.now }
     {
         Cursor {
@@ -51,6 +54,13 @@ impl<'a> Cursor<'a> {
             at: 0,
             alloc,
         }
+    }
+
+    /// Nothing is done here: the clause says what is known of the tokens that are left.
+    pub(crate) fn sound(&self)
+        ensures { AreSound self.now }
+    {
+        let _at = self.at;
     }
 
     /// Where the tree's nodes lie.
@@ -181,6 +191,7 @@ impl<'a> Cursor<'a> {
         requires { depth ≤ 64 }
         ensures { Parses (IsName depth) Anything self.old self.new (with_tree named_of result) }
     {
+        self.sound();
         let token = self.take(Kind::Word)?;
         name_of(self.alloc, token.at, token.text)
     }
@@ -190,6 +201,7 @@ impl<'a> Cursor<'a> {
         requires { depth ≤ 64 }
         ensures { Parses (IsAnyName depth) Anything self.old self.new (with_tree named_of result) }
     {
+        self.sound();
         let Some(token) = self.first() else {
             return Err(Stop::Unexpected);
         };
@@ -205,9 +217,9 @@ impl<'a> Cursor<'a> {
         requires { depth ≤ 64 }
         ensures { Parses (Starting kinds.Number (IsPrim depth)) Anything self.old self.new (with_tree expr_at result) }
     {
+        self.sound();
         let token = self.take(Kind::Number)?;
-        let value = number_of(token.text)?;
-        number(self.alloc, token.at, value)
+        number(self.alloc, token.at, number_of(token.text))
     }
 
     /// A text, with what it stands for.
@@ -215,6 +227,7 @@ impl<'a> Cursor<'a> {
         requires { depth ≤ 64 }
         ensures { Parses (IsTextName depth) Anything self.old self.new (with_tree named_of result) }
     {
+        self.sound();
         let token = self.take(Kind::Text)?;
         let text = text_of(self.alloc, token.text)?;
         Ok(Name { at: token.at, text })
@@ -225,6 +238,7 @@ impl<'a> Cursor<'a> {
         requires { depth ≤ 64 }
         ensures { Parses (IsGivenText (codes "cloudflare:workers") depth) Anything self.old self.new result }
     {
+        self.sound();
         let token = self.peek(Kind::Text)?;
         let found = text_of(self.alloc, token.text)?;
         if found.as_str() == "cloudflare:workers" {
@@ -244,13 +258,13 @@ fn is_word(kind: Kind) -> bool
     }
 }
 
-/// A name in memory of its own.
+/// A name in memory of its own, which is no longer than a script may be.
 pub(crate) fn name_of(alloc: Global, at: u32, text: &str) -> Result<Name, Stop>
+    requires { length text.now ≤ LONGEST_SCRIPT }
     ensures { IsMade (λ name. named_of name) (record { at = at; text = text.now }) result }
 {
-    match Text::new(alloc, text) {
+    match new_text(alloc, text) {
         Ok(text) => Ok(Name { at, text }),
-        // a script's text is within the limit of texts
-        Err(_) => Err(Stop::NoMemory),
+        Err(stop) => Err(stop),
     }
 }

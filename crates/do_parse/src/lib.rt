@@ -7,10 +7,12 @@ mod cut;
 mod expr;
 mod fault;
 mod items;
+pub mod laws;
 mod level;
 mod loops;
 mod made;
 mod nodes;
+pub mod one_fault;
 mod script;
 mod starts;
 mod stop;
@@ -20,6 +22,3 @@ mod value;
 
 pub use answer::parse;
 pub use fault::{ParseFault, ParseKind};
-
-#[cfg(test)]
-mod tests;

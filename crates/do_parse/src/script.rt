@@ -14,7 +14,7 @@ ghost use Rattle.do_tree.specs.Seen.{class_of, method_of, named_of, script_of};
 use crate::cursor::{Cursor, name_of};
 use crate::nodes::share_block;
 use crate::stop::Stop;
-use do_lex::{Keyword, Kind, LONGEST_SCRIPT, Mark};
+use do_lex::{Keyword, Kind, Mark};
 use do_tree::{Class, Item, Method, MethodKind, Name, Script};
 use std::alloc::Global;
 
@@ -74,15 +74,13 @@ impl<'a> Cursor<'a> {
         ensures end { IfOk result (λ _. self.new ≡ []) }
         ensures few { IfOk result (λ classes. length classes.items < 2 ^ 32) }
     {
+        self.sound();
         let mut classes = Vec::new(self.alloc());
         let first = self.class()?;
         classes.push(first)?;
         while self.kind().is_some() {
             let class = self.class()?;
             classes.push(class)?;
-        }
-        if classes.len() > LONGEST_SCRIPT {
-            return Err(Stop::NoMemory);
         }
         Ok(classes)
     }
@@ -91,11 +89,9 @@ impl<'a> Cursor<'a> {
         ensures { Parses IsClass Anything self.old self.new (with_tree class_of result) }
     {
         let head = self.class_head()?;
+        self.sound();
         let methods = self.members()?;
         self.mark(Mark::CloseBrace, 0)?;
-        if methods.len() > LONGEST_SCRIPT {
-            return Err(Stop::NoMemory);
-        }
         Ok(Class {
             at: head.at,
             name: head.name,
@@ -118,7 +114,9 @@ impl<'a> Cursor<'a> {
 
     /// The members of a class, up to its closing brace.
     fn members(&mut self) -> Result<Vec<Method>, Stop>
-        ensures { Parses (Repeat IsMember) (BeginsWith (kinds.Mark marks.CloseBrace)) self.old self.new (with_tree (λ methods. map method_of methods.items) result) }
+        ensures parses { Parses (Repeat IsMember) (BeginsWith (kinds.Mark marks.CloseBrace)) self.old self.new (with_tree (λ methods. map method_of methods.items) result) }
+        // Each method has a token.
+        ensures few { IfOk result (λ methods. length methods.items ≤ length self.old) }
     {
         let mut methods = Vec::new(self.alloc());
         while !self.next_is(Kind::Mark(Mark::CloseBrace)) {

@@ -1,10 +1,11 @@
 //! What the tokens of texts and numbers stand for.
-ghost use Rattle.std.specs.Prelude.{◌≡◌, ◌<◌, ◌≤◌, ◌-◌, ◌++◌, ◌∷◌, [], length, take, drop, pos};
-ghost use Rattle.do_lex.specs.Lexemes.{escaped, text_value, number_value};
+ghost use Rattle.std.specs.Prelude.{◌≡◌, ◌<◌, ◌≤◌, ◌-◌, ◌++◌, ◌∷◌, [], length, slice_index, take, drop, pos};
+ghost use Rattle.do_lex.specs.Lexemes.{IsNumber, escaped, text_value, number_value, greatest_number};
+ghost use Rattle.do_lex.specs.declared.pieces.TheConstants.{LONGEST_SCRIPT};
 ghost use Rattle.do_parse.specs.Then.{IsMade};
 
 use crate::stop::Stop;
-use do_value::{Num, Text};
+use do_value::{BuildFault, Num, Text};
 use std::alloc::Global;
 use std::str;
 
@@ -66,53 +67,58 @@ fn unescaped(alloc: Global, inside: &[u8]) -> Result<Vec<u8>, Stop>
     Ok(bytes)
 }
 
-/// What stands between the first byte and the last.
-fn between_quotes(quoted: &[u8]) -> &[u8]
+/// What stands between the first byte and the last, which are ASCII.
+fn between_quotes(quoted: &str) -> &str
+    requires first { slice_index quoted.now 0 < 128 }
+    requires last { slice_index quoted.now (length quoted.now - 1) < 128 }
     ensures { result.now ≡ take (length quoted.now - 2) (drop 1 quoted.now) }
 {
     if quoted.len() < 2 {
-        return &quoted[..0];
+        return "";
     }
     &quoted[1..quoted.len() - 1]
 }
 
 /// What the token of a text stands for.
 pub(crate) fn text_of(alloc: Global, token: &str) -> Result<Text, Stop>
+    requires short { length token.now ≤ LONGEST_SCRIPT }
+    requires first { slice_index token.now 0 < 128 }
+    requires last { slice_index token.now (length token.now - 1) < 128 }
     ensures { IsMade (λ text. text) (text_value (take (length token.now - 2) (drop 1 token.now))) result }
 {
-    let quoted = token.as_bytes();
-    let bytes = unescaped(alloc, between_quotes(quoted))?;
+    let inside = between_quotes(token);
+    let bytes = unescaped(alloc, inside.as_bytes())?;
     match str::from_utf8(&bytes) {
         Ok(text) => new_text(alloc, text),
-        Err(_) => Err(Stop::NoMemory),
+        // what a text stands for is UTF-8, as the text is
+        Err(_) => unreachable!(),
     }
 }
 
+/// A text in memory of its own, which is no longer than a script may be.
 pub(crate) fn new_text(alloc: Global, text: &str) -> Result<Text, Stop>
+    requires { length text.now ≤ LONGEST_SCRIPT }
     ensures { IsMade (λ made. made) text.now result }
 {
     match Text::new(alloc, text) {
         Ok(text) => Ok(text),
-        // a script's text is within the limit of texts
-        Err(_) => Err(Stop::NoMemory),
+        Err(BuildFault::NoMemory) => Err(Stop::NoMemory),
+        // so many bytes are within the limit of texts
+        Err(BuildFault::TooDeep | BuildFault::TooLarge { .. }) => unreachable!(),
     }
 }
 
-/// The number that the digits write, where it is one of this language.
-pub(crate) fn number_of(digits: &str) -> Result<Num, Stop>
-    ensures { IsMade (λ number. number) (pos (number_value digits.now)) result }
+/// The number that the digits write, which is one of this language.
+pub(crate) fn number_of(digits: &str) -> Num
+    requires number { IsNumber digits.now }
+    requires small { number_value digits.now ≤ greatest_number }
+    ensures { result ≡ pos (number_value digits.now) }
 {
-    if digits.as_bytes().first().copied() == Some(b'+') {
-        return Err(Stop::NoMemory);
-    }
     let Ok(value) = digits.parse::<u64>() else {
-        return Err(Stop::NoMemory);
+        unreachable!()
     };
-    let Ok(value) = i64::try_from(value) else {
-        return Err(Stop::NoMemory);
-    };
-    match Num::new(value) {
-        Ok(number) => Ok(number),
-        Err(_) => Err(Stop::NoMemory),
+    match Num::new(value as i64) {
+        Ok(number) => number,
+        Err(_) => unreachable!(),
     }
 }

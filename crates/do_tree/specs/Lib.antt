@@ -13,3 +13,5 @@ pub mod Print
 pub mod Scope
 pub mod Seen
 pub mod Tree
+pub mod Unplaced
+pub mod Written

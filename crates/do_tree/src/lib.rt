@@ -12,6 +12,7 @@
 mod checked;
 mod expr;
 mod kind;
+pub mod laws;
 mod print;
 mod print_expr;
 mod print_word;
@@ -23,6 +24,3 @@ pub use expr::{Arg, Callback, Chain, Expr, Link, Operand, Pair};
 pub use kind::CheckKind;
 pub use script::{Class, Method, MethodKind, Name, Script};
 pub use stmt::{Binding, Block, Item, Simple, Stmt, Write};
-
-#[cfg(test)]
-mod tests;

@@ -1,31 +1,33 @@
 //! Expressions and statements as text. The functions go down the tree together.
 ghost use Rattle.std.specs.Prelude.{◌≡◌, [], ◌∷◌, ◌++◌, OnOk};
-ghost use Rattle.do_tree.specs.Nodes.{args_in, block_in, exprs_in, links_in, operands_in, option_expr_in, pairs_in, simple_of, with_arg, with_link};
-ghost use Rattle.do_tree.specs.Print.{text_of_args, text_of_block, text_of_chained, text_of_elements, text_of_expr, text_of_initial, text_of_items, text_of_links, text_of_operands, text_of_option_expr, text_of_pairs, text_of_simple, text_of_stmt};
-ghost use Rattle.do_tree.specs.Seen.{expr_of, items_in, stmt_of, with_item};
+ghost use Rattle.do_tree.specs.Nodes.{args_in, block_in, exprs_in, links_in, operands_in, option_expr_in, option_stmt_in, pairs_in, simple_of, with_arg, with_link};
+ghost use Rattle.do_tree.specs.Print.{tokens_of_args, tokens_of_block, tokens_of_chained, tokens_of_elements, tokens_of_expr, tokens_of_initial, tokens_of_items, tokens_of_links, tokens_of_operands, tokens_of_option_expr, tokens_of_other, tokens_of_pair, tokens_of_pairs, tokens_of_simple, tokens_of_stmt, tokens_of_test};
+ghost use Rattle.do_tree.specs.Seen.{expr_of, items_in, named_of, stmt_of, with_item};
 ghost use Rattle.do_tree.specs.Tree.{no_args, no_items, no_links};
+ghost use Rattle.do_tree.specs.Written.{write_all, written_of};
 
 use crate::expr::{Arg, Chain, Expr, Link, Operand, Pair};
 use crate::print_word::{
-    binding_text, chain_text, operator_text, put, put_caught, put_for, put_name, put_number,
-    put_option_name, put_quoted, unary_text,
+    Printed, binding_key, chain_mark, operator_mark, put_caught, put_comma, put_key, put_mark,
+    put_name, put_number, put_option_name, put_quoted, put_record_key, put_word, unary_mark,
 };
 use crate::stmt::{Block, Item, Simple, Stmt, Write};
+use do_lex::{Keyword, Mark};
 use do_value::Mem;
 use std::sync::Arc;
 
-/// Appends the expression.
+/// Prints the expression.
 #[cycle(print)]
-#[tactic(auto, using(std::proofs::lemmas::Grind::common_steps, crate::proofs::Rows::hidden_exprs, crate::proofs::Rows::hidden_operands, crate::proofs::Rows::hidden_links, crate::proofs::Rows::hidden_pairs, crate::proofs::Rows::hidden_option))]
-pub fn print_expr(out: &mut Vec<u8>, expr: &Expr) -> Mem<()>
-    ensures { OnOk result (out.new.items ≡ out.old.items ++ text_of_expr (expr_of expr.now)) }
+#[tactic(auto, using(std::proofs::lemmas::Grind::common_steps, crate::proofs::Writing::write_all_append, crate::proofs::Rows::hidden_exprs, crate::proofs::Rows::hidden_operands, crate::proofs::Rows::hidden_links, crate::proofs::Rows::hidden_pairs, crate::proofs::Rows::hidden_option))]
+pub fn print_expr(out: &mut Printed, expr: &Expr) -> Mem<()>
+    ensures { OnOk result (written_of out.new ≡ write_all (written_of out.old) (tokens_of_expr (expr_of expr.now))) }
 {
     match expr {
         Expr::Choice { test, yes, no, .. } => {
             print_expr(out, test)?;
-            put(out, "? ")?;
+            put_mark(out, Mark::Question)?;
             print_expr(out, yes)?;
-            put(out, ": ")?;
+            put_mark(out, Mark::Colon)?;
             print_expr(out, no)
         }
         Expr::Lazy {
@@ -42,11 +44,11 @@ pub fn print_expr(out: &mut Vec<u8>, expr: &Expr) -> Mem<()>
             print_operands(out, rest)
         }
         Expr::Unary { op, value, .. } => {
-            put(out, unary_text(*op))?;
+            put_mark(out, unary_mark(*op))?;
             print_expr(out, value)
         }
         Expr::Await { value, .. } => {
-            put(out, "await ")?;
+            put_key(out, Keyword::Await)?;
             print_expr(out, value)
         }
         Expr::Path { base, links, .. } => {
@@ -55,39 +57,41 @@ pub fn print_expr(out: &mut Vec<u8>, expr: &Expr) -> Mem<()>
         }
         Expr::Number { value, .. } => put_number(out, *value),
         Expr::Text { value, .. } => put_quoted(out, value.as_str()),
-        Expr::Bool { value: true, .. } => put(out, "true "),
-        Expr::Bool { value: false, .. } => put(out, "false "),
-        Expr::Null { .. } => put(out, "null "),
-        Expr::Undefined { .. } => put(out, "undefined "),
-        Expr::This { .. } => put(out, "this "),
+        Expr::Bool { value: true, .. } => put_key(out, Keyword::True),
+        Expr::Bool { value: false, .. } => put_key(out, Keyword::False),
+        Expr::Null { .. } => put_key(out, Keyword::Null),
+        Expr::Undefined { .. } => put_key(out, Keyword::Undefined),
+        Expr::This { .. } => put_key(out, Keyword::This),
         Expr::Variable(name) => put_name(out, name),
         Expr::Group { inside, .. } => {
-            put(out, "( ")?;
+            put_mark(out, Mark::OpenParen)?;
             print_expr(out, inside)?;
-            put(out, ") ")
+            put_mark(out, Mark::CloseParen)
         }
         Expr::List { items, .. } => {
-            put(out, "[ ")?;
+            put_mark(out, Mark::OpenBracket)?;
             print_elements(out, items)?;
-            put(out, "] ")
+            put_mark(out, Mark::CloseBracket)
         }
         Expr::Record { pairs, .. } => {
-            put(out, "{ ")?;
+            put_mark(out, Mark::OpenBrace)?;
             print_pairs(out, pairs)?;
-            put(out, "} ")
+            put_mark(out, Mark::CloseBrace)
         }
         Expr::NewError { message, .. } => {
-            put(out, "new Error ( ")?;
+            put_key(out, Keyword::New)?;
+            put_word(out, "Error")?;
+            put_mark(out, Mark::OpenParen)?;
             print_option(out, message)?;
-            put(out, ") ")
+            put_mark(out, Mark::CloseParen)
         }
     }
 }
 
-/// Appends the expression, if there is one.
+/// Prints the expression, if there is one.
 #[cycle(print)]
-fn print_option(out: &mut Vec<u8>, expr: &Option<Arc<Expr>>) -> Mem<()>
-    ensures { OnOk result (out.new.items ≡ out.old.items ++ text_of_option_expr (option_expr_in expr.now)) }
+fn print_option(out: &mut Printed, expr: &Option<Arc<Expr>>) -> Mem<()>
+    ensures { OnOk result (written_of out.new ≡ write_all (written_of out.old) (tokens_of_option_expr (option_expr_in expr.now))) }
 {
     match expr {
         Some(expr) => print_expr(out, expr),
@@ -95,60 +99,66 @@ fn print_option(out: &mut Vec<u8>, expr: &Option<Arc<Expr>>) -> Mem<()>
     }
 }
 
-/// Appends the value that a declaration gives, if there is one.
+/// Prints the value that a declaration gives, if there is one.
 #[cycle(print)]
-fn print_initial(out: &mut Vec<u8>, value: &Option<Arc<Expr>>) -> Mem<()>
-    ensures { OnOk result (out.new.items ≡ out.old.items ++ text_of_initial (option_expr_in value.now)) }
+fn print_initial(out: &mut Printed, value: &Option<Arc<Expr>>) -> Mem<()>
+    ensures { OnOk result (written_of out.new ≡ write_all (written_of out.old) (tokens_of_initial (option_expr_in value.now))) }
 {
     match value {
         Some(value) => {
-            put(out, "= ")?;
+            put_mark(out, Mark::Assign)?;
             print_expr(out, value)
         }
         None => Ok(()),
     }
 }
 
-/// Appends the operands of a chain from the second on.
+/// Prints the operands of a chain from the second on.
 #[cycle(print)]
-fn print_chained(out: &mut Vec<u8>, chain: Chain, rest: &[Arc<Expr>]) -> Mem<()>
-    ensures { OnOk result (out.new.items ≡ out.old.items ++ text_of_chained chain (exprs_in rest.now)) }
+#[tactic(auto, using(std::proofs::lemmas::Grind::common_steps, crate::proofs::Writing::write_all_append))]
+fn print_chained(out: &mut Printed, chain: Chain, rest: &[Arc<Expr>]) -> Mem<()>
+    ensures { OnOk result (written_of out.new ≡ write_all (written_of out.old) (tokens_of_chained chain (exprs_in rest.now))) }
 {
     for expr in rest {
-        put(out, chain_text(chain))?;
+        put_mark(out, chain_mark(chain))?;
         print_expr(out, expr)?;
     }
     Ok(())
 }
 
-/// Appends the operands of strict operators from the second on.
+/// Prints the operands of strict operators from the second on.
 #[cycle(print)]
-fn print_operands(out: &mut Vec<u8>, rest: &[Operand]) -> Mem<()>
-    ensures { OnOk result (out.new.items ≡ out.old.items ++ text_of_operands (operands_in rest.now)) }
+#[tactic(auto, using(std::proofs::lemmas::Grind::common_steps, crate::proofs::Writing::write_all_append))]
+fn print_operands(out: &mut Printed, rest: &[Operand]) -> Mem<()>
+    ensures { OnOk result (written_of out.new ≡ write_all (written_of out.old) (tokens_of_operands (operands_in rest.now))) }
 {
     for operand in rest {
-        put(out, operator_text(operand.op))?;
+        put_mark(out, operator_mark(operand.op))?;
         print_expr(out, &operand.value)?;
     }
     Ok(())
 }
 
-/// Appends the elements of a list.
+/// Prints the elements of a list.
 #[cycle(print)]
-fn print_elements(out: &mut Vec<u8>, elements: &[Arc<Expr>]) -> Mem<()>
-    ensures { OnOk result (out.new.items ≡ out.old.items ++ text_of_elements (exprs_in elements.now)) }
+#[tactic(auto, using(std::proofs::lemmas::Grind::common_steps, crate::proofs::Writing::write_all_append, crate::proofs::Writing::next_expr))]
+fn print_elements(out: &mut Printed, elements: &[Arc<Expr>]) -> Mem<()>
+    ensures { OnOk result (written_of out.new ≡ write_all (written_of out.old) (tokens_of_elements (exprs_in elements.now))) }
 {
+    let mut begun = false;
     for expr in elements {
+        put_comma(out, begun)?;
+        begun = true;
         print_expr(out, expr)?;
-        put(out, ", ")?;
     }
     Ok(())
 }
 
-/// Appends the steps of a path.
+/// Prints the steps of a path.
 #[cycle(print)]
-fn print_links(out: &mut Vec<u8>, links: &[Link]) -> Mem<()>
-    ensures { OnOk result (out.new.items ≡ out.old.items ++ text_of_links (links_in links.now)) }
+#[tactic(auto, using(std::proofs::lemmas::Grind::common_steps, crate::proofs::Writing::write_all_append, crate::proofs::Writing::links_more))]
+fn print_links(out: &mut Printed, links: &[Link]) -> Mem<()>
+    ensures { OnOk result (written_of out.new ≡ write_all (written_of out.old) (tokens_of_links (links_in links.now))) }
 {
     for link in links {
         print_link(out, link)?;
@@ -156,99 +166,100 @@ fn print_links(out: &mut Vec<u8>, links: &[Link]) -> Mem<()>
     Ok(())
 }
 
-/// Appends a step of a path.
+/// Prints a step of a path.
 #[cycle(print)]
-#[tactic(auto, using(std::proofs::lemmas::Grind::common_steps, crate::proofs::Rows::hidden_args))]
-fn print_link(out: &mut Vec<u8>, link: &Link) -> Mem<()>
-    ensures { OnOk result (out.new.items ≡ out.old.items ++ text_of_links (with_link link.now no_links)) }
+#[tactic(auto, using(std::proofs::lemmas::Grind::common_steps, crate::proofs::Writing::write_all_append, crate::proofs::Rows::hidden_args))]
+fn print_link(out: &mut Printed, link: &Link) -> Mem<()>
+    ensures { OnOk result (written_of out.new ≡ write_all (written_of out.old) (tokens_of_links (with_link link.now no_links))) }
 {
     match link {
         Link::Field(name) => {
-            put(out, ". ")?;
+            put_mark(out, Mark::Dot)?;
             put_name(out, name)
         }
         Link::Index { index, .. } => {
-            put(out, "[ ")?;
+            put_mark(out, Mark::OpenBracket)?;
             print_expr(out, index)?;
-            put(out, "] ")
+            put_mark(out, Mark::CloseBracket)
         }
         Link::Call { args, .. } => {
-            put(out, "( ")?;
+            put_mark(out, Mark::OpenParen)?;
             print_args(out, args)?;
-            put(out, ") ")
+            put_mark(out, Mark::CloseParen)
         }
     }
 }
 
-/// Appends arguments.
+/// Prints arguments.
 #[cycle(print)]
-fn print_args(out: &mut Vec<u8>, args: &[Arg]) -> Mem<()>
-    ensures { OnOk result (out.new.items ≡ out.old.items ++ text_of_args (args_in args.now)) }
+#[tactic(auto, using(std::proofs::lemmas::Grind::common_steps, crate::proofs::Writing::write_all_append, crate::proofs::Writing::next_arg))]
+fn print_args(out: &mut Printed, args: &[Arg]) -> Mem<()>
+    ensures { OnOk result (written_of out.new ≡ write_all (written_of out.old) (tokens_of_args (args_in args.now))) }
 {
+    let mut begun = false;
     for arg in args {
+        put_comma(out, begun)?;
+        begun = true;
         print_arg(out, arg)?;
     }
     Ok(())
 }
 
-/// Appends an argument.
+/// Prints an argument.
 #[cycle(print)]
-#[tactic(auto, using(std::proofs::lemmas::Grind::common_steps, crate::proofs::Rows::hidden_items))]
-fn print_arg(out: &mut Vec<u8>, arg: &Arg) -> Mem<()>
-    ensures { OnOk result (out.new.items ≡ out.old.items ++ text_of_args (with_arg arg.now no_args)) }
+#[tactic(auto, using(std::proofs::lemmas::Grind::common_steps, crate::proofs::Writing::write_all_append, crate::proofs::Rows::hidden_items))]
+fn print_arg(out: &mut Printed, arg: &Arg) -> Mem<()>
+    ensures { OnOk result (written_of out.new ≡ write_all (written_of out.old) (tokens_of_args (with_arg arg.now no_args))) }
 {
     match arg {
-        Arg::Value(value) => {
-            print_expr(out, value)?;
-            put(out, ", ")
-        }
+        Arg::Value(value) => print_expr(out, value),
         Arg::Callback(callback) => {
-            put(out, "async ( ")?;
+            put_key(out, Keyword::Async)?;
+            put_mark(out, Mark::OpenParen)?;
             put_option_name(out, &callback.parameter)?;
-            put(out, ") => { ")?;
-            print_items(out, &callback.body.items)?;
-            put(out, "} , ")
+            put_mark(out, Mark::CloseParen)?;
+            put_mark(out, Mark::Arrow)?;
+            print_block(out, &callback.body)
         }
     }
 }
 
-/// Appends the pairs of a record.
+/// Prints the pairs of a record.
 #[cycle(print)]
-#[tactic(auto, using(std::proofs::lemmas::Grind::common_steps, crate::proofs::Printed::pairs_more))]
-fn print_pairs(out: &mut Vec<u8>, pairs: &[Pair]) -> Mem<()>
-    ensures { OnOk result (out.new.items ≡ out.old.items ++ text_of_pairs (pairs_in pairs.now)) }
+#[tactic(auto, using(std::proofs::lemmas::Grind::common_steps, crate::proofs::Writing::write_all_append, crate::proofs::Writing::next_pair))]
+fn print_pairs(out: &mut Printed, pairs: &[Pair]) -> Mem<()>
+    ensures { OnOk result (written_of out.new ≡ write_all (written_of out.old) (tokens_of_pairs (pairs_in pairs.now))) }
 {
+    let mut begun = false;
     for pair in pairs {
+        put_comma(out, begun)?;
+        begun = true;
         print_pair(out, pair)?;
     }
     Ok(())
 }
 
-/// Appends a pair of a record.
+/// Prints a pair of a record.
 #[cycle(print)]
-#[tactic(auto, using(std::proofs::lemmas::Grind::common_steps, crate::proofs::Printed::pair_some, crate::proofs::Printed::pair_none))]
-fn print_pair(out: &mut Vec<u8>, pair: &Pair) -> Mem<()>
-    ensures { OnOk result (out.new.items ≡ out.old.items ++ text_of_pairs (pairs_in (pair.now ∷ []))) }
+#[tactic(auto, using(std::proofs::lemmas::Grind::common_steps, crate::proofs::Writing::write_all_append))]
+fn print_pair(out: &mut Printed, pair: &Pair) -> Mem<()>
+    ensures { OnOk result (written_of out.new ≡ write_all (written_of out.old) (tokens_of_pair (named_of pair.now.key) (option_expr_in pair.now.value))) }
 {
     match &pair.value {
         Some(value) => {
-            put_quoted(out, pair.key.text.as_str())?;
-            put(out, ": ")?;
-            print_expr(out, value)?;
-            put(out, ", ")
+            put_record_key(out, pair.key.text.as_str())?;
+            put_mark(out, Mark::Colon)?;
+            print_expr(out, value)
         }
-        None => {
-            put_name(out, &pair.key)?;
-            put(out, ", ")
-        }
+        None => put_name(out, &pair.key),
     }
 }
 
-/// Appends the items of a block.
+/// Prints the items of a block.
 #[cycle(print)]
-#[tactic(auto, using(std::proofs::lemmas::Grind::common_steps, crate::proofs::Printed::items_more))]
-pub fn print_items(out: &mut Vec<u8>, items: &[Item]) -> Mem<()>
-    ensures { OnOk result (out.new.items ≡ out.old.items ++ text_of_items (items_in items.now)) }
+#[tactic(auto, using(std::proofs::lemmas::Grind::common_steps, crate::proofs::Writing::write_all_append, crate::proofs::Writing::items_more))]
+pub fn print_items(out: &mut Printed, items: &[Item]) -> Mem<()>
+    ensures { OnOk result (written_of out.new ≡ write_all (written_of out.old) (tokens_of_items (items_in items.now))) }
 {
     for item in items {
         print_item(out, item)?;
@@ -256,10 +267,11 @@ pub fn print_items(out: &mut Vec<u8>, items: &[Item]) -> Mem<()>
     Ok(())
 }
 
-/// Appends an item of a block.
+/// Prints an item of a block.
 #[cycle(print)]
-fn print_item(out: &mut Vec<u8>, item: &Item) -> Mem<()>
-    ensures { OnOk result (out.new.items ≡ out.old.items ++ text_of_items (with_item item.now no_items)) }
+#[tactic(auto, using(std::proofs::lemmas::Grind::common_steps, crate::proofs::Writing::write_all_append))]
+fn print_item(out: &mut Printed, item: &Item) -> Mem<()>
+    ensures { OnOk result (written_of out.new ≡ write_all (written_of out.old) (tokens_of_items (with_item item.now no_items))) }
 {
     match item {
         Item::Declare {
@@ -268,20 +280,20 @@ fn print_item(out: &mut Vec<u8>, item: &Item) -> Mem<()>
             value,
             ..
         } => {
-            put(out, binding_text(*binding))?;
+            put_key(out, binding_key(*binding))?;
             put_name(out, name)?;
             print_initial(out, value)?;
-            put(out, "; ")
+            put_mark(out, Mark::Semicolon)
         }
         Item::Stmt(stmt) => print_stmt(out, stmt),
     }
 }
 
-/// Appends the statement.
+/// Prints the statement.
 #[cycle(print)]
-#[tactic(auto, using(std::proofs::lemmas::Grind::common_steps, crate::proofs::Rows::hidden_items, crate::proofs::Rows::hidden_option))]
-fn print_stmt(out: &mut Vec<u8>, stmt: &Stmt) -> Mem<()>
-    ensures { OnOk result (out.new.items ≡ out.old.items ++ text_of_stmt (stmt_of stmt.now)) }
+#[tactic(auto, using(std::proofs::lemmas::Grind::common_steps, crate::proofs::Writing::write_all_append, crate::proofs::Rows::hidden_items, crate::proofs::Rows::hidden_option))]
+fn print_stmt(out: &mut Printed, stmt: &Stmt) -> Mem<()>
+    ensures { OnOk result (written_of out.new ≡ write_all (written_of out.old) (tokens_of_stmt (stmt_of stmt.now))) }
 {
     match stmt {
         Stmt::Block(block) => print_block(out, block),
@@ -291,22 +303,14 @@ fn print_stmt(out: &mut Vec<u8>, stmt: &Stmt) -> Mem<()>
             other,
             ..
         } => {
-            put(out, "if ( ")?;
-            print_expr(out, test)?;
-            put(out, ") ")?;
+            put_key(out, Keyword::If)?;
+            print_test(out, test)?;
             print_stmt(out, then)?;
-            match other {
-                Some(other) => {
-                    put(out, "else ")?;
-                    print_stmt(out, other)
-                }
-                None => Ok(()),
-            }
+            print_other(out, other)
         }
         Stmt::While { test, body, .. } => {
-            put(out, "while ( ")?;
-            print_expr(out, test)?;
-            put(out, ") ")?;
+            put_key(out, Keyword::While)?;
+            print_test(out, test)?;
             print_stmt(out, body)
         }
         Stmt::For {
@@ -317,13 +321,17 @@ fn print_stmt(out: &mut Vec<u8>, stmt: &Stmt) -> Mem<()>
             body,
             ..
         } => {
-            put_for(out, name)?;
+            put_key(out, Keyword::For)?;
+            put_mark(out, Mark::OpenParen)?;
+            put_key(out, Keyword::Let)?;
+            put_name(out, name)?;
+            put_mark(out, Mark::Assign)?;
             print_expr(out, first)?;
-            put(out, "; ")?;
+            put_mark(out, Mark::Semicolon)?;
             print_expr(out, test)?;
-            put(out, "; ")?;
+            put_mark(out, Mark::Semicolon)?;
             print_simple(out, step)?;
-            put(out, ") ")?;
+            put_mark(out, Mark::CloseParen)?;
             print_stmt(out, body)
         }
         Stmt::ForOf {
@@ -333,12 +341,13 @@ fn print_stmt(out: &mut Vec<u8>, stmt: &Stmt) -> Mem<()>
             body,
             ..
         } => {
-            put(out, "for ( ")?;
-            put(out, binding_text(*binding))?;
+            put_key(out, Keyword::For)?;
+            put_mark(out, Mark::OpenParen)?;
+            put_key(out, binding_key(*binding))?;
             put_name(out, name)?;
-            put(out, "of ")?;
+            put_word(out, "of")?;
             print_expr(out, list)?;
-            put(out, ") ")?;
+            put_mark(out, Mark::CloseParen)?;
             print_stmt(out, body)
         }
         Stmt::Try {
@@ -347,62 +356,96 @@ fn print_stmt(out: &mut Vec<u8>, stmt: &Stmt) -> Mem<()>
             handler,
             ..
         } => {
-            put(out, "try ")?;
+            put_key(out, Keyword::Try)?;
             print_block(out, body)?;
-            put(out, "catch ")?;
+            put_key(out, Keyword::Catch)?;
             put_caught(out, name)?;
             print_block(out, handler)
         }
         Stmt::Throw { value, .. } => {
-            put(out, "throw ")?;
+            put_key(out, Keyword::Throw)?;
             print_expr(out, value)?;
-            put(out, "; ")
+            put_mark(out, Mark::Semicolon)
         }
         Stmt::Return { value, .. } => {
-            put(out, "return ")?;
+            put_key(out, Keyword::Return)?;
             print_option(out, value)?;
-            put(out, "; ")
+            put_mark(out, Mark::Semicolon)
         }
-        Stmt::Break { .. } => put(out, "break ; "),
-        Stmt::Continue { .. } => put(out, "continue ; "),
+        Stmt::Break { .. } => {
+            put_key(out, Keyword::Break)?;
+            put_mark(out, Mark::Semicolon)
+        }
+        Stmt::Continue { .. } => {
+            put_key(out, Keyword::Continue)?;
+            put_mark(out, Mark::Semicolon)
+        }
         Stmt::Simple(simple) => {
             print_simple(out, simple)?;
-            put(out, "; ")
+            put_mark(out, Mark::Semicolon)
         }
     }
 }
 
-/// Appends a block.
+/// Prints a test between parentheses.
 #[cycle(print)]
-fn print_block(out: &mut Vec<u8>, block: &Block) -> Mem<()>
-    ensures { OnOk result (out.new.items ≡ out.old.items ++ text_of_block (block_in block.now)) }
+#[tactic(auto, using(std::proofs::lemmas::Grind::common_steps, crate::proofs::Writing::write_all_append))]
+fn print_test(out: &mut Printed, test: &Expr) -> Mem<()>
+    ensures { OnOk result (written_of out.new ≡ write_all (written_of out.old) (tokens_of_test (expr_of test.now))) }
 {
-    put(out, "{ ")?;
-    print_items(out, &block.items)?;
-    put(out, "} ")
+    put_mark(out, Mark::OpenParen)?;
+    print_expr(out, test)?;
+    put_mark(out, Mark::CloseParen)
 }
 
-/// Appends an expression that is run for itself, or a write.
+/// Prints what an `if` does otherwise, if there is something.
 #[cycle(print)]
-fn print_simple(out: &mut Vec<u8>, simple: &Simple) -> Mem<()>
-    ensures { OnOk result (out.new.items ≡ out.old.items ++ text_of_simple (simple_of simple.now)) }
+#[tactic(auto, using(std::proofs::lemmas::Grind::common_steps, crate::proofs::Writing::write_all_append))]
+fn print_other(out: &mut Printed, other: &Option<Arc<Stmt>>) -> Mem<()>
+    ensures { OnOk result (written_of out.new ≡ write_all (written_of out.old) (tokens_of_other (option_stmt_in other.now))) }
+{
+    match other {
+        Some(other) => {
+            put_key(out, Keyword::Else)?;
+            print_stmt(out, other)
+        }
+        None => Ok(()),
+    }
+}
+
+/// Prints a block.
+#[cycle(print)]
+#[tactic(auto, using(std::proofs::lemmas::Grind::common_steps, crate::proofs::Writing::write_all_append))]
+fn print_block(out: &mut Printed, block: &Block) -> Mem<()>
+    ensures { OnOk result (written_of out.new ≡ write_all (written_of out.old) (tokens_of_block (block_in block.now))) }
+{
+    put_mark(out, Mark::OpenBrace)?;
+    print_items(out, &block.items)?;
+    put_mark(out, Mark::CloseBrace)
+}
+
+/// Prints an expression that is run for itself, or a write.
+#[cycle(print)]
+#[tactic(auto, using(std::proofs::lemmas::Grind::common_steps, crate::proofs::Writing::write_all_append))]
+fn print_simple(out: &mut Printed, simple: &Simple) -> Mem<()>
+    ensures { OnOk result (written_of out.new ≡ write_all (written_of out.old) (tokens_of_simple (simple_of simple.now))) }
 {
     print_expr(out, &simple.place)?;
     match &simple.write {
         Write::Nothing => Ok(()),
         Write::Value(value) => {
-            put(out, "= ")?;
+            put_mark(out, Mark::Assign)?;
             print_expr(out, value)
         }
         Write::Sum(value) => {
-            put(out, "+= ")?;
+            put_mark(out, Mark::AddAssign)?;
             print_expr(out, value)
         }
         Write::Difference(value) => {
-            put(out, "-= ")?;
+            put_mark(out, Mark::SubAssign)?;
             print_expr(out, value)
         }
-        Write::OneMore => put(out, "++ "),
-        Write::OneLess => put(out, "-- "),
+        Write::OneMore => put_mark(out, Mark::Increment),
+        Write::OneLess => put_mark(out, Mark::Decrement),
     }
 }

@@ -18,6 +18,3 @@ pub use num::{Num, RangeNum};
 pub use operator::{BinOp, Builtin, UnOp};
 pub use text::Text;
 pub use value::{Fields, Items, Value};
-
-#[cfg(test)]
-mod tests;

@@ -1,5 +1,5 @@
 //! Text, seen as its UTF-8 bytes.
-ghost use Rattle.std.specs.Prelude.{◌≡◌, ◌==◌, ◌+◌, ◌<◌, ◌≤◌, ◌↔◌, IfOk, IsOkUnless, IsTrue, Err, length};
+ghost use Rattle.std.specs.Prelude.{◌≡◌, ◌==◌, ◌+◌, ◌<◌, ◌≤◌, ◌↔◌, IfOk, IsOkUnless, IsTrue, Err, length, string_bytes};
 ghost use Rattle.std.specs.Str.{IsUtf8};
 ghost use Rattle.std.specs.Ordering.{nat_cmp};
 ghost use Rattle.std.specs.Cmp.Lexicographic.{slice_cmp};
@@ -55,6 +55,13 @@ impl Text {
         ensures { result.now ≡ self.now }
     {
         self.s.as_str()
+    }
+
+    /// The text as an owned string lends it: a bound of a sorted map whose keys are strings.
+    pub fn as_string(&self) -> &String
+        ensures { string_bytes result.now ≡ self.now }
+    {
+        &self.s
     }
 
     /// How many bytes of UTF-8 the text has.

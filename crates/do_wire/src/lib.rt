@@ -12,6 +12,3 @@ mod read;
 pub use fault::WireFault;
 pub use print::to_json;
 pub use read::from_json;
-
-#[cfg(test)]
-mod tests;

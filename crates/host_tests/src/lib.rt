@@ -9,3 +9,5 @@ mod edge_tests;
 mod line_tests;
 #[cfg(test)]
 mod run_tests;
+#[cfg(test)]
+mod script_tests;

@@ -77,7 +77,17 @@ pub(crate) fn served(alloc: Global, given: Given) -> Result<Outcome, Fail> {
 
 // The run of `serve s f` over a disk that holds the file.
 pub(crate) fn served_over(alloc: Global, given: Given, file: &[u8]) -> Result<Outcome, Fail> {
-    let words = words(alloc, &["serve", "s", "f"])?;
+    run_words(alloc, &["serve", "s", "f"], given, file)
+}
+
+// The run of these words over a disk that holds the file.
+pub(crate) fn run_words(
+    alloc: Global,
+    list: &[&str],
+    given: Given,
+    file: &[u8],
+) -> Result<Outcome, Fail> {
+    let words = words(alloc, list)?;
     let depot = depot(alloc, given.script, file, given.disk)?;
     let input = given.input.as_bytes().to_vec(alloc)?;
     let input = MemSource::new(input, 7, Fails::From(given.read));
@@ -196,12 +206,14 @@ fn other_words_are_usage(rt: HostRuntime) -> Result<(), Fail> {
     expect_usage(&rt, rt.alloc(), &["run"])?;
     expect_usage(&rt, rt.alloc(), &["serve", "s"])?;
     expect_usage(&rt, rt.alloc(), &["serve", "s", "f", "g"])?;
+    expect_usage(&rt, rt.alloc(), &["check"])?;
+    expect_usage(&rt, rt.alloc(), &["check", "s", "f"])?;
     expect_usage(&rt, rt.alloc(), &["dump", "s", "f"])
 }
 
 const ONE_SET: &str = "[\"call\",1,\"C\",\"a\",\"set\",[\"k\",5]]\n";
 
-fn expect_served(
+pub(crate) fn expect_served(
     rt: &impl Abort,
     alloc: Global,
     given: Given,

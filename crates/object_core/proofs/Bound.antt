@@ -1,14 +1,13 @@
 -- A core that gets its object.
-use Rattle.std.proofs.Common.{◌≡◌, ◌⊎◌, inl, inr, ℕ, ◌+◌, ◌<◌, ◌≤◌, List, [], ◌∷◌, ◌++◌, length, map, sum, take, refl, sym, ap, ◌∙◌, subst, arith, Option, Some, None}
-use Rattle.std.specs.List.{All, slice_index_or}
+use Rattle.std.proofs.Common.{◌≡◌, ℕ, ◌+◌, ◌≤◌, List, [], ◌∷◌, ◌++◌, length, map, sum, take, refl, sym, ap, ◌∙◌, subst, arith, Option, Some, None}
 use Rattle.std.proofs.lemmas.List.{append-nil}
 use Rattle.batch_journal.specs.Frames.{Frame, batches_in}
 use Rattle.storage_map.specs.declared.op.Op.{Op}
-use Rattle.object_core.specs.Said.{Said, spoken, batches_of, operations, messages_in}
+use Rattle.object_core.specs.Said.{spoken, batches_of, operations}
 use Rattle.object_core.specs.Told.{told}
 use Rattle.object_core.specs.Turn.{entry}
 use Rattle.object_core.specs.Kept.{NameOnly, RecoversTo, RecoversToPrefix}
-use Rattle.object_core.specs.History.{line, needs_of, AreNumbered, IsHistory}
+use Rattle.object_core.specs.History.{line, AreNumbered, IsHistory}
 use Rattle.object_core.specs.Serving.{IsServing}
 use Rattle.object_core.specs.declared.timeline.Entry.{Entry}
 use Rattle.object_core.specs.declared.timeline.Body.TheVariants.{Bind}
@@ -86,6 +85,7 @@ module _ {D : Type 0} (moment_of : D → ℕ) (left_since : D → ℕ → List �
         flown = same_flights ∙ s.flown ∙ ap (map (λ ops. 1)) (sym same_line);
         frames = s.frames;
         at_rest = rw journal s.at_rest;
+        within = rw journal s.within;
         named = rw is (names_anew (Some object) s.frames bare_names);
         batches = rw same_line s.batches;
         staged = rw journal s.staged;

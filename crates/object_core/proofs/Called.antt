@@ -1,6 +1,6 @@
 -- What each answer of a call leaves.
-use Rattle.std.proofs.Common.{◌≡◌, ◌⊎◌, inl, inr, ℕ, ◌+◌, ◌<◌, ◌≤◌, ◌-◌, ◌^◌, min, List, [], ◌∷◌, ◌++◌, length, true, false, not, Bool, is_some, IsSome, OnErr, refl, sym, ap, ◌∙◌, subst, arith, Option, Some, None, Result, Ok, Err}
-use Rattle.std.specs.List.{All, slice_index_or}
+use Rattle.std.proofs.Common.{◌≡◌, inl, inr, ℕ, ◌+◌, ◌<◌, ◌≤◌, ◌-◌, ◌^◌, min, List, [], ◌∷◌, ◌++◌, length, true, false, not, Bool, is_some, IsSome, OnErr, refl, sym, ap, ◌∙◌, subst, Option, Some, None, Result, Ok, Err}
+use Rattle.std.specs.List.{slice_index_or}
 use Rattle.batch_journal.specs.Frames.{Frame, Name, payload}
 use Rattle.batch_journal.specs.Moments.{LeavesOnly}
 use Rattle.batch_journal.specs.Rest.{IsAtRest, IsStaged, RecoversToOneOf, IsFull, needed}
@@ -11,24 +11,25 @@ use Rattle.storage_map.specs.declared.map.Map.{Map}
 use Rattle.batch_journal.specs.declared.journal.Journal.{Journal}
 use Rattle.batch_journal.specs.declared.journal.AppendFault.{AppendFault}
 use Rattle.batch_journal.specs.declared.journal.AppendFault.TheVariants.{DiskFailed as AppendDiskFailed, Full as AppendFull}
-use Rattle.object_core.specs.Said.{Said, batch, message, spoken, batches_of}
+use Rattle.object_core.specs.Said.{message, batches_of}
 use Rattle.object_core.specs.Told.{event_says}
 use Rattle.object_core.specs.Fault.{call_end}
-use Rattle.object_core.specs.Turn.{turn_says, turn_entries, SameFront, SameBack, IsTurnOf}
+use Rattle.object_core.specs.Turn.{turn_says, turn_entries, IsTurnOf}
 use Rattle.object_core.specs.Kept.{NameOnly}
-use Rattle.object_core.specs.History.{line, IsHistory}
-use Rattle.object_core.specs.Serving.{IsServing, IsHistoryOf, SameLogs, AsksFor, IsFullCall, object_of}
+use Rattle.object_core.specs.Within.{AreWithin}
+use Rattle.object_core.specs.History.{IsHistory}
+use Rattle.object_core.specs.Serving.{IsServing, IsHistoryOf, SameLogs, AsksFor, IsFullCall}
 use Rattle.object_core.specs.Ready.{SameCore, SameJournal, IsStagedTurn, IsReady, LogsTurn, Lands}
 use Rattle.object_core.specs.declared.timeline.Event.{Event}
 use Rattle.object_core.specs.declared.timeline.Message.{Message}
 use Rattle.object_core.specs.declared.turn.Turn.{Turn}
 use Rattle.object_core.specs.declared.turn.Copies.{Copies}
-use Rattle.object_core.specs.declared.front_log.FrontLog.{FrontLog}
 use Rattle.object_core.specs.declared.back_log.BackLog.{BackLog}
 use Rattle.object_core.specs.declared.back_log.Release.{Release}
 use Rattle.object_core.specs.declared.object.Core.{Core}
 use Rattle.object_core.specs.declared.object.CallEnd.{CallEnd}
 use Rattle.object_core.specs.declared.object.CallEnd.TheVariants.{DiskFailed, Full, NoMemory}
+use Rattle.object_core.proofs.Fits.{one_more_within}
 use Rattle.object_core.proofs.Logged.{Logs, logs_turn}
 use Rattle.object_core.proofs.Served.{logs_stay, core_stays, write_stops, write_serves}
 
@@ -82,6 +83,14 @@ end_is a b e = cc
 pub ends_full : (fault : AppendFault) (n limit : ℕ) → call_end fault ≡ Full n limit → fault ≡ AppendFull n limit
 ends_full AppendDiskFailed n limit e = cc
 ends_full (AppendFull m more) n limit e = cc
+
+-- an append that succeeded isn't Full
+pub good_not_full : (n limit : ℕ) → ◌≡◌ {A = Result (Unit {0}) AppendFault} (Ok tt) (Err (AppendFull n limit)) → ⊥
+good_not_full n limit e = cc
+
+-- what a refused append answered, whatever a good one would give
+pub fault_full : (fault : AppendFault) (n limit : ℕ) → ◌≡◌ {A = Result (Unit {0}) AppendFault} (Err fault) (Err (AppendFull n limit)) → ◌≡◌ {A = Result Message AppendFault} (Err fault) (Err (AppendFull n limit))
+fault_full fault n limit e = let one : fault ≡ AppendFull n limit = cc in ap (λ f. Err f) one
 
 pub ends_failed : (fault : AppendFault) → call_end fault ≡ DiskFailed → fault ≡ AppendDiskFailed
 ends_failed AppendDiskFailed e = refl
@@ -216,7 +225,7 @@ module _ {D : Type 0} (moment_of : D → ℕ) (left_since : D → ℕ → List �
   answer_ready old mid (Some ops) s same staged is = cc
 
   -- what a crash leaves over an append, from before the turn was staged
-  appended_leaves : (old mid : Core D) (disk : D) (object : List ℕ × List ℕ) (ops : List Op) → (s : IsServing moment_of left_since told image since start old) → SameCore told image old mid → old.identity ≡ Some object
+  pub appended_leaves : (old mid : Core D) (disk : D) (object : List ℕ × List ℕ) (ops : List Op) → (s : IsServing moment_of left_since told image since start old) → SameCore told image old mid → old.identity ≡ Some object
       → ((frames : List Frame) (object : List ℕ × List ℕ) (batches : List (List Op)) → IsAtRest told image mid.journal frames → IsStaged mid.journal object batches → Name object frames
       → LeavesOnly moment_of left_since mid.journal.disk disk (RecoversToOneOf frames (frame_of object batches)))
       → IsStaged mid.journal object (ops ∷ []) → LeavesOnly moment_of left_since old.journal.disk disk (RecoversToOneOf s.frames (frame_of object (ops ∷ [])))
@@ -249,8 +258,9 @@ module _ {D : Type 0} (moment_of : D → ℕ) (left_since : D → ℕ → List �
       → ((object : List ℕ × List ℕ) → IsStaged new.journal object [])
       → ((frames : List Frame) (object : List ℕ × List ℕ) (batches : List (List Op)) → IsAtRest told image mid.journal frames → IsStaged mid.journal object batches → Name object frames
       → LeavesOnly moment_of left_since mid.journal.disk new.journal.disk (RecoversToOneOf frames (frame_of object batches)))
+      → needed mid.journal (frame_of object (ops ∷ [])) ≤ mid.journal.limit → new.journal.limit ≡ mid.journal.limit
       → IsServing moment_of left_since told image since start new
-  append_serves old mid new event turn copies object ops s same ready batch_is logged lands is appended unstaged any_moment =
+  append_serves old mid new event turn copies object ops s same ready batch_is logged lands is appended unstaged any_moment fits same_limit =
       let roomy : Core D = record old { front = mid.front; back = mid.back } in
       let serving : IsServing moment_of left_since told image since start roomy = roomy_serves old mid s same in
       let staged : ((key : List ℕ) → value_in mid.map key ≡ value_after key (value_in old.map key) ops) × ((named : List ℕ × List ℕ) → old.identity ≡ Some named → IsStaged mid.journal named (ops ∷ [])) =
@@ -261,8 +271,12 @@ module _ {D : Type 0} (moment_of : D → ℕ) (left_since : D → ℕ → List �
       logs_turn mid.front new.front mid.back taking event turn copies.taken (Some ops) batch_is ready.turn_of.taken logged.delivered logged.sent logged.front_rest logged.taken refl in
       let release : Release = record { message = copies.released; needs = length new.back.flights.items; moment = moment_of new.journal.disk } in
       let says : turn_says (Some ops) turn.reply ≡ event_says (value_in old.map) event = ap (λ batch. turn_says batch turn.reply) (sym batch_is) ∙ ready.turn_of.says in
+      let frame : Frame = frame_of object (ops ∷ []) in
+      let within : AreWithin new.journal.limit start (serving.frames ++ frame ∷ []) =
+      subst (λ (limit : ℕ). AreWithin limit start (serving.frames ++ frame ∷ [])) (sym same_limit)
+      (one_more_within told image mid.journal serving.frames start frame (same.journal.frames serving.frames serving.at_rest) fits) in
       write_serves moment_of left_since told image only_now counts_now since start roomy new taking flying event object ops turn.reply release serving says (logged.identity ∙ same.identity) is
       (λ key. ap (λ (map : Map). value_in map key) logged.map_same ∙ staged.0 key)
-      (appended serving.frames object (ops ∷ []) (same.journal.frames serving.frames serving.at_rest) (staged.1 object is) (name_frames object old.identity serving.frames is serving.named)) unstaged
+      (appended serving.frames object (ops ∷ []) (same.journal.frames serving.frames serving.at_rest) (staged.1 object is) (name_frames object old.identity serving.frames is serving.named)) within unstaged
       (appended_leaves roomy mid new.journal.disk object ops serving (roomy_same old mid same) is any_moment (staged.1 object is))
       logs refl refl lands.flights logged.back_rest lands.released ready.turn_of.released refl refl

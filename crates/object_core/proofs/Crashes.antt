@@ -1,15 +1,11 @@
 -- What a crash leaves, as the line of batches grows.
-use Rattle.std.proofs.Common.{◌≡◌, ◌⊎◌, inl, inr, ⊎_elim, ℕ, ◌+◌, ◌≤◌, List, [], ◌∷◌, ◌++◌, length, take, refl, sym, ap, ◌∙◌, subst, arith, append_assoc, length-append, Option, Some, None}
-use Rattle.std.specs.List.{All, flat_map}
+use Rattle.std.proofs.Common.{◌≡◌, inr, ℕ, ◌≤◌, List, ◌++◌, length, take, sym, ap, ◌∙◌, subst, arith, length-append, Option}
 use Rattle.std.proofs.lemmas.Grind.{flat_map-append}
 use Rattle.std.proofs.Math.Seq.{take-length}
 use Rattle.std.proofs.lemmas.List.{take-append-le}
-use Rattle.std.proofs.lemmas.List.Elements.{All-push}
-use Rattle.do_disk.specs.Disk.{Only}
 use Rattle.batch_journal.specs.Frames.{Frame, batches_in}
-use Rattle.batch_journal.specs.Recovery.{Recovers, IsJournal}
-use Rattle.batch_journal.specs.Staged.{frame_of}
-use Rattle.batch_journal.specs.Rest.{IsAtRest, RecoversToOneOf}
+use Rattle.batch_journal.specs.Recovery.{Recovers}
+use Rattle.batch_journal.specs.Rest.{IsAtRest}
 use Rattle.batch_journal.specs.declared.journal.Journal.{Journal}
 use Rattle.storage_map.specs.declared.op.Op.{Op}
 use Rattle.object_core.specs.Kept.{NameOnly, RecoversTo, RecoversToPrefix}

@@ -1,18 +1,16 @@
 -- How the history of an object goes on.
-use Rattle.std.proofs.Common.{◌≡◌, ◌⊎◌, inl, inr, ⊎_elim, ℕ, ◌+◌, ◌≤◌, List, [], ◌∷◌, ◌++◌, length, length-append, map, sum, refl, sym, ap, ◌∙◌, subst, arith, Option, Some, None}
-use Rattle.std.specs.List.{All, slice_index_or}
+use Rattle.std.proofs.Common.{◌≡◌, inl, inr, ⊎_elim, ℕ, ◌≤◌, List, [], ◌∷◌, ◌++◌, length, length-append, map, sum, sym, ap, ◌∙◌, subst, arith, Option}
 use Rattle.std.proofs.lemmas.List.Elements.{All-push}
 use Rattle.batch_journal.specs.Frames.{Frame, batches_in}
 use Rattle.batch_journal.specs.Moments.{LeavesOnly}
-use Rattle.storage_map.specs.declared.op.Op.{Op}
-use Rattle.object_core.specs.Said.{Said, batch, message, spoken, batches_of, operations, messages_in, IsPrefix}
+use Rattle.object_core.specs.Said.{Said, spoken, batches_of, operations, messages_in, IsPrefix}
 use Rattle.object_core.specs.Told.{told}
-use Rattle.object_core.specs.Kept.{NameOnly, RecoversTo, RecoversToPrefix}
+use Rattle.object_core.specs.Kept.{NameOnly, RecoversToPrefix}
 use Rattle.object_core.specs.History.{line, needs_of, AreNumbered, IsFirst, IsHistory}
 use Rattle.object_core.specs.declared.front_log.FrontLog.{FrontLog}
 use Rattle.object_core.specs.declared.back_log.BackLog.{BackLog}
 use Rattle.object_core.specs.declared.back_log.Release.{Release}
-use Rattle.object_core.proofs.Saying.{spoken-append, batches_of-append, messages_in-append, IsPrefix-more}
+use Rattle.object_core.proofs.Saying.{batches_of-append, messages_in-append, IsPrefix-more}
 use Rattle.object_core.proofs.Crashes.{longer_line, fewer}
 
 -- frames that name no object name any

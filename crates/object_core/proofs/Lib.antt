@@ -5,3 +5,5 @@ pub mod Served
 pub mod Logged
 pub mod Called
 pub mod Bound
+pub mod Fits
+pub mod Limits

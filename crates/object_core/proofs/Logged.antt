@@ -1,11 +1,10 @@
 -- What the logs say after one event more.
-use Rattle.std.proofs.Common.{◌≡◌, ℕ, ◌+◌, ◌≤◌, List, [], ◌∷◌, ◌++◌, length, length-append, map, sum, refl, sym, ap, ◌∙◌, subst, arith, append_assoc, Option, Some, None}
-use Rattle.std.specs.List.{All, slice_index_or}
-use Rattle.std.proofs.lemmas.List.{map-append, append-nil}
+use Rattle.std.proofs.Common.{◌≡◌, ℕ, ◌+◌, List, [], ◌∷◌, ◌++◌, length, map, refl, ap, ◌∙◌, subst, arith, Option, Some, None}
+use Rattle.std.proofs.lemmas.List.{map-append}
 use Rattle.std.proofs.lemmas.List.Elements.{All-push}
 use Rattle.storage_map.specs.declared.op.Op.{Op}
-use Rattle.object_core.specs.Said.{Said, batch, message, spoken, batches_of, operations, messages_in, IsPrefix}
-use Rattle.object_core.specs.Turn.{turn_says, turn_entries, entry}
+use Rattle.object_core.specs.Said.{Said, spoken, batches_of, messages_in}
+use Rattle.object_core.specs.Turn.{turn_says, turn_entries}
 use Rattle.object_core.specs.History.{needs_of, AreNumbered, IsFirst}
 use Rattle.object_core.specs.declared.timeline.Event.{Event}
 use Rattle.object_core.specs.declared.timeline.Entry.{Entry}
@@ -14,7 +13,7 @@ use Rattle.object_core.specs.declared.front_log.FrontLog.{FrontLog}
 use Rattle.object_core.specs.declared.back_log.BackLog.{BackLog}
 use Rattle.object_core.specs.declared.back_log.Release.{Release}
 use Rattle.object_core.specs.declared.turn.Turn.{Turn}
-use Rattle.object_core.proofs.Saying.{spoken-append, messages_in-append, AreNumbered-append}
+use Rattle.object_core.proofs.Saying.{messages_in-append, AreNumbered-append}
 
 -- the front delivered the event and sent these entries, and the back took these
 pub record Logs (front later_front : FrontLog) (back later_back : BackLog) (event : Event) (sent taken : List Entry) : Type 0 where

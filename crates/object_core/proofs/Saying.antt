@@ -1,17 +1,16 @@
 -- What is said by lists that are joined.
-use Rattle.std.proofs.Common.{◌≡◌, ◌≤◌, ℕ, ◌+◌, List, [], ◌∷◌, ◌++◌, length, refl, sym, ap, ◌∙◌, subst, arith, append_assoc, length-append, map, sum, Option, Some, None, unwrap_or}
-use Rattle.std.specs.List.{flat_map, sum_by}
-use Rattle.std.proofs.lemmas.Grind.{flat_map-append, common_steps}
+use Rattle.std.proofs.Common.{◌≡◌, ℕ, ◌+◌, List, [], ◌∷◌, ◌++◌, length, refl, sym, ap, ◌∙◌, subst, arith, append_assoc, map, sum, Option, unwrap_or}
+use Rattle.std.specs.List.{sum_by}
+use Rattle.std.proofs.lemmas.Grind.{flat_map-append}
 use Rattle.std.proofs.lemmas.List.{append-nil}
 use Rattle.std.proofs.lemmas.List.Sums.{sum-map, sum_by-cons}
 use Rattle.do_value.specs.declared.value.Value.{Value}
 use Rattle.do_value.specs.declared.value.Value.TheVariants.{Undefined, Null, Bool, Num, Text, List as Listed, Rec}
 use Rattle.storage_map.specs.declared.op.Op.{Op}
 use Rattle.object_core.specs.Said.{Said, batch, message, spoken, said_by, batches_of, operations, messages_in, IsPrefix}
-use Rattle.object_core.specs.Told.{told, event_says, read_says, set_says, reply, stored_by}
+use Rattle.object_core.specs.Told.{told, event_says, read_says, reply, stored_by}
 use Rattle.object_core.specs.History.{AreNumbered}
 use Rattle.object_core.specs.declared.timeline.Entry.{Entry}
-use Rattle.object_core.specs.declared.timeline.Message.{Message}
 use Rattle.object_core.specs.declared.timeline.Caller.{Caller}
 use Rattle.object_core.specs.declared.timeline.Event.{Event}
 use Rattle.object_core.specs.declared.timeline.Event.TheVariants.{Bind, Call, Answer, Tick, Evict}

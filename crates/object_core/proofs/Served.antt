@@ -1,33 +1,29 @@
 -- A core that serves, and one more event.
-use Rattle.std.proofs.Common.{◌≡◌, ◌⊎◌, inl, inr, ⊎_elim, ℕ, ◌+◌, ◌≤◌, List, [], ◌∷◌, ◌++◌, length, length-append, map, sum, refl, sym, ap, ◌∙◌, subst, arith, append_assoc, Option, Some, None}
-use Rattle.std.specs.List.{All, slice_index_or}
-use Rattle.std.proofs.lemmas.Grind.{common_steps}
+use Rattle.std.proofs.Common.{◌≡◌, inl, inr, ℕ, ◌+◌, ◌≤◌, List, [], ◌∷◌, ◌++◌, length, length-append, map, sum, refl, sym, ap, ◌∙◌, subst, arith, append_assoc, Option, Some, None}
 use Rattle.std.proofs.lemmas.List.{map-append, append-nil, length-map}
 use Rattle.std.proofs.lemmas.List.Elements.{All-push}
-use Rattle.batch_journal.specs.Frames.{Frame, Name, batches_in}
+use Rattle.batch_journal.specs.Frames.{Frame, batches_in}
 use Rattle.batch_journal.specs.Moments.{LeavesOnly}
-use Rattle.batch_journal.specs.Recovery.{Recovers}
 use Rattle.batch_journal.specs.Rest.{IsAtRest, IsStaged, RecoversToOneOf}
 use Rattle.batch_journal.specs.Staged.{frame_of}
 use Rattle.storage_map.specs.Stored.{value_in, value_after}
 use Rattle.storage_map.specs.declared.op.Op.{Op}
-use Rattle.storage_map.specs.declared.map.Map.{Map}
-use Rattle.batch_journal.specs.declared.journal.Journal.{Journal}
 use Rattle.batch_journal.specs.declared.mount.Mounted.{Mounted}
-use Rattle.object_core.specs.Said.{Said, batch, message, spoken, batches_of, operations, messages_in, IsPrefix}
+use Rattle.object_core.specs.Said.{message, spoken, batches_of, operations, messages_in, IsPrefix}
 use Rattle.object_core.specs.Told.{told, event_says, stored_by}
-use Rattle.object_core.specs.Turn.{turn_says, turn_entries, entry, SameFront, SameBack}
+use Rattle.object_core.specs.Turn.{turn_says, turn_entries, SameFront, SameBack}
 use Rattle.object_core.specs.Kept.{NameOnly, RecoversTo, RecoversToPrefix}
-use Rattle.object_core.specs.History.{line, needs_of, AreNumbered, IsFirst, IsHistory}
-use Rattle.object_core.specs.Serving.{IsMounted, IsServing, IsHistoryOf}
+use Rattle.object_core.specs.Within.{AreWithin}
+use Rattle.object_core.specs.History.{line, needs_of, IsFirst, IsHistory}
+use Rattle.object_core.specs.Serving.{IsMounted, IsServing}
 use Rattle.object_core.specs.declared.timeline.Event.{Event}
 use Rattle.object_core.specs.declared.timeline.Message.{Message}
 use Rattle.object_core.specs.declared.front_log.FrontLog.{FrontLog}
 use Rattle.object_core.specs.declared.back_log.BackLog.{BackLog}
 use Rattle.object_core.specs.declared.back_log.Release.{Release}
 use Rattle.object_core.specs.declared.object.Core.{Core}
-use Rattle.object_core.proofs.Saying.{spoken-append, batches_of-append, messages_in-append, operations-append, AreNumbered-append, told-push, event_says-same, sum-ones, IsPrefix-more}
-use Rattle.object_core.proofs.Crashes.{batches_in-append, longer_line, fewer, whole_line, part_of_line, at_rest_recovers}
+use Rattle.object_core.proofs.Saying.{spoken-append, batches_of-append, operations-append, told-push, event_says-same, sum-ones}
+use Rattle.object_core.proofs.Crashes.{batches_in-append, fewer, whole_line, part_of_line, at_rest_recovers}
 use Rattle.object_core.proofs.Logged.{Logs, still_first, turn_spoken, numbered_on, all_left}
 use Rattle.storage_map.proofs.Folds.{value_after-append}
 use Rattle.object_core.specs.declared.timeline.Entry.{Entry}
@@ -111,6 +107,7 @@ module _ {D : Type 0} (moment_of : D → ℕ) (left_since : D → ℕ → List �
         flown = rw (fresh.flights, fresh.taken) refl;
         frames = start;
         at_rest = rw journal m.at_rest;
+        within = inl refl;
         named = rw identity m.named;
         batches = rw fresh.taken (sym (append-nil (batches_in start)));
         staged = rw journal m.staged;
@@ -208,6 +205,7 @@ module _ {D : Type 0} (moment_of : D → ℕ) (left_since : D → ℕ → List �
         flown = ap (λ (log : BackLog). log.flights.items) let_go ∙ same_flights ∙ s.flown ∙ ap (map (λ ops. 1)) (sym new_line);
         frames = s.frames;
         at_rest = rw journal s.at_rest;
+        within = rw journal s.within;
         named = rw identity s.named;
         batches = rw new_line s.batches;
         staged = rw journal s.staged;
@@ -252,6 +250,7 @@ module _ {D : Type 0} (moment_of : D → ℕ) (left_since : D → ℕ → List �
       → new.identity ≡ old.identity → old.identity ≡ Some object
       → ((key : List ℕ) → value_in new.map key ≡ value_after key (value_in old.map key) ops)
       → IsAtRest told_by image new.journal (s.frames ++ frame_of object (ops ∷ []) ∷ [])
+      → AreWithin new.journal.limit start (s.frames ++ frame_of object (ops ∷ []) ∷ [])
       → ((object : List ℕ × List ℕ) → IsStaged new.journal object [])
       → LeavesOnly moment_of left_since old.journal.disk new.journal.disk (RecoversToOneOf s.frames (frame_of object (ops ∷ [])))
       → Logs old.front new.front old.back taking event (turn_entries (length old.front.sent.items + 1) (Some ops) reply) (turn_entries (length old.back.taken.items + 1) (Some ops) reply)
@@ -262,7 +261,7 @@ module _ {D : Type 0} (moment_of : D → ℕ) (left_since : D → ℕ → List �
       → new.back.released.items ≡ flying.released.items ++ release ∷ []
       → release.message ≡ reply → release.needs ≡ length flying.flights.items → release.moment ≡ moment_of new.journal.disk
       → IsServing moment_of left_since told_by image since start new
-  write_serves old new taking flying event object ops reply release s says identity is values rest staged leaves logs took flew flight let_go left message_is needs moment =
+  write_serves old new taking flying event object ops reply release s says identity is values rest within staged leaves logs took flew flight let_go left message_is needs moment =
       let disk : D = new.journal.disk in
       let before : List (List Op) = line old.back in
       let after : List (List Op) = before ++ ops ∷ [] in
@@ -313,6 +312,7 @@ module _ {D : Type 0} (moment_of : D → ℕ) (left_since : D → ℕ → List �
         flown = ap (λ (log : BackLog). log.flights.items) let_go ∙ flights ∙ ap (map (λ ops. 1)) (sym new_line);
         frames = frames;
         at_rest = rest;
+        within = within;
         named = rw identity named;
         batches = rw new_line batches;
         staged = staged;
@@ -361,6 +361,7 @@ module _ {D : Type 0} (moment_of : D → ℕ) (left_since : D → ℕ → List �
         flown = rw (same_back.flights, same_back.taken) s.flown;
         frames = s.frames;
         at_rest = rw journal s.at_rest;
+        within = rw journal s.within;
         named = rw identity s.named;
         batches = rw same_back.taken s.batches;
         staged = rw journal s.staged;

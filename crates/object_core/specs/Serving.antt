@@ -1,19 +1,18 @@
 -- A core that serves calls, and what a call does to it.
-use Rattle.std.specs.Prelude.{◌≡◌, ◌⊎◌, ◌+◌, ◌-◌, ◌^◌, ◌<◌, ◌≤◌, min, ℕ, pos, List, [], ◌∷◌, ◌++◌, map, length, Option, Some, Result, Err}
+use Rattle.std.specs.Prelude.{◌≡◌, ◌⊎◌, ◌-◌, ◌^◌, ◌<◌, ◌≤◌, min, ℕ, pos, List, [], ◌∷◌, ◌++◌, map, length, Option, Some, Result, Err}
 use Rattle.do_value.specs.Tree.{size_of}
 use Rattle.do_value.specs.Seen.{tree_of}
 use Rattle.do_value.specs.declared.value.Value.{Value}
 use Rattle.do_value.specs.declared.value.Value.TheVariants.{Undefined, Null, Bool, Num, Text, List as Listed, Rec}
 use Rattle.storage_map.specs.Limits.{most_key_bytes, most_stored_bytes}
 use Rattle.batch_journal.specs.Frames.{Frame, batches_in}
-use Rattle.batch_journal.specs.Staged.{frame_of}
 use Rattle.batch_journal.specs.Rest.{IsAtRest, IsStaged, needed}
 use Rattle.storage_map.specs.Stored.{value_in}
-use Rattle.storage_map.specs.declared.op.Op.{Op}
 use Rattle.batch_journal.specs.declared.mount.Mounted.{Mounted}
 use Rattle.object_core.specs.Said.{spoken, batches_of, operations, messages_in}
 use Rattle.object_core.specs.Told.{event_says, stored_by}
 use Rattle.object_core.specs.Kept.{NameOnly, RecoversTo}
+use Rattle.object_core.specs.Within.{AreWithin, RecoversWithin}
 use Rattle.object_core.specs.History.{line, needs_of, IsHistory}
 use Rattle.object_core.specs.declared.timeline.Event.{Event}
 use Rattle.object_core.specs.declared.timeline.Event.TheVariants.{Bind, Call, Answer, Tick, Evict}
@@ -83,7 +82,8 @@ pub record IsMounted {D : Type 0} (moment_of : D → ℕ) (left_since : D → �
   pub images : (c : List ℕ) → left_since mounted.journal.disk since c → RecoversTo mounted.identity (batches_in start) c
 
 -- A core that serves: its logs are its history, everything that was said has left or is durable, its journal is at rest
--- with the frames of the start and those of the line, which name its object alone, and its map has what they leave.
+-- with the frames of the start and those of the line, which name its object alone and are within its limit, and its map has
+-- what they leave.
 pub record IsServing {D : Type 0} (moment_of : D → ℕ) (left_since : D → ℕ → List ℕ → Type 0) (told : D → Option (List ℕ)) (image : D → List ℕ → Type 0)
     (since : ℕ) (start : List Frame) (core : Core D) : Type 0 where
   pub history : IsHistory moment_of left_since image since start core.journal.disk core.identity core.front core.back
@@ -91,6 +91,7 @@ pub record IsServing {D : Type 0} (moment_of : D → ℕ) (left_since : D → �
   pub flown : core.back.flights.items ≡ map (λ ops. 1) (line core.back)
   pub frames : List Frame
   pub at_rest : IsAtRest told image core.journal frames
+  pub within : AreWithin core.journal.limit start frames
   pub named : NameOnly core.identity frames
   pub batches : batches_in frames ≡ batches_in start ++ line core.back
   pub staged : (object : List ℕ × List ℕ) → IsStaged core.journal object []
@@ -103,6 +104,10 @@ CanServe moment_of left_since told image core = (since : ℕ) × (start : List F
 -- the logs of a core are its history
 abbrev pub IsHistoryOf : {D : Type 0} → (D → ℕ) → (D → ℕ → List ℕ → Type 0) → (D → List ℕ → Type 0) → ℕ → List Frame → Core D → Type 0
 IsHistoryOf moment_of left_since image since start core = IsHistory moment_of left_since image since start (disk_of core) (object_of core) (front_of core) (back_of core)
+
+-- whatever a crash since this moment leaves has no frame that passes the limit of the core's journal
+abbrev pub IsWithinLimit : {D : Type 0} → (D → ℕ → List ℕ → Type 0) → ℕ → List Frame → Core D → Type 0
+IsWithinLimit left_since since start core = (c : List ℕ) → left_since (disk_of core) since c → RecoversWithin (limit_in core) start (object_of core) (line (back_of core)) c
 
 -- one message more has left, and it is this one
 abbrev pub Releases : Message → BackLog → BackLog → Type 0

@@ -2,7 +2,7 @@
 -- Source: the script of the first form, `set(k, v) { this.ctx.storage.put(k, v); return v; }` and
 -- `read(k) { return await this.ctx.storage.get(k); }`, read as JavaScript in this project's profile, and the storage
 -- documentation for `put` and `get`.
-use Rattle.std.specs.Prelude.{ℕ, List, [], ◌∷◌, ◌++◌, Option, None, Result, Ok, unwrap_or, if◌then◌else◌, ◌==◌}
+use Rattle.std.specs.Prelude.{ℕ, List, [], ◌∷◌, ◌++◌, Option, None, Ok, unwrap_or, if◌then◌else◌, ◌==◌}
 use Rattle.do_value.specs.declared.value.Value.{Value}
 use Rattle.do_value.specs.declared.value.Value.TheVariants.{Undefined, Text}
 use Rattle.storage_map.specs.declared.op.Op.{Op}

@@ -1,5 +1,5 @@
 -- One event's run, as what it says and as entries of the logs.
-use Rattle.std.specs.Prelude.{◌≡◌, ℕ, ◌+◌, ◌≤◌, List, [], ◌∷◌, ◌++◌, Option, Some, None, vec_len}
+use Rattle.std.specs.Prelude.{◌≡◌, ℕ, ◌+◌, ◌≤◌, List, [], ◌∷◌, Option, Some, None, vec_len}
 use Rattle.std.specs.Vec.{vec_capacity}
 use Rattle.storage_map.specs.declared.op.Op.{Op}
 use Rattle.storage_map.specs.Stored.{value_in}

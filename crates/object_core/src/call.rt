@@ -10,7 +10,7 @@ ghost use Rattle.batch_journal.specs.Rest.{IsAtRest, IsStaged, CanAppend, Recove
 ghost use Rattle.storage_map.specs.Stored.{value_in, value_after};
 ghost use Rattle.object_core.specs.Turn.{HasFrontRoom, HasBackRoom, IsTurnOf};
 ghost use Rattle.object_core.specs.Ready.{LogsTurn, Lands, SameCore, SameJournal, IsReady, IsStagedTurn};
-ghost use Rattle.object_core.specs.Serving.{IsServing, CanServe, IsHistoryOf, IsFirstForm, IsFullCall, Releases, SameLogs, limit_in, object_of, disk_of, front_of, back_of};
+ghost use Rattle.object_core.specs.Serving.{IsServing, IsWithinLimit, CanServe, IsHistoryOf, IsFirstForm, IsFullCall, Releases, SameLogs, limit_in, object_of, disk_of, front_of, back_of};
 
 use crate::object::{CallEnd, Core};
 use crate::timeline::{Event, Message};
@@ -26,6 +26,7 @@ impl<D: Disk> Core<D> {
     pub fn bind(&mut self, identity: Identity) -> Mem<()>
         requires { object_of self.old ≡ None }
         ensures serving { (since : ℕ) (start : List Frame) → IsServing D.moment_of D.left_since D.told D.image since start self.old → IsServing D.moment_of D.left_since D.told D.image since start self.new }
+        ensures within { (since : ℕ) (start : List Frame) → IsWithinLimit D.left_since since start self.old → IsWithinLimit D.left_since since start self.new }
         ensures object { OnOk result (object_of self.new ≡ Some identity) }
         ensures delivered { OnOk result ((front_of self.new).delivered.items ≡ (front_of self.old).delivered.items ++ (1, Event.Bind identity) ∷ []) }
         ensures no_object { OnErr result (object_of self.new ≡ None) }
@@ -56,6 +57,8 @@ impl<D: Disk> Core<D> {
         requires serving { CanServe D.moment_of D.left_since D.told D.image self.old }
         ensures serving { OnOk result ((since : ℕ) (start : List Frame) → IsServing D.moment_of D.left_since D.told D.image since start self.old → IsServing D.moment_of D.left_since D.told D.image since start self.new) }
         ensures stopped { OnErr result ((since : ℕ) (start : List Frame) → IsServing D.moment_of D.left_since D.told D.image since start self.old → IsHistoryOf D.moment_of D.left_since D.image since start self.new) }
+        // Whatever the answer, no frame that a crash leaves passes the journal's limit.
+        ensures within { (since : ℕ) (start : List Frame) → IsServing D.moment_of D.left_since D.told D.image since start self.old → IsWithinLimit D.left_since since start self.old → IsWithinLimit D.left_since since start self.new }
         // The call was delivered, but where memory was wanting.
         ensures delivered { result ≢ Err CallEnd.NoMemory → (front_of self.new).delivered.items ≡ (front_of self.old).delivered.items ++ (1, event) ∷ [] }
         ensures same_logs { IsErrOf result CallEnd.NoMemory → SameLogs self.old self.new }
@@ -102,6 +105,7 @@ impl<D: Disk> Core<D> {
         requires turn { IsTurnOf self.old.map event ready.turn ready.copies }
         requires no_batch { ready.turn.batch ≡ None }
         ensures serving { (since : ℕ) (start : List Frame) → IsServing D.moment_of D.left_since D.told D.image since start self.old → IsServing D.moment_of D.left_since D.told D.image since start self.new }
+        ensures within { (since : ℕ) (start : List Frame) → IsWithinLimit D.left_since since start self.old → IsWithinLimit D.left_since since start self.new }
         ensures delivered { self.new.front.delivered.items ≡ self.old.front.delivered.items ++ (1, event) ∷ [] }
         ensures released { Releases result self.old.back self.new.back }
         ensures same { (self.new.identity ≡ self.old.identity) × (self.new.journal ≡ self.old.journal) }
@@ -129,6 +133,7 @@ impl<D: Disk> Core<D> {
         ensures failed { IsErrOf result AppendFault.DiskFailed → Rose (D.faults_of self.old.journal.disk) (D.faults_of self.new.journal.disk) }
         ensures later { D.faults_of self.old.journal.disk ≤ D.faults_of self.new.journal.disk }
         ensures full { (object : List ℕ × List ℕ) (batches : List (List Op)) → IsStaged self.old.journal object batches → IsFull self.old.journal (frame_of object batches) (result_map_both (λ message. tt) (λ fault. fault) result) }
+        ensures full_drops { (needed limit : ℕ) → IsErrOf result (AppendFault.Full needed limit) → self.new.journal.disk ≡ self.old.journal.disk }
     {
         let Ready { turn, copies } = ready;
         self.front.log(event, turn);

@@ -1,8 +1,9 @@
 //! One object: its journal, its map and its logs.
 ghost use Rattle.std.specs.Prelude.{◌≡◌, [], ℕ, List, option_map};
 ghost use Rattle.batch_journal.specs.Frames.{Frame};
+ghost use Rattle.batch_journal.specs.Recovery.{Recovers};
 ghost use Rattle.batch_journal.specs.Rest.{limit_of};
-ghost use Rattle.object_core.specs.Serving.{IsMounted, IsServing, limit_in, object_of, disk_of, front_of, back_of};
+ghost use Rattle.object_core.specs.Serving.{IsMounted, IsServing, IsWithinLimit, limit_in, object_of, disk_of, front_of, back_of};
 
 use crate::back_log::BackLog;
 use crate::front_log::FrontLog;
@@ -77,6 +78,8 @@ impl<D: Disk> Core<D> {
     /// The core of a slot that was just mounted, with empty logs.
     pub fn first(alloc: Global, mounted: Mounted<D>) -> Core<D>
         ensures serving { (since : ℕ) (start : List Frame) → IsMounted D.moment_of D.left_since D.told D.image since start mounted → IsServing D.moment_of D.left_since D.told D.image since start result }
+        ensures within { (since : ℕ) (start : List Frame) → IsMounted D.moment_of D.left_since D.told D.image since start mounted
+            → ((c : List ℕ) → D.left_since mounted.journal.disk since c → Recovers c start) → IsWithinLimit D.left_since since start result }
         ensures object { object_of result ≡ mounted.identity }
         ensures disk { disk_of result ≡ mounted.journal.disk }
         ensures limit { limit_in result ≡ limit_of mounted.journal }

@@ -1,4 +1,6 @@
 pub mod Deletes
 pub mod Picking
 pub mod Each
-pub mod Lending
+pub mod Spans
+pub mod Prefixes
+pub mod Ending

@@ -6,7 +6,7 @@ use Rattle.std.specs.Set.{is_member}
 use Rattle.std.specs.List.{filter}
 use Rattle.std.specs.BTreeMap.{BTreeMap}
 use Rattle.std.specs.FinMap.{entries, entries_sorted, get, get-entries, get-empty, from_entries}
-use Rattle.std.specs.FinMap.Entries.{find-where_key, is_sorted-where_key, same_entries}
+use Rattle.std.specs.FinMap.Entries.{is_sorted-where_key, same_entries}
 use Rattle.std.proofs.lemmas.Cmp.{nat_list_cmp_total}
 use Rattle.std.proofs.lemmas.List.{take_more, take_all}
 use Rattle.std.proofs.lemmas.Map.Lookups.{exact_bytes}
@@ -18,7 +18,7 @@ use Rattle.std.specs.String.{string_cmp}
 use Rattle.std.specs.List.{AllByRecursion}
 use Rattle.std.specs.BTreeMap.{IsOrdered}
 use Rattle.std.proofs.Common.{inl}
-use Rattle.storage_map.proofs.Finite.{entries_kept, ascending_kept, IsShort}
+use Rattle.storage_map.proofs.Finite.{entries_kept, ascending_kept, find_kept, IsShort}
 use Rattle.storage_map.proofs.Folds.{get_set}
 use Rattle.storage_map.proofs.Orders.{IsOrderly}
 use Rattle.do_value.specs.Keyed.{IsAscending}
@@ -80,8 +80,7 @@ picked_all values picked keys is =
     same_entries by_bytes nat_list_cmp_total exact_bytes _ _
     (entries_sorted picked)
     (is_sorted-where_key by_bytes test (entries values) (entries_sorted values))
-    (λ q. sym (get-entries picked q) ∙ is q ∙ ap (λ (v : Option Value). cond (test q) v None) (get-entries values q)
-    ∙ sym (find-where_key by_bytes test q (λ x tie. ap test (sym (exact_bytes q x tie))) (entries values)))
+    (λ q. sym (get-entries picked q) ∙ is q ∙ sym (find_kept test values q))
 
 -- the next key, by what was found for it
 next_found : (values picked more : Values) (keys : List (List ℕ)) (i : ℕ) (key : List ℕ) (had : Option Value) → i < length keys → key ≡ get_or keys i key → get values key ≡ had → more ≡ put_found picked key had → IsPicked values (take i keys) picked → IsPicked values (take (i + 1) keys) more

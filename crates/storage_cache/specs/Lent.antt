@@ -1,7 +1,5 @@
 -- The pairs that a range has still to lend.
-use Rattle.std.specs.Borrow.{Bor}
-use Rattle.std.specs.Prelude.{ℕ, Bool, true, false, List, Option, String}
-use Rattle.std.specs.Map.Iter.{TakesFirst, TakesLast, deref_pair}
+use Rattle.std.specs.Prelude.{ℕ, List, Option, String}
 use Rattle.std.specs.List.{filter}
 use Rattle.do_value.specs.declared.value.Value.{Value}
 use Rattle.storage_map.specs.Kept.{with_bytes}
@@ -15,8 +13,3 @@ chosen o pairs = turned o.reverse (filter (λ p. keeps o p.0) (with_bytes pairs)
 -- at most so many of them
 abbrev pub to_lend : {A : Type 0} → Options → Option ℕ → List (String A × Value) → List (List ℕ × Value)
 to_lend o left pairs = limited left (chosen o pairs)
-
--- a pair was taken from the front, or from the back in the other direction, or there was none
-abbrev pub StepsTo : {A : Type 0} → Bool → List (String A × Value) → Option (Bor (String A) × Bor Value) → List (String A × Value) → Type 0
-StepsTo true = TakesLast deref_pair
-StepsTo false = TakesFirst deref_pair

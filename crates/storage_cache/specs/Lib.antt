@@ -1,3 +1,4 @@
 pub mod Counted
 pub mod Lent
 pub mod Picked
+pub mod Span

@@ -1,18 +1,19 @@
 //! The map of one object in memory.
-ghost use Rattle.std.specs.Prelude.{◌≡◌, ◌≤◌, ◌++◌, ◌∷◌, [], OnOk, IfOk, length, option_map};
+ghost use Rattle.std.specs.Prelude.{◌≡◌, OnOk, IfOk, option_map};
 ghost use Rattle.storage_map.specs.Stored.{value_in};
 ghost use Rattle.std.specs.List.{All};
 ghost use Rattle.std.specs.FinMap.{entries};
 ghost use Rattle.storage_map.specs.Ops.{IsOp};
 ghost use Rattle.storage_map.specs.Contents.{apply_op, apply, found, removed};
 ghost use Rattle.storage_map.specs.Readings.{reading, listed};
-ghost use Rattle.storage_map.specs.Limits.{most_key_bytes};
 ghost use Rattle.storage_map.specs.Kept.{kept, IsKept};
 ghost use Rattle.storage_cache.specs.Picked.{put_found};
 ghost use Rattle.storage_cache.specs.Counted.{removed_last, one_if};
+ghost use Rattle.storage_cache.specs.Span.{text_of, IsBehind};
 
+use crate::prefix::behind;
 use crate::range::Range;
-use do_value::{Mem, NoMemory, Value};
+use do_value::{Mem, Value};
 use std::alloc::Global;
 use std::collections::BTreeMap;
 use std::marker::Model;
@@ -162,18 +163,28 @@ impl Cache {
     fn list(&self, options: &Options) -> Mem<Reading>
         ensures { IfOk result (λ answer. answer ≡ reading self.now (StoreAsk.List options.now)) }
     {
+        let text = behind(self.alloc, options)?;
         let mut pairs = Vec::new(self.alloc);
-        for (key, value) in self.range(options) {
-            add(self.alloc, &mut pairs, key, value)?;
+        for (key, value) in self.before(options, text.as_ref()) {
+            kept::add(self.alloc, &mut pairs, key, value)?;
         }
         Ok(Reading::Pairs(Pairs::new(pairs)))
     }
 
-    /// The pairs that the options list, in order, lent one after the other. It takes no memory.
+    /// The pairs that the options list, in order, lent one after the other. It takes no memory. No key before the first or
+    /// behind the last is passed over, but in reverse with a prefix: there the keys behind the prefix are, up to `end`.
     pub fn range<'a>(&'a self, options: &'a Options) -> Range<'a>
         ensures { result ≡ listed options.now (entries self.now.values) }
     {
-        Range::new(&self.values, options)
+        self.before(options, None)
+    }
+
+    // The same, where the text, if there is one, is behind all that is listed.
+    fn before<'a, 'x>(&'a self, options: &'a Options, text: Option<&'x String>) -> Range<'a>
+        requires { IsBehind options.now (text_of text) }
+        ensures { result ≡ listed options.now (entries self.now.values) }
+    {
+        Range::new(&self.values, options, text)
     }
 }
 
@@ -184,20 +195,7 @@ fn all_of(alloc: Global, values: &BTreeMap<String, Value>) -> Mem<Vec<(Key, Valu
 {
     let mut pairs = Vec::new(alloc);
     for (key, value) in values {
-        add(alloc, &mut pairs, key.as_str(), value)?;
+        kept::add(alloc, &mut pairs, key.as_str(), value)?;
     }
     Ok(pairs)
-}
-
-fn add(alloc: Global, pairs: &mut Vec<(Key, Value)>, key: &str, value: &Value) -> Mem<()>
-    requires { length key.now ≤ most_key_bytes }
-    ensures { OnOk result (pairs.new.items ≡ pairs.old.items ++ (key.now, value.now) ∷ []) }
-{
-    let Ok(key) = Key::new(alloc, key) else {
-        return Err(NoMemory);
-    };
-    match pairs.push((key, value.copy()?)) {
-        Ok(()) => Ok(()),
-        Err(_) => Err(NoMemory),
-    }
 }

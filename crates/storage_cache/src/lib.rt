@@ -2,10 +2,9 @@
 #![tactic(auto)]
 
 mod cache;
+mod prefix;
 mod range;
+mod span;
 
 pub use cache::Cache;
 pub use range::Range;
-
-#[cfg(test)]
-mod tests;

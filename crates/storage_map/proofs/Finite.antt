@@ -1,5 +1,5 @@
 -- A sorted map of std and the finite map that it keeps.
-use Rattle.std.proofs.Common.{◌≡◌, ℕ, ◌+◌, ◌≤◌, List, [], ◌∷◌, ◌++◌, length, cond, true, false, Option, Some, None, refl, sym, ap, ◌∙◌, subst, arith}
+use Rattle.std.proofs.Common.{◌≡◌, ℕ, ◌≤◌, List, [], ◌∷◌, ◌++◌, length, cond, true, false, Option, Some, None, refl, sym, ap, ◌∙◌, subst, arith}
 use Rattle.std.specs.Prelude.{Bool, String, string_bytes}
 use Rattle.std.specs.List.{AllByRecursion, filter}
 use Rattle.std.specs.List.Sorted.{IsStrictlySortedBy}
@@ -10,13 +10,15 @@ use Rattle.std.specs.declared.cmp.Ordering.TheVariants.{Less, Equal, Greater}
 use Rattle.std.specs.Cmp.Lexicographic.{slice_cmp}
 use Rattle.std.specs.Map.{keys_of, lookup, remove_entry}
 use Rattle.std.specs.BTreeMap.{BTreeMap, is_at, insert_entry, get_by_text}
-use Rattle.std.specs.FinMap.{empty, entries, get, insert, remove, find, put, from_entries, get-from_entries, entries-insert, len-entries, len-empty}
+use Rattle.std.specs.FinMap.{empty, entries, get, get-entries, insert, remove, find, put, from_entries, get-from_entries, entries-insert, len-entries, len-empty}
+use Rattle.std.specs.FinMap.Entries.{find-where_key}
 use Rattle.std.proofs.lemmas.Cmp.{nat_list_cmp_total}
 use Rattle.std.proofs.lemmas.Map.Keys.{sorted_head, sorted_tail}
+use Rattle.std.proofs.lemmas.Map.Lookups.{exact_bytes}
 use Rattle.do_value.specs.Keyed.{key_cmp, IsAscending}
 use Rattle.do_value.specs.declared.value.Value.{Value}
 use Rattle.storage_map.specs.Limits.{most_key_bytes}
-use Rattle.storage_map.specs.Contents.{by_bytes}
+use Rattle.storage_map.specs.Contents.{Values, by_bytes}
 use Rattle.storage_map.specs.Kept.{with_bytes, kept, IsKept}
 use Rattle.storage_map.proofs.Folds.{get_set, get_out, same_values}
 
@@ -28,6 +30,12 @@ no_items (x ∷ xs) none = absurd (omega (arith, none))
 -- no entries
 entries-empty : entries (empty {X = Value} {R = by_bytes}) ≡ []
 entries-empty = no_items (entries empty) (sym (len-entries empty) ∙ len-empty by_bytes Value)
+
+-- a key's value among the pairs that pass a test of the keys
+pub find_kept : (test : List ℕ → Bool) (m : Values) (q : List ℕ) → find by_bytes q (filter (λ p. test p.0) (entries m)) ≡ cond (test q) (get m q) None
+find_kept test m q =
+    find-where_key by_bytes test q (λ x tie. ap test (sym (exact_bytes q x tie))) (entries m)
+    ∙ ap (λ (v : Option Value). cond (test q) v None) (sym (get-entries m q))
 
 module _ {A : Type 0} where
   -- a key below all goes to the front

@@ -43,11 +43,7 @@ pub fn take_out(values: &mut BTreeMap<String, Value>, key: &str)
 }
 
 /// The pairs whose key is one of these, ascending.
-pub(crate) fn asked(
-    alloc: Global,
-    values: &BTreeMap<String, Value>,
-    keys: &Keys,
-) -> Mem<Vec<(Key, Value)>>
+pub fn asked(alloc: Global, values: &BTreeMap<String, Value>, keys: &Keys) -> Mem<Vec<(Key, Value)>>
     requires { IsKept values.now }
     ensures { IfOk result (λ pairs. pairs.items
         ≡ filter (λ p. is_member bytes_eq keys.now p.0) (entries (kept values.now))) }
@@ -61,8 +57,8 @@ pub(crate) fn asked(
     Ok(pairs)
 }
 
-/// The pairs that the options list.
-pub(crate) fn list(
+/// The pairs that the options list, in their order.
+pub fn list(
     alloc: Global,
     values: &BTreeMap<String, Value>,
     options: &Options,
@@ -111,7 +107,8 @@ fn limit_to(pairs: &mut Vec<(Key, Value)>, limit: Option<u64>)
     }
 }
 
-fn add(alloc: Global, pairs: &mut Vec<(Key, Value)>, key: &str, value: &Value) -> Mem<()>
+/// Puts a copy of the pair behind the others.
+pub fn add(alloc: Global, pairs: &mut Vec<(Key, Value)>, key: &str, value: &Value) -> Mem<()>
     requires { length key.now ≤ most_key_bytes }
     ensures { OnOk result (pairs.new.items ≡ pairs.old.items ++ (key.now, value.now) ∷ []) }
 {

@@ -30,6 +30,3 @@ pub use map::Map;
 pub use op::{Op, ValueLong};
 pub use options::Options;
 pub use pairs::Pairs;
-
-#[cfg(test)]
-mod tests;

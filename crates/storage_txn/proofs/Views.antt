@@ -25,13 +25,13 @@ use Rattle.storage_map.proofs.Folds.{value_after-apply, alarm_after-apply}
 use Rattle.std.specs.BTreeMap.{BTreeMap}
 use Rattle.std.specs.Prelude.{String}
 use Rattle.storage_map.specs.Kept.{kept, IsKept}
-use Rattle.storage_map.proofs.Finite.{ascending_kept}
+use Rattle.storage_map.proofs.Finite.{ascending_kept, find_kept}
 use Rattle.storage_map.proofs.Orders.{IsOrderly, filtered_order, listed_order}
 use Rattle.do_value.specs.Keyed.{IsAscending}
 use Rattle.storage_txn.specs.Overlay.{below, view, told_by, IsAnswer, values_after, chooses, arranged}
 use Rattle.storage_txn.specs.Writes.{IsOnKey}
 use Rattle.storage_txn.specs.Laws.{OverlayIsMapAfter}
-use Rattle.storage_txn.proofs.Agree.{same_kept, find_kept, find_reverse}
+use Rattle.storage_txn.proofs.Agree.{same_kept, find_reverse}
 
 -- the values after operations, without the alarm
 pub apply-values : (m : Contents) (ops : List Op) → (apply m ops).values ≡ values_after m.values ops
@@ -165,6 +165,11 @@ one_found ops ask key name value below v is named told after =
 pub alarm_found : (ops : List Op) (ask : StoreAsk) (below : Reading) (alarm : Option (ℤ × ℕ)) → All IsOnKey ops → below ≡ Alarm alarm → IsAnswer ask below → Alarm alarm ≡ view ops ask below
 alarm_found ops ask below alarm keyed is kind = view_alarm ops ask alarm keyed (subst (λ (b : Reading). IsAnswer ask b) is kind) ∙ ap (view ops ask) (sym is)
 
+-- no pair passes where none is to
+pub none_chosen : {X : Type 0} (xs : List X) → filter (λ x. false) xs ≡ []
+none_chosen [] = refl
+none_chosen (x ∷ xs) = none_chosen xs
+
 -- the pairs that the code finds are in order
-pub found_order : {A : Type 0} (ask : StoreAsk) (m : BTreeMap (String A) Value) (built pairs : List (List ℕ × Value)) → IsKept m → built ≡ filter (λ p. chooses ask p.0) (entries (kept m)) → pairs ≡ arranged ask built → IsOrderly pairs
-found_order ask m built pairs is chosen as_asked = subst IsOrderly (sym (as_asked ∙ ap (arranged ask) chosen)) (arranged_order ask (entries (kept m)) (ascending_kept m is))
+pub found_order : {A : Type 0} (ask : StoreAsk) (m : BTreeMap (String A) Value) (pairs : List (List ℕ × Value)) → IsKept m → pairs ≡ arranged ask (filter (λ p. chooses ask p.0) (entries (kept m))) → IsOrderly pairs
+found_order ask m pairs is chosen = subst IsOrderly (sym chosen) (arranged_order ask (entries (kept m)) (ascending_kept m is))

@@ -8,6 +8,3 @@ mod txn;
 
 pub use fault::TxnFault;
 pub use txn::Txn;
-
-#[cfg(test)]
-mod tests;

@@ -1,18 +1,17 @@
 //! What the store answers, seen through a transaction's operations.
-ghost use Rattle.std.specs.Prelude.{◌≡◌, ◌++◌, ◌∷◌, [], ◌≤◌, Option, Some, unwrap_or, OnOk, IfOk, length};
+ghost use Rattle.std.specs.Prelude.{◌≡◌, [], Option, Some, unwrap_or, OnOk, IfOk};
 ghost use Rattle.do_value.specs.declared.value.Value.TheVariants.{Undefined};
 ghost use Rattle.std.specs.Str.{bytes_eq};
 ghost use Rattle.std.specs.List.{All, filter};
 ghost use Rattle.std.specs.FinMap.{from_entries, entries};
 ghost use Rattle.do_value.specs.declared.value.Value.{Value};
-ghost use Rattle.storage_map.specs.Limits.{most_key_bytes};
 ghost use Rattle.storage_map.specs.Kept.{kept, IsKept};
 ghost use Rattle.storage_map.specs.Stored.{value_after, value_step};
 ghost use Rattle.storage_txn.specs.Overlay.{below, view, IsAnswer, values_after, chooses, arranged};
 ghost use Rattle.storage_txn.specs.Writes.{IsOnKey};
 ghost use Rattle.storage_txn.specs.Touched.{through};
 
-use do_value::{Mem, NoMemory, Value};
+use do_value::{Mem, Value};
 use std::alloc::Global;
 use std::collections::BTreeMap;
 use storage_map::{Key, Op, Pairs, Reading, StoreAsk, kept};
@@ -111,8 +110,7 @@ fn over_pairs(alloc: Global, ops: &[Op], ask: &StoreAsk, below: &Pairs) -> Mem<R
     let mut values = BTreeMap::new(alloc);
     fill(alloc, &mut values, below.as_slice())?;
     do_all(alloc, &mut values, ops)?;
-    let mut pairs = chosen(alloc, &values, ask)?;
-    arrange(&mut pairs, ask);
+    let pairs = chosen(alloc, &values, ask)?;
     Ok(Reading::Pairs(Pairs::new(pairs)))
 }
 
@@ -149,54 +147,16 @@ fn do_all(alloc: Global, values: &mut BTreeMap<String, Value>, ops: &[Op]) -> Me
     Ok(())
 }
 
-// The pairs that the ask chooses, ascending.
+// The pairs that the ask chooses, as it wants them.
 fn chosen(alloc: Global, values: &BTreeMap<String, Value>, ask: &StoreAsk) -> Mem<Vec<(Key, Value)>>
     requires { IsKept values.now }
     ensures { IfOk result (λ pairs. pairs.items
-        ≡ filter (λ p. chooses ask.now p.0) (entries (kept values.now))) }
-{
-    let mut pairs = Vec::new(alloc);
-    for (key, value) in values {
-        if is_chosen(ask, key.as_str()) {
-            add(alloc, &mut pairs, key.as_str(), value)?;
-        }
-    }
-    Ok(pairs)
-}
-
-fn is_chosen(ask: &StoreAsk, key: &str) -> bool
-    ensures { result ≡ chooses ask.now key.now }
+        ≡ arranged ask.now (filter (λ p. chooses ask.now p.0) (entries (kept values.now)))) }
 {
     match ask {
-        StoreAsk::GetMany(keys) => keys.contains(key),
-        StoreAsk::List(options) => options.keeps(key),
-        StoreAsk::Get(_) | StoreAsk::Alarm => false,
-    }
-}
-
-fn add(alloc: Global, pairs: &mut Vec<(Key, Value)>, key: &str, value: &Value) -> Mem<()>
-    requires { length key.now ≤ most_key_bytes }
-    ensures { OnOk result (pairs.new.items ≡ pairs.old.items ++ (key.now, value.now) ∷ []) }
-{
-    let Ok(key) = Key::new(alloc, key) else {
-        return Err(NoMemory);
-    };
-    match pairs.push((key, value.copy()?)) {
-        Ok(()) => Ok(()),
-        Err(_) => Err(NoMemory),
-    }
-}
-
-// Turns the pairs of a listing round, if they are to be, and keeps the first of them.
-fn arrange(pairs: &mut Vec<(Key, Value)>, ask: &StoreAsk)
-    ensures { pairs.new.items ≡ arranged ask.now pairs.old.items }
-{
-    if let StoreAsk::List(options) = ask {
-        if options.reverse {
-            pairs.reverse();
-        }
-        if let Some(limit) = options.limit {
-            pairs.truncate(limit as usize);
-        }
+        StoreAsk::GetMany(keys) => kept::asked(alloc, values, keys),
+        StoreAsk::List(options) => kept::list(alloc, values, options),
+        StoreAsk::Get(_) => Ok(Vec::new(alloc)),
+        StoreAsk::Alarm => Ok(Vec::new(alloc)),
     }
 }

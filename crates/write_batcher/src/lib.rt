@@ -4,6 +4,3 @@
 mod batcher;
 
 pub use batcher::{AddFault, Batcher, EMPTY_BATCH_BYTES};
-
-#[cfg(test)]
-mod tests;

@@ -1,9 +1,9 @@
 use Rattle.std.proofs.Common.{◌≡◌, ◌++◌, ◌∷◌, [], sym, ap, subst, ◌∙◌}
-use Rattle.do_host.specs.Report.{IsSlotHistory, IsQuiet}
+use Rattle.do_host.specs.Report.{IsSlotHistory, StaysWithin, IsQuiet}
 use Rattle.do_host.specs.NotBuilt.{IsNotBuilt}
 use Rattle.do_host.specs.Opened.{row_of}
 use Rattle.do_host.specs.Status.{status_in, IsStatus}
-use Rattle.do_host.proofs.Rows.{all_one, row_history, row_quiet, row_failed, ends_written}
+use Rattle.do_host.proofs.Rows.{all_one, row_history, row_within, row_quiet, row_failed, ends_written}
 use Rattle.do_host.proofs.Unbuilt.{row_not_built, row_formed}
 use Rattle.do_host.proofs.Outcomes.{good_end, disk_end, read_end, unbuilt_end, end_status}
 use Rattle.do_host.proofs.program.serve_slot.Goals as goal
@@ -73,3 +73,10 @@ pub returns-clause-formed : goal.returns-clause-formed
 returns-clause-formed g c = λ content opened.
     row_formed g.D.Disk.moment_of g.D.Disk.left_since g.D.Disk.told g.D.Disk.image content c.args.core c.args.report.now.switch c.serve-served.new.log opened
     c.requires.fresh c.requires.empty.switch c.serve-served.ensures.formed
+
+pub returns-clause-within : goal.returns-clause-within
+returns-clause-within g c = λ content opened.
+    let next = c.serve-served.new.core in
+    let one : c.add_row.new.slots.items ≡ row_of next ∷ [] = c.add_row.ensures ∙ ap (λ rows. rows ++ row_of next ∷ []) c.requires.empty.slots in
+    all_one (StaysWithin g.D.Disk.left_since content) c.add_row.new.slots.items (row_of next) one
+    (row_within g.D.Disk.moment_of g.D.Disk.left_since g.D.Disk.told g.D.Disk.image content c.args.core next opened c.serve-served.ensures.same_limit (c.serve-served.ensures.within 0 opened.start opened.serving opened.within))

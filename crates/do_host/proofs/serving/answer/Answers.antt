@@ -110,3 +110,9 @@ returns-clause-stops g c =
     let stops : SameSwitch c.post.new.log c.route.new.log ⊎ Routes c.in_ok-message.message c.post.new.log c.route.new.log → (stop : Stop) → StopsAt (object_of c.args.core.now) c.args.line c.args.log.now c.route.new.log stop =
     λ end stop. inr (⊎_elim (λ same. same.accepted) (λ routes. routes.accepted) end ∙ c.in_ok-event.ensures.accepted, form) in
     on_err_if c.route.result _ _ stops c.route.ensures.stopped
+
+pub returns-in_err-message-clause-within : goal.returns-in_err-message-clause-within
+returns-in_err-message-clause-within g c = λ since start serving within. c.call.ensures.within since start (c.post.ensures.serving since start serving) (c.post.ensures.within since start within)
+
+pub returns-clause-within : goal.returns-clause-within
+returns-clause-within g c = λ since start serving within. c.call.ensures.within since start (c.post.ensures.serving since start serving) (c.post.ensures.within since start within)

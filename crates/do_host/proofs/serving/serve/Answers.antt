@@ -42,6 +42,7 @@ pub loop-line-preserved : goal.loop-line-preserved
 loop-line-preserved g c = record {
   stands = λ first stands. c.in_ok-answer.ensures.stands first (c.loop-line.invariant.stands first stands);
   serving = λ since start serving. c.in_ok-answer.ensures.serving since start (c.loop-line.invariant.serving since start serving);
+  within = λ since start serving within. c.answer.ensures.within since start (c.loop-line.invariant.serving since start serving) (c.loop-line.invariant.within since start serving within);
   reading = λ whole reading.
       reading_on g.R.Source.left whole c.loop-line.log.accepted.items c.answer.new.log.accepted.items c.in-Some.line c.next.new.self c.in_ok-answer.ensures.accepted
       (rw c.in-Some.is at c.in_ok-line.ensures.reading whole _ (c.loop-line.invariant.reading whole reading));
@@ -103,3 +104,12 @@ returns-clause-formed g c = λ first stands. c.loop-line.invariant.formed first 
 pub returns-clause-looked_at : goal.returns-clause-looked_at
 returns-clause-looked_at g c = λ whole reading.
     looked_none_more g.R.Source.left whole (map seen c.loop-line.log.accepted.items) 0 0 c.next.new.self (omega arith) (rw c.in_default.is at c.in_ok-line.ensures.looked_at whole _ (c.loop-line.invariant.reading whole reading))
+
+pub returns-in_err-line-clause-within : goal.returns-in_err-line-clause-within
+returns-in_err-line-clause-within g c = λ since start serving within. c.loop-line.invariant.within since start serving within
+
+pub returns-in_err-answer-clause-within : goal.returns-in_err-answer-clause-within
+returns-in_err-answer-clause-within g c = λ since start serving within. c.answer.ensures.within since start (c.loop-line.invariant.serving since start serving) (c.loop-line.invariant.within since start serving within)
+
+pub returns-clause-within : goal.returns-clause-within
+returns-clause-within g c = λ since start serving within. c.loop-line.invariant.within since start serving within

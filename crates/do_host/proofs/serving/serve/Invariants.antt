@@ -1,6 +1,6 @@
 use Rattle.std.proofs.Common.{◌≡◌, ◌≤◌, ◌-◌, ℕ, List, [], map, Option, None}
 use Rattle.batch_journal.specs.Frames.{Frame}
-use Rattle.object_core.specs.Serving.{IsServing}
+use Rattle.object_core.specs.Serving.{IsServing, IsWithinLimit}
 use Rattle.do_host.specs.Seen.{seen}
 use Rattle.do_host.specs.Lines.{IsReading}
 use Rattle.do_host.specs.NotBuilt.{AreFirstLines}
@@ -12,6 +12,7 @@ abbrev pub invariant-loop-line : goal.invariant-loop-line
 invariant-loop-line g l = record {
   stands : (first : Option (List ℕ × List ℕ)) → Stands first l.initial.core l.initial.log [] [] → Stands first l.core l.log [] [];
   serving : (since : ℕ) (start : List Frame) → IsServing g.D.Disk.moment_of g.D.Disk.left_since g.D.Disk.told g.D.Disk.image since start l.initial.core → IsServing g.D.Disk.moment_of g.D.Disk.left_since g.D.Disk.told g.D.Disk.image since start l.core;
+  within : (since : ℕ) (start : List Frame) → IsServing g.D.Disk.moment_of g.D.Disk.left_since g.D.Disk.told g.D.Disk.image since start l.initial.core → IsWithinLimit g.D.Disk.left_since since start l.initial.core → IsWithinLimit g.D.Disk.left_since since start l.core;
   reading : (whole : List ℕ) → IsReading g.R.Source.left whole [] l.initial.lines → IsReading g.R.Source.left whole (map seen l.log.accepted.items) l.lines;
   formed : (first : Option (List ℕ × List ℕ)) → Stands first l.initial.core l.initial.log [] [] → AreFirstLines first l.log.accepted.items;
   written : HasWritten (g.W.Sink.taken l.initial.out) (g.W.Sink.taken l.out) l.log.lines.items;

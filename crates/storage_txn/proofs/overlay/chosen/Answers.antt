@@ -1,11 +1,11 @@
-use Rattle.std.proofs.Common.{sym, subst}
-use Rattle.std.specs.List.{AllByRecursion}
-use Rattle.storage_txn.specs.Overlay.{chooses}
-use Rattle.storage_map.proofs.Finite.{IsShort, none_yet}
+use Rattle.std.proofs.Common.{sym, ◌∙◌}
+use Rattle.std.specs.FinMap.{entries}
+use Rattle.storage_map.specs.Kept.{kept}
+use Rattle.storage_txn.proofs.Views.{none_chosen}
 use Rattle.storage_txn.proofs.overlay.chosen.Goals as goal
 
-pub loop-key-init : goal.loop-key-init
-loop-key-init c = record {
-  built = none_yet (λ p. chooses c.args.ask.now p.0) c.new-pairs.result.items c.into_iter-key-iterator.result c.args.values.now c.requires c.new-pairs.ensures.items c.into_iter-key-iterator.ensures.into_iter_gives.0;
-  short = subst (AllByRecursion IsShort) (sym c.into_iter-key-iterator.ensures.into_iter_gives.0) c.requires.short;
-}
+pub returns-in-Get : goal.returns-in-Get
+returns-in-Get c = rw c.in-Get.is (c.new.ensures.items ∙ sym (none_chosen (entries (kept c.args.values.now))))
+
+pub returns-in-Alarm : goal.returns-in-Alarm
+returns-in-Alarm c = rw c.in-Alarm.is (c.new-in-Alarm.ensures.items ∙ sym (none_chosen (entries (kept c.args.values.now))))

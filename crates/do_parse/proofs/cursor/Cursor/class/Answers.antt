@@ -34,10 +34,10 @@ pub returns-in_err-head : goal.returns-in_err-head
 returns-in_err-head c = handed_on class_of c.from_residual.result c.from_residual.ensures.1 (read_as (class_same c.args.self.now) (stop members_behind c.in_err-head.ensures))
 
 pub returns-in_err-methods : goal.returns-in_err-methods
-returns-in_err-methods c = handed_on class_of c.from_residual-in_err-methods.result c.from_residual-in_err-methods.ensures.1 (read_as (class_same c.args.self.now) (seq members_behind c.in_ok-head.ensures (stop members_close c.in_err-methods.ensures)))
+returns-in_err-methods c = handed_on class_of c.from_residual-in_err-methods.result c.from_residual-in_err-methods.ensures.1 (read_as (class_same c.args.self.now) (seq members_behind c.in_ok-head.ensures (stop members_close c.in_err-methods.ensures.parses)))
 
 pub returns-in_err-mark : goal.returns-in_err-mark
-returns-in_err-mark c = handed_on class_of c.from_residual-in_err-mark.result c.from_residual-in_err-mark.ensures.1 (read_as (class_same c.args.self.now) (seq members_behind c.in_ok-head.ensures (seq members_close c.in_ok-methods.ensures c.in_err-mark.ensures)))
+returns-in_err-mark c = handed_on class_of c.from_residual-in_err-mark.result c.from_residual-in_err-mark.ensures.1 (read_as (class_same c.args.self.now) (seq members_behind c.in_ok-head.ensures (seq members_close c.in_ok-methods.ensures.parses c.in_err-mark.ensures)))
 
 pub returns : goal.returns
-returns c = (read_as (class_same c.args.self.now) (seq members_behind c.in_ok-head.ensures (seq members_close c.in_ok-methods.ensures c.in_ok-mark.ensures)))
+returns c = (read_as (class_same c.args.self.now) (seq members_behind c.in_ok-head.ensures (seq members_close c.in_ok-methods.ensures.parses c.in_ok-mark.ensures)))

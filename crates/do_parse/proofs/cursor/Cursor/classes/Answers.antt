@@ -1,4 +1,4 @@
-use Rattle.std.proofs.Common.{◌≡◌, ◌≤◌, ◌+◌, ℕ, List, [], ◌∷◌, ◌++◌, Option, Some, None, Result, Ok, Err, true, false, refl, sym, ◌∙◌, ap, subst, arith, rules, map, codes}
+use Rattle.std.proofs.Common.{◌≡◌, ◌≤◌, ◌<◌, ◌+◌, ℕ, List, [], ◌∷◌, ◌++◌, length, length-append, Option, Some, None, Result, Ok, Err, true, false, refl, sym, ◌∙◌, ap, subst, arith, rules, map, codes}
 use Rattle.do_lex.specs.declared.kind.Kind.TheVariants as kind
 use Rattle.do_lex.specs.declared.kind.Mark.TheVariants as mark
 use Rattle.do_lex.specs.declared.kind.Keyword.TheVariants as key
@@ -34,16 +34,22 @@ pub returns-in_err-first-clause-parses : goal.returns-in_err-first-clause-parses
 returns-in_err-first-clause-parses c = handed_on (λ classes. map class_of classes.items) c.from_residual.result c.from_residual.ensures.1 (read_as (classes_same NothingLeft c.args.self.now) (stop more_classes_behind c.in_err-first.ensures))
 
 pub loop-self-init : goal.loop-self-init
-loop-self-init c = grows_on class_of [] c.push.new.self.items c.in_ok-first.first (c.in_ok-push.ensures.items ∙ ap (λ xs. xs ++ c.in_ok-first.first ∷ []) c.new-classes.ensures.items) (first_class c.in_ok-first.ensures)
+loop-self-init c = record {
+  grows = grows_on class_of [] c.push.new.self.items c.in_ok-first.first (c.in_ok-push.ensures.items ∙ ap (λ xs. xs ++ c.in_ok-first.first ∷ []) c.new-classes.ensures.items) (first_class c.in_ok-first.ensures);
+  few = (let fall : length c.class.new.self < length c.args.self.now = falls tt (class_some (class_of c.in_ok-first.first)) c.in_ok-first.ensures in let one = ap (λ xs. length xs) (c.in_ok-push.ensures.items ∙ ap (λ xs. xs ++ c.in_ok-first.first ∷ []) c.new-classes.ensures.items) in omega (arith, fall, one));
+}
 
 pub returns-in_err-class-clause-parses : goal.returns-in_err-class-clause-parses
-returns-in_err-class-clause-parses c = handed_on (λ classes. map class_of classes.items) c.from_residual-in_err-class.result c.from_residual-in_err-class.ensures.1 (repeat_stop more_classes_behind (left_some c.loop-self.self (c.loop-self-test.ensures ∙ ap is_some c.kind.ensures)) c.loop-self.invariant c.in_err-class.ensures)
+returns-in_err-class-clause-parses c = handed_on (λ classes. map class_of classes.items) c.from_residual-in_err-class.result c.from_residual-in_err-class.ensures.1 (repeat_stop more_classes_behind (left_some c.loop-self.self (c.loop-self-test.ensures ∙ ap is_some c.kind.ensures)) c.loop-self.invariant.grows c.in_err-class.ensures)
 
 pub loop-self-smaller : goal.loop-self-smaller
 loop-self-smaller c = falls tt (class_some (class_of c.in_ok-class.class)) c.in_ok-class.ensures
 
 pub loop-self-preserved : goal.loop-self-preserved
-loop-self-preserved c = grows_on class_of c.loop-self.classes.items c.push-in-loop-self.new.self.items c.in_ok-class.class c.in_ok-push-2.ensures.items (repeat_more more_classes_behind (left_some c.loop-self.self (c.loop-self-test.ensures ∙ ap is_some c.kind.ensures)) c.loop-self.invariant c.in_ok-class.ensures)
+loop-self-preserved c = record {
+  grows = grows_on class_of c.loop-self.classes.items c.push-in-loop-self.new.self.items c.in_ok-class.class c.in_ok-push-2.ensures.items (repeat_more more_classes_behind (left_some c.loop-self.self (c.loop-self-test.ensures ∙ ap is_some c.kind.ensures)) c.loop-self.invariant.grows c.in_ok-class.ensures);
+  few = (let fall : length c.class-in-loop-self.new.self < length c.loop-self.self = falls tt (class_some (class_of c.in_ok-class.class)) c.in_ok-class.ensures in omega (arith, fall, c.loop-self.invariant.few, ap (λ xs. length xs) c.in_ok-push-2.ensures.items, length-append c.loop-self.classes.items (c.in_ok-class.class ∷ [])));
+}
 
 pub returns-clause-parses : goal.returns-clause-parses
-returns-clause-parses c = repeat_end (end_class c.loop-self.self (c.loop-self-test.ensures ∙ ap is_some c.kind.ensures)) c.loop-self.invariant
+returns-clause-parses c = repeat_end (end_class c.loop-self.self (c.loop-self-test.ensures ∙ ap is_some c.kind.ensures)) c.loop-self.invariant.grows

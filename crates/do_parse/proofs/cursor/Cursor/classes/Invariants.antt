@@ -1,4 +1,4 @@
-use Rattle.std.proofs.Common.{length, map}
+use Rattle.std.proofs.Common.{◌+◌, ◌≤◌, length, map}
 use Rattle.do_lex.specs.declared.kind.Kind.TheVariants as kind
 use Rattle.do_lex.specs.declared.kind.Mark.TheVariants as mark
 use Rattle.do_tree.specs.Grammar.{AreNames, AreClasses, IsClass, IsMember}
@@ -10,7 +10,7 @@ use Rattle.do_parse.proofs.Lists.{Grows}
 use Rattle.do_parse.proofs.cursor.Cursor.classes.Given as goal
 
 abbrev pub invariant-loop-self : goal.invariant-loop-self
-invariant-loop-self l = Grows AreClasses (Repeat IsClass) NothingLeft l.fn.self l.self (map class_of l.classes.items)
+invariant-loop-self l = record { grows : Grows AreClasses (Repeat IsClass) NothingLeft l.fn.self l.self (map class_of l.classes.items); few : length l.classes.items + length l.self ≤ length l.fn.self }
 
 abbrev pub decreases-loop-self : goal.decreases-loop-self
 decreases-loop-self l = length l.self

@@ -1,4 +1,4 @@
-use Rattle.std.proofs.Common.{◌≡◌, ◌≤◌, ◌+◌, ℕ, List, [], ◌∷◌, ◌++◌, Option, Some, None, Result, Ok, Err, true, false, refl, sym, ◌∙◌, ap, subst, arith, rules, map, codes}
+use Rattle.std.proofs.Common.{◌≡◌, ◌≤◌, ◌<◌, ◌+◌, ℕ, List, [], ◌∷◌, ◌++◌, length, length-append, Option, Some, None, Result, Ok, Err, true, false, refl, sym, ◌∙◌, ap, subst, arith, rules, map, codes}
 use Rattle.do_lex.specs.declared.kind.Kind.TheVariants as kind
 use Rattle.do_lex.specs.declared.kind.Mark.TheVariants as mark
 use Rattle.do_lex.specs.declared.kind.Keyword.TheVariants as key
@@ -31,19 +31,25 @@ use Rattle.do_parse.proofs.Falls.{falls}
 use Rattle.do_parse.proofs.cursor.Cursor.members.Goals as goal
 
 pub loop-self-init : goal.loop-self-init
-loop-self-init c = grows_none c.args.self.now method_of c.new-methods.result.items c.new-methods.ensures.items
+loop-self-init c = record {
+  grows = grows_none c.args.self.now method_of c.new-methods.result.items c.new-methods.ensures.items;
+  few = omega (arith, ap (λ xs. length xs) c.new-methods.ensures.items);
+}
 
-pub returns-in_err-method : goal.returns-in_err-method
-returns-in_err-method c = handed_on (λ methods. map method_of methods.items) c.from_residual.result c.from_residual.ensures.1 (repeat_stop member_behind (not_behind c.loop-self.self (kind.Mark mark.CloseBrace) (λ e. false≢true (c.loop-self-test.ensures.1 e))) c.loop-self.invariant c.in_err-method.ensures)
+pub returns-in_err-method-clause-parses : goal.returns-in_err-method-clause-parses
+returns-in_err-method-clause-parses c = handed_on (λ methods. map method_of methods.items) c.from_residual.result c.from_residual.ensures.1 (repeat_stop member_behind (not_behind c.loop-self.self (kind.Mark mark.CloseBrace) (λ e. false≢true (c.loop-self-test.ensures.1 e))) c.loop-self.invariant.grows c.in_err-method.ensures)
 
-pub returns-in_err-push : goal.returns-in_err-push
-returns-in_err-push c = no_memory (λ methods. map method_of methods.items) c.from_residual-in_err-push.result c.from_residual-in_err-push.ensures.1
+pub returns-in_err-push-clause-parses : goal.returns-in_err-push-clause-parses
+returns-in_err-push-clause-parses c = no_memory (λ methods. map method_of methods.items) c.from_residual-in_err-push.result c.from_residual-in_err-push.ensures.1
 
 pub loop-self-smaller : goal.loop-self-smaller
 loop-self-smaller c = falls tt (member_some (method_of c.in_ok-method.method)) c.in_ok-method.ensures
 
 pub loop-self-preserved : goal.loop-self-preserved
-loop-self-preserved c = grows_on method_of c.loop-self.methods.items c.push.new.self.items c.in_ok-method.method c.in_ok-push.ensures.items (repeat_more member_behind (not_behind c.loop-self.self (kind.Mark mark.CloseBrace) (λ e. false≢true (c.loop-self-test.ensures.1 e))) c.loop-self.invariant c.in_ok-method.ensures)
+loop-self-preserved c = record {
+  grows = grows_on method_of c.loop-self.methods.items c.push.new.self.items c.in_ok-method.method c.in_ok-push.ensures.items (repeat_more member_behind (not_behind c.loop-self.self (kind.Mark mark.CloseBrace) (λ e. false≢true (c.loop-self-test.ensures.1 e))) c.loop-self.invariant.grows c.in_ok-method.ensures);
+  few = (let fall : length c.member.new.self < length c.loop-self.self = falls tt (member_some (method_of c.in_ok-method.method)) c.in_ok-method.ensures in omega (arith, fall, c.loop-self.invariant.few, ap (λ xs. length xs) c.in_ok-push.ensures.items, length-append c.loop-self.methods.items (c.in_ok-method.method ∷ [])));
+}
 
-pub returns : goal.returns
-returns c = repeat_end (no_member c.loop-self.self (c.loop-self-test.ensures.0 refl)) c.loop-self.invariant
+pub returns-clause-parses : goal.returns-clause-parses
+returns-clause-parses c = repeat_end (no_member c.loop-self.self (c.loop-self-test.ensures.0 refl)) c.loop-self.invariant.grows

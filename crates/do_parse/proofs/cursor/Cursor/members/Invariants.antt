@@ -1,4 +1,4 @@
-use Rattle.std.proofs.Common.{length, map}
+use Rattle.std.proofs.Common.{◌+◌, ◌≤◌, length, map}
 use Rattle.do_lex.specs.declared.kind.Kind.TheVariants as kind
 use Rattle.do_lex.specs.declared.kind.Mark.TheVariants as mark
 use Rattle.do_tree.specs.Grammar.{AreNames, AreClasses, IsClass, IsMember}
@@ -10,7 +10,7 @@ use Rattle.do_parse.proofs.Lists.{Grows}
 use Rattle.do_parse.proofs.cursor.Cursor.members.Given as goal
 
 abbrev pub invariant-loop-self : goal.invariant-loop-self
-invariant-loop-self l = Grows (Repeat IsMember) (Repeat IsMember) (BeginsWith (kind.Mark mark.CloseBrace)) l.fn.self l.self (map method_of l.methods.items)
+invariant-loop-self l = record { grows : Grows (Repeat IsMember) (Repeat IsMember) (BeginsWith (kind.Mark mark.CloseBrace)) l.fn.self l.self (map method_of l.methods.items); few : length l.methods.items + length l.self ≤ length l.fn.self }
 
 abbrev pub decreases-loop-self : goal.decreases-loop-self
 decreases-loop-self l = length l.self

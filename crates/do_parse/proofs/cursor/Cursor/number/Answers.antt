@@ -21,8 +21,5 @@ use Rattle.do_parse.proofs.cursor.Cursor.number.Goals as goal
 pub returns-in_err-token : goal.returns-in_err-token
 returns-in_err-token c = handed_on expr_at c.from_residual.result c.from_residual.ensures.1 (number_not_taken c.in_err-token.ensures)
 
-pub returns-in_err-value : goal.returns-in_err-value
-returns-in_err-value c = handed_on expr_at c.from_residual-in_err-value.result c.from_residual-in_err-value.ensures.1 (subst (λ s. Parses (Starting kind.Number (IsPrim c.args.depth)) Anything c.args.self.now c.take.new.self (Err s)) (sym c.in_err-value.ensures) (record { so = tt }))
-
 pub returns : goal.returns
-returns c = made_on expr_at c.number.result c.number.ensures (subst (λ x. Parses (Starting kind.Number (IsPrim c.args.depth)) Anything c.args.self.now c.take.new.self (Ok (tree.number c.in_ok-token.token.at x))) (sym c.in_ok-value.ensures) (one_token (number_one c.args.depth c.in_ok-token.token c.in_ok-token.ensures.1) c.in_ok-token.ensures.0 c.requires))
+returns c = made_on expr_at c.number.result c.number.ensures (subst (λ x. Parses (Starting kind.Number (IsPrim c.args.depth)) Anything c.args.self.now c.take.new.self (Ok (tree.number c.in_ok-token.token.at x))) (sym c.number_of.ensures) (one_token (number_one c.args.depth c.in_ok-token.token c.in_ok-token.ensures.1) c.in_ok-token.ensures.0 c.requires))

@@ -1,4 +1,4 @@
-use Rattle.std.proofs.Common.{◌≡◌, [], ◌∷◌, ◌++◌, length, refl, ap, sym, ◌∙◌, None, subst}
+use Rattle.std.proofs.Common.{◌≡◌, [], ◌∷◌, ◌++◌, ◌+◌, length, refl, ap, sym, ◌∙◌, None}
 use Rattle.object_core.specs.Said.{message}
 use Rattle.object_core.specs.Told.{event_says}
 use Rattle.object_core.specs.Turn.{turn_says}
@@ -7,6 +7,9 @@ use Rattle.object_core.specs.declared.back_log.Release.{Release}
 use Rattle.storage_map.specs.Stored.{value_in}
 use Rattle.object_core.proofs.Logged.{logs_turn}
 use Rattle.object_core.proofs.Served.{answer_serves}
+use Rattle.object_core.specs.History.{line}
+use Rattle.object_core.specs.declared.turn.Turn.{Turn}
+use Rattle.object_core.proofs.Limits.{line_within, line_stays}
 use Rattle.object_core.proofs.object.Core.answer.Goals as goal
 
 pub returns-clause-serving : goal.returns-clause-serving
@@ -20,3 +23,11 @@ returns-clause-serving g c = λ since start serving.
     answer_serves g.D.Disk.moment_of g.D.Disk.left_since g.D.Disk.told g.D.Disk.image g.met.D.Disk.only_now g.met.D.Disk.counts_now since start old _ c.take.new.self c.args.event turn.reply
     release serving says refl refl refl logs c.take.ensures.rest c.release.ensures.rest (c.release.ensures.released ∙ ap (λ (log : BackLog). log.released.items ++ release ∷ []) c.take.ensures.rest)
     c.requires.turn.released (ap (λ (log : BackLog). length log.flights.items) c.take.ensures.rest) (c.moment-moment.ensures ∙ ap g.D.Disk.moment_of c.disk.ensures)
+
+pub returns-clause-within : goal.returns-clause-within
+returns-clause-within g c = λ since start within.
+    let old = c.args.self.now in
+    let taken = c.args.ready.copies.taken in
+    let same = line_stays old.back c.release.new.self (length old.back.taken.items + 1) taken (ap (λ (turn : Turn). turn.batch) c.requires.turn.taken ∙ c.requires.no_batch)
+    (ap (λ (log : BackLog). log.taken.items) c.release.ensures.rest ∙ c.take.ensures.taken) in
+    line_within g.D.Disk.moment_of g.D.Disk.left_since g.D.Disk.told g.D.Disk.image g.met.D.Disk.only_now since start old.journal.disk old.journal.limit old.identity (line old.back) (line c.release.new.self) same within

@@ -1,5 +1,5 @@
-use Rattle.std.proofs.Common.{◌≡◌, [], ◌∷◌, ◌++◌, ◌+◌, length, refl, ap, sym, ◌∙◌, Some}
-use Rattle.object_core.specs.Turn.{entry, SameFront, SameBack}
+use Rattle.std.proofs.Common.{[], ◌∷◌, ◌++◌, ◌+◌, length, refl, ap, ◌∙◌}
+use Rattle.object_core.specs.Turn.{entry}
 use Rattle.object_core.specs.Serving.{IsServing}
 use Rattle.object_core.specs.declared.object.Core.{Core}
 use Rattle.object_core.specs.declared.timeline.Event.TheVariants.{Bind as Binds}
@@ -8,6 +8,8 @@ use Rattle.object_core.specs.declared.back_log.BackLog.{BackLog}
 use Rattle.object_core.proofs.Logged.{Logs}
 use Rattle.object_core.proofs.Served.{core_stays}
 use Rattle.object_core.proofs.Bound.{bind_serves}
+use Rattle.object_core.specs.History.{line}
+use Rattle.object_core.proofs.Limits.{line_bound, line_same, bound_within}
 use Rattle.object_core.proofs.object.Core.bind.Goals as goal
 
 pub returns-in_err-make_room-2-clause-serving : goal.returns-in_err-make_room-2-clause-serving
@@ -33,3 +35,10 @@ returns-clause-serving g c = λ since start serving.
       downs = ap (λ (log : BackLog). log.downs) c.bind-2.ensures.rest;
     } in
     bind_serves g.D.Disk.moment_of g.D.Disk.left_since g.D.Disk.told g.D.Disk.image g.met.D.Disk.only_now g.met.D.Disk.counts_now since start roomy _ object ready c.requires refl refl refl logs c.bind-2.ensures.rest
+
+pub returns-clause-within : goal.returns-clause-within
+returns-clause-within g c = λ since start within.
+    let old = c.args.self.now in
+    let roomy = c.make_room-2.new.self in
+    let same = line_bound roomy c.bind-2.new.self (length roomy.taken.items + 1) _ c.bind-2.ensures.taken ∙ line_same old.back roomy c.make_room-2.ensures.same.taken in
+    bound_within g.D.Disk.moment_of g.D.Disk.left_since g.D.Disk.told g.D.Disk.image g.met.D.Disk.only_now since start old.journal.disk old.journal.limit old.identity c.args.identity (line old.back) (line c.bind-2.new.self) c.requires same within

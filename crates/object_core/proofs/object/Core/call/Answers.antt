@@ -1,4 +1,4 @@
-use Rattle.std.proofs.Common.{◌≡◌, [], ◌∷◌, ◌++◌, List, ℕ, Err, Ok, Some, None, refl, ap, sym, subst, ◌∙◌, inr, arith, Result, Vec}
+use Rattle.std.proofs.Common.{◌≡◌, [], ◌∷◌, ◌++◌, ◌+◌, length, List, ℕ, Err, Ok, Some, ap, sym, subst, ◌∙◌, arith, Result, Vec}
 use Rattle.std.proofs.lemmas.Result.{err_from_is_err_and}
 use Rattle.object_core.specs.Said.{message}
 use Rattle.object_core.specs.Told.{event_says}
@@ -15,7 +15,9 @@ use Rattle.batch_journal.specs.declared.journal.Journal.{Journal}
 use Rattle.std.specs.declared.alloc.Global.{Global}
 use Rattle.do_disk.specs.Disk.{Rose}
 use Rattle.object_core.proofs.Logged.{logs_turn}
-use Rattle.object_core.proofs.Called.{refused_history, same_logs, answer_ready, append_stops, append_serves, staged_some, staged_none, none_is, some_is, object_is, turn_anew, back_took, full_call, full_never, name_frames, asks_nothing, ends_failed, ends_wanting, end_is, on_err, wanting_call, wanting_not_failed}
+use Rattle.object_core.proofs.Called.{refused_history, same_logs, answer_ready, append_stops, append_serves, appended_leaves, good_not_full, fault_full, staged_some, staged_none, none_is, some_is, object_is, turn_anew, back_took, full_call, full_never, name_frames, asks_nothing, ends_failed, ends_wanting, end_is, on_err, wanting_call, wanting_not_failed}
+use Rattle.object_core.proofs.Fits.{fits}
+use Rattle.object_core.proofs.Limits.{same_within, line_same, line_more, write_within}
 use Rattle.object_core.proofs.object.Core.call.Goals as goal
 
 -- nothing is staged in a core that serves
@@ -131,6 +133,9 @@ returns-in_ok-write-clause-serving g c = λ since start serving.
     let ops = some_is c.in_ok-ready.ready.turn.batch c.is_none.result c.is_none.ensures c.if-is_none.false in
     append_serves g.D.Disk.moment_of g.D.Disk.left_since g.D.Disk.told g.D.Disk.image g.met.D.Disk.only_now g.met.D.Disk.counts_now since start old mid c.write.new.self c.args.event c.in_ok-ready.ready.turn c.in_ok-ready.ready.copies object.0 ops.0
     serving c.prepare.ensures.same c.in_ok-ready.ensures.ready ops.1 c.write.ensures.logs c.in_ok-write.ensures.lands.1 object.1 c.in_ok-write.ensures.appended c.in_ok-write.ensures.unstaged c.write.ensures.any_moment
+    (fits mid.journal (frame_of object.0 (ops.0 ∷ [])) (Ok tt) (c.in_ok-write.ensures.full object.0 (ops.0 ∷ [])
+    ((staged_some old.identity c.in_ok-ready.ready.turn.batch ops.0 old.map mid.map old.journal mid.journal ops.1 c.in_ok-ready.ensures.ready.staged).1 object.0 object.1)) (λ n limit e. good_not_full n limit e))
+    c.write.ensures.same_limit
 
 pub returns-in_ok-write-clause-full : goal.returns-in_ok-write-clause-full
 returns-in_ok-write-clause-full g c =
@@ -183,3 +188,44 @@ returns-then-is_none-clause-released g c =
 
 pub returns-in_ok-write-clause-later : goal.returns-in_ok-write-clause-later
 returns-in_ok-write-clause-later g c = omega (arith, c.write.ensures.later, ap g.D.Disk.faults_of c.prepare.ensures.same.journal.disk)
+
+-- a turn that writes nothing leaves the disk
+pub returns-then-is_none-clause-within : goal.returns-then-is_none-clause-within
+returns-then-is_none-clause-within g c = λ since start serving within.
+    let same = c.prepare.ensures.same in
+    c.answer.ensures.within since start
+    (same_within g.D.Disk.moment_of g.D.Disk.left_since g.D.Disk.told g.D.Disk.image g.met.D.Disk.only_now since start c.args.self.now c.prepare.new.self same.journal.disk same.journal.limit same.identity (line_same c.args.self.now.back c.prepare.new.self.back same.back.taken) within)
+
+pub returns-in_err-write-clause-within : goal.returns-in_err-write-clause-within
+returns-in_err-write-clause-within g c = λ since start serving within.
+    let old = c.args.self.now in
+    let mid = c.prepare.new.self in
+    let new = c.write.new.self in
+    let turn = c.in_ok-ready.ready.turn in
+    let ready = c.in_ok-ready.ensures.ready in
+    let same = c.prepare.ensures.same in
+    let object = object_is old.identity c.requires.object in
+    let ops = some_is turn.batch c.is_none.result c.is_none.ensures c.if-is_none.false in
+    let staged = (staged_some old.identity turn.batch ops.0 old.map mid.map old.journal mid.journal ops.1 ready.staged).1 object.0 object.1 in
+    let longer = line_more old.back mid.back new.back (length mid.back.taken.items + 1) turn c.in_ok-ready.ready.copies.taken ops.0 ready.turn_of.taken ops.1 same.back.taken c.write.ensures.logs.taken in
+    write_within g.D.Disk.moment_of g.D.Disk.left_since g.D.Disk.told g.D.Disk.image g.met.D.Disk.only_now since start old new serving mid.journal object.0 ops.0 (Err c.in_err-write.field-0.0)
+    same.journal object.1 (c.write.ensures.logs.identity ∙ same.identity) (c.write.ensures.same_limit ∙ same.journal.limit) longer
+    (appended_leaves g.D.Disk.moment_of g.D.Disk.left_since g.D.Disk.told g.D.Disk.image g.met.D.Disk.only_now g.met.D.Disk.counts_now since start old mid new.journal.disk object.0 ops.0 serving same object.1 c.write.ensures.any_moment staged)
+    (c.in_err-write.ensures.full object.0 (ops.0 ∷ []) staged) (λ n limit e. c.in_err-write.ensures.full_drops n limit (fault_full c.in_err-write.field-0.0 n limit e) ∙ same.journal.disk) within
+
+pub returns-in_ok-write-clause-within : goal.returns-in_ok-write-clause-within
+returns-in_ok-write-clause-within g c = λ since start serving within.
+    let old = c.args.self.now in
+    let mid = c.prepare.new.self in
+    let new = c.write.new.self in
+    let turn = c.in_ok-ready.ready.turn in
+    let ready = c.in_ok-ready.ensures.ready in
+    let same = c.prepare.ensures.same in
+    let object = object_is old.identity c.requires.object in
+    let ops = some_is turn.batch c.is_none.result c.is_none.ensures c.if-is_none.false in
+    let staged = (staged_some old.identity turn.batch ops.0 old.map mid.map old.journal mid.journal ops.1 ready.staged).1 object.0 object.1 in
+    let longer = line_more old.back mid.back new.back (length mid.back.taken.items + 1) turn c.in_ok-ready.ready.copies.taken ops.0 ready.turn_of.taken ops.1 same.back.taken c.write.ensures.logs.taken in
+    write_within g.D.Disk.moment_of g.D.Disk.left_since g.D.Disk.told g.D.Disk.image g.met.D.Disk.only_now since start old new serving mid.journal object.0 ops.0 (Ok tt)
+    same.journal object.1 (c.write.ensures.logs.identity ∙ same.identity) (c.write.ensures.same_limit ∙ same.journal.limit) longer
+    (appended_leaves g.D.Disk.moment_of g.D.Disk.left_since g.D.Disk.told g.D.Disk.image g.met.D.Disk.only_now g.met.D.Disk.counts_now since start old mid new.journal.disk object.0 ops.0 serving same object.1 c.write.ensures.any_moment staged)
+    (c.in_ok-write.ensures.full object.0 (ops.0 ∷ []) staged) (λ n limit e. absurd (good_not_full n limit e)) within

@@ -1,5 +1,6 @@
 use Rattle.std.proofs.Common.{refl}
 use Rattle.object_core.proofs.Served.{first_serves, IsFresh}
+use Rattle.object_core.proofs.Limits.{first_within}
 use Rattle.object_core.proofs.object.Core.first.Goals as goal
 
 pub returns-clause-serving : goal.returns-clause-serving
@@ -18,3 +19,6 @@ returns-clause-serving g c =
       downs = c.new-2.ensures.downs;
     } in
     λ since start mounted. first_serves g.D.Disk.moment_of g.D.Disk.left_since g.D.Disk.told g.D.Disk.image g.met.D.Disk.only_now g.met.D.Disk.counts_now since start c.args.mounted _ refl refl refl fresh mounted
+
+pub returns-clause-within : goal.returns-clause-within
+returns-clause-within g c = λ since start mounted recovers. first_within g.D.Disk.moment_of g.D.Disk.left_since g.D.Disk.told g.D.Disk.image g.met.D.Disk.only_now since start c.args.mounted c.new-2.result c.new-2.ensures.taken mounted recovers

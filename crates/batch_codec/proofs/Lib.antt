@@ -1,0 +1,17 @@
+pub mod Texts
+pub mod Sizes
+pub mod ReadParts
+pub mod ReadValues
+pub mod ReadLevels
+pub mod ReadBuilt
+pub mod ReadRoom
+pub mod ReadLoops
+pub mod ReadMany
+pub mod ReadStored
+pub mod ReadOps
+pub mod ReadPayloads
+pub mod SkipLoops
+pub mod SkipStored
+pub mod Ends
+pub mod Cutting
+pub mod Whole

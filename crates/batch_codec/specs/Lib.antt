@@ -1,0 +1,9 @@
+pub mod Frames
+pub mod FrameCode
+pub mod Parsing
+pub mod Skipping
+pub mod Lent
+pub mod Views
+pub mod Cuts
+pub mod Read
+pub mod Laws

@@ -1,0 +1,125 @@
+-- What is told of a script, from the bytes that were read of it.
+use Rattle.std.proofs.Common.{◌≡◌, ◌<◌, ◌≤◌, ◌⊎◌, ⊎_elim, inl, inr, ℕ, min, List, length, take, Option, Some, Result, Err, OnErr, refl, sym, ap, subst, ◌∙◌, arith}
+use Rattle.std.proofs.lemmas.Bool.{cases_order}
+use Rattle.std.proofs.lemmas.List.{length-take}
+use Rattle.do_disk.specs.declared.depot.TheConstants.{MOST_TEXT_BYTES}
+use Rattle.do_parse.specs.Fault.{IsFaultAt}
+use Rattle.do_lex.specs.declared.pieces.TheConstants.{LONGEST_SCRIPT}
+use Rattle.do_parse.specs.declared.fault.ParseKind.{ParseKind}
+use Rattle.do_parse.specs.declared.fault.ParseKind.TheVariants as wrong
+use Rattle.do_host.specs.EarlyEnds.{IsRefusedBy, IsStoppedBy, IsOpeningEnd, Refuses}
+use Rattle.do_host.specs.ScriptLines.{refused_line, IsRefusalLine, IsScriptLine}
+use Rattle.do_host.specs.Scripts.{parse_word, IsRefused, IsUnread, IsFaulty, IsFirstScript, IsOtherScript}
+use Rattle.do_host.specs.declared.early_end.EarlyEnd.{EarlyEnd}
+use Rattle.do_host.specs.declared.early_end.EarlyEnd.TheVariants.{Refused, Stopped}
+use Rattle.do_host.specs.declared.stop.Stop.{Stop}
+use Rattle.do_host.specs.declared.stop.Stop.TheVariants.{DiskFailed, NoMemory, BadSlot, NotBuilt}
+use Rattle.do_host.proofs.Mounted.{take_is_whole}
+
+-- an answer that is an end
+abbrev ends : {T : Type 0} → EarlyEnd → Result T EarlyEnd
+ends {T} end = Err end
+
+-- the line of a script with this fault
+pub record IsLineAt (place : ℕ) (word : Option (List ℕ)) (line : List ℕ) : Type 0 where
+  pub is : List ℕ
+  pub some : word ≡ Some is
+  pub line_is : line ≡ refused_line place is
+
+pub line_at : {T : Type 0} (place : ℕ) (word : Option (List ℕ)) (end : EarlyEnd) → Refuses place word end → (line : List ℕ) → IsRefusedBy (ends {T = T} end) line → IsLineAt place word line
+line_at {T} place word (Refused bytes) refuses line (others, same, items) =
+    let is : bytes ≡ others = cc in
+    record { is = refuses.0; some = refuses.1; line_is = sym items ∙ sym (ap (λ b. b.items) is) ∙ refuses.2 }
+line_at {T} place word (Stopped stop) refuses line (others, same, items) = cc
+
+-- a refusal has its line, or memory was wanting
+pub ends_early : {T : Type 0} (place : ℕ) (word : Option (List ℕ)) (end : EarlyEnd) → Refuses place word end → ((line : List ℕ) × IsRefusedBy (ends {T = T} end) line) ⊎ IsStoppedBy (ends {T = T} end) NoMemory
+ends_early {T} place word (Refused bytes) refuses = inl (bytes.items, (bytes, refl, refl))
+ends_early {T} place word (Stopped stop) refuses = inr (ap (λ s. ends {T = T} (Stopped s)) refuses)
+
+-- of a text that a script may be all was read
+pub whole_text : (whole text : List ℕ) → text ≡ take MOST_TEXT_BYTES whole → length text ≤ LONGEST_SCRIPT → text ≡ whole
+whole_text whole text front short = sym (take_is_whole MOST_TEXT_BYTES whole text (sym front) (omega (arith, short)))
+
+long_whole : (whole text : List ℕ) → text ≡ take MOST_TEXT_BYTES whole → LONGEST_SCRIPT < length text → LONGEST_SCRIPT < length whole
+long_whole whole text front long =
+    let least : length text ≡ min MOST_TEXT_BYTES (length whole) = ap length front ∙ length-take MOST_TEXT_BYTES whole in
+    omega (arith, least, long)
+
+too_long : (whole text : List ℕ) (place : ℕ) (word : List ℕ) (kind : ParseKind) → kind ≡ wrong.TooLong → parse_word kind ≡ Some word → LONGEST_SCRIPT < length whole → IsFaultAt text kind place → IsUnread whole place word
+too_long whole text place word wrong.TooLong is named long fault = record { kind = wrong.TooLong; named = named; at_once = λ _. refl; fault = (long, fault.1) }
+too_long whole text place word wrong.BadChar is named long fault = cc
+too_long whole text place word wrong.OpenText is named long fault = cc
+too_long whole text place word wrong.LongNumber is named long fault = cc
+too_long whole text place word wrong.Unexpected is named long fault = cc
+too_long whole text place word wrong.TooNested is named long fault = cc
+too_long whole text place word wrong.NoMemory is named long fault = cc
+
+longer_or_not : (text : List ℕ) → (LONGEST_SCRIPT < length text) ⊎ (length text ≤ LONGEST_SCRIPT)
+longer_or_not text =
+    ⊎_elim (λ same. inr (omega (arith, same))) (λ apart. ⊎_elim (λ less. inl less) (λ more. inr (omega (arith, more))) apart) (cases_order LONGEST_SCRIPT (length text))
+
+-- why the bytes that were read are refused the whole text is
+refused_whole : (whole text : List ℕ) (place : ℕ) (word : List ℕ) → text ≡ take MOST_TEXT_BYTES whole → IsRefused text place word → IsRefused whole place word
+refused_whole whole text place word front refused =
+    ⊎_elim
+    (λ (unread : IsUnread text place word).
+    ⊎_elim
+    (λ (long : LONGEST_SCRIPT < length text). inl (too_long whole text place word unread.kind (unread.at_once long) unread.named (long_whole whole text front long) unread.fault))
+    (λ (short : length text ≤ LONGEST_SCRIPT). subst (λ t. IsRefused t place word) (whole_text whole text front short) refused)
+    (longer_or_not text))
+    (λ (faulty : IsFaulty text place word). subst (λ t. IsRefused t place word) (whole_text whole text front faulty.short) refused)
+    refused
+
+pub refusal_whole : (whole text line : List ℕ) → text ≡ take MOST_TEXT_BYTES whole → IsRefusalLine text line → IsRefusalLine whole line
+refusal_whole whole text line front refusal = record {
+  place = refusal.place;
+  word = refusal.word;
+  refused = refused_whole whole text refusal.place refusal.word front refusal.refused;
+  line_is = refusal.line_is;
+}
+
+pub script_line_whole : (whole text line : List ℕ) → text ≡ take MOST_TEXT_BYTES whole → IsScriptLine text line → IsScriptLine whole line
+script_line_whole whole text line front told = subst (λ t. IsScriptLine t line) (whole_text whole text front told.accepted.short) told
+
+pub first_whole : (whole text : List ℕ) → text ≡ take MOST_TEXT_BYTES whole → IsFirstScript text → IsFirstScript whole
+first_whole whole text front first = subst IsFirstScript (whole_text whole text front first.0.1.short) first
+
+pub other_whole : (whole text : List ℕ) → text ≡ take MOST_TEXT_BYTES whole → IsOtherScript text → IsOtherScript whole
+other_whole whole text front other = subst IsOtherScript (whole_text whole text front other.0.1.short) other
+
+-- a text that isn't too long is short
+pub short_text : (text : List ℕ) → (LONGEST_SCRIPT < length text → ⊥) → length text ≤ LONGEST_SCRIPT
+short_text text never = ⊎_elim (λ long. absurd (never long)) (λ short. short) (longer_or_not text)
+
+-- an end that is handed on
+pub same_refused : {T U : Type 0} (end : EarlyEnd) (line : List ℕ) → IsRefusedBy (ends {T = T} end) line → IsRefusedBy (ends {T = U} end) line
+same_refused {T} {U} end line (bytes, is, items) = let e : end ≡ Refused bytes = cc in (bytes, ap (λ o. ends {T = U} o) e, items)
+
+pub same_stopped : {T U : Type 0} (end : EarlyEnd) (stop : Stop) → IsStoppedBy (ends {T = T} end) stop → IsStoppedBy (ends {T = U} end) stop
+same_stopped {T} {U} end stop is = let e : end ≡ Stopped stop = cc in ap (λ o. ends {T = U} o) e
+
+pub same_end : {T U : Type 0} (end : EarlyEnd) → ((line : List ℕ) × IsRefusedBy (ends {T = T} end) line) ⊎ IsStoppedBy (ends {T = T} end) NoMemory
+    → ((line : List ℕ) × IsRefusedBy (ends {T = U} end) line) ⊎ IsStoppedBy (ends {T = U} end) NoMemory
+same_end {T} {U} end is = ⊎_elim (λ refused. inl (refused.0, same_refused {T = T} {U = U} end refused.0 refused.1)) (λ stopped. inr (same_stopped {T = T} {U = U} end NoMemory stopped)) is
+
+pub form_end : {T U : Type 0} (end : EarlyEnd) → ((line : List ℕ) × IsRefusedBy (ends {T = T} end) line) ⊎ IsStoppedBy (ends {T = T} end) NoMemory
+    → ((line : List ℕ) × IsRefusedBy (ends {T = U} end) line) ⊎ IsStoppedBy (ends {T = U} end) NoMemory ⊎ IsStoppedBy (ends {T = U} end) NotBuilt
+form_end {T} {U} end is = ⊎_elim (λ refused. inl (refused.0, same_refused {T = T} {U = U} end refused.0 refused.1)) (λ stopped. inr (inl (same_stopped {T = T} {U = U} end NoMemory stopped))) is
+
+-- an answer that hands an end on
+pub handed_refused : {T U : Type 0} (result : Result U EarlyEnd) (end : EarlyEnd) (line : List ℕ) → result ≡ ends {T = U} end → IsRefusedBy result line → IsRefusedBy (ends {T = T} end) line
+handed_refused {T} {U} result end line is (bytes, by, items) = same_refused {T = U} {U = T} end line (bytes, sym is ∙ by, items)
+
+pub handed_stopped : {T U : Type 0} (result : Result U EarlyEnd) (end : EarlyEnd) (stop : Stop) → result ≡ ends {T = U} end → IsStoppedBy result stop → IsStoppedBy (ends {T = T} end) stop
+handed_stopped {T} {U} result end stop is by = same_stopped {T = U} {U = T} end stop (sym is ∙ by)
+
+same_opening : {T U : Type 0} (end : EarlyEnd) → IsOpeningEnd (ends {T = T} end) → IsOpeningEnd (ends {T = U} end)
+same_opening {T} {U} end is =
+    ⊎_elim (λ refused. inl (refused.0, same_refused {T = T} {U = U} end refused.0 refused.1))
+    (λ rest. inr (⊎_elim (λ disk. inl (same_stopped {T = T} {U = U} end DiskFailed disk))
+    (λ rest. inr (⊎_elim (λ memory. inl (same_stopped {T = T} {U = U} end NoMemory memory))
+    (λ rest. inr (⊎_elim (λ bad. inl (same_stopped {T = T} {U = U} end BadSlot bad)) (λ built. inr (same_stopped {T = T} {U = U} end NotBuilt built)) rest)) rest)) rest)) is
+
+pub handed_opening : {T U : Type 0} (result : Result U EarlyEnd) (end : EarlyEnd) → result ≡ ends {T = U} end → IsOpeningEnd (ends {T = T} end) → OnErr result (IsOpeningEnd result)
+handed_opening {T} {U} result end is opening = subst (λ r. OnErr r (IsOpeningEnd r)) (sym is) (same_opening {T = T} {U = U} end opening)

@@ -1,8 +1,0 @@
-use Rattle.std.proofs.Common.{refl, sym, ◌∙◌, string_bytes}
-use Rattle.do_host.proofs.Wording.{three_words}
-use Rattle.do_host.proofs.words.serve_words.Goals as goal
-
-pub returns-in-len3-clause-serve : goal.returns-in-len3-clause-serve
-returns-in-len3-clause-serve c =
-    three_words string_bytes c.args.words.now c.serve-item.result c.script-item.result c.folder-item.result _ _ _ c.in-len3.len_at_least c.in-len3.len_below c.serve-item.is c.script-item.is c.folder-item.is
-    (sym c.as_str.ensures.value ∙ c.if-is_serve.ensures.0 refl) (sym c.as_str-in-len3.ensures.value) (sym c.as_str-in-len3-2.ensures.value)

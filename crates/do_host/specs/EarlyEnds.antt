@@ -1,0 +1,26 @@
+-- How a run ends that doesn't come to serving.
+use Rattle.std.specs.Prelude.{◌≡◌, ◌⊎◌, ℕ, List, Option, Some, Result, Err, Vec}
+use Rattle.std.specs.declared.alloc.Global.{Global}
+use Rattle.do_host.specs.ScriptLines.{refused_line}
+use Rattle.do_host.specs.declared.early_end.EarlyEnd.{EarlyEnd}
+use Rattle.do_host.specs.declared.early_end.EarlyEnd.TheVariants.{Refused, Stopped}
+use Rattle.do_host.specs.declared.stop.Stop.{Stop}
+use Rattle.do_host.specs.declared.stop.Stop.TheVariants.{DiskFailed, NoMemory, BadSlot, NotBuilt}
+
+-- the run ends so, as its script is refused with this line
+abbrev pub IsRefusedBy : {T : Type 0} → Result T EarlyEnd → List ℕ → Type 0
+IsRefusedBy result line = (bytes : Vec ℕ Global) × (result ≡ Err (Refused bytes)) × (bytes.items ≡ line)
+
+-- the run ends so, for this reason
+abbrev pub IsStoppedBy : {T : Type 0} → Result T EarlyEnd → Stop → Type 0
+IsStoppedBy result stop = result ≡ Err (Stopped stop)
+
+-- a script is refused, or opening stops
+abbrev pub IsOpeningEnd : {T : Type 0} → Result T EarlyEnd → Type 0
+IsOpeningEnd result =
+    ((line : List ℕ) × IsRefusedBy result line) ⊎ IsStoppedBy result DiskFailed ⊎ IsStoppedBy result NoMemory ⊎ IsStoppedBy result BadSlot ⊎ IsStoppedBy result NotBuilt
+
+-- how a run ends whose script has a fault of this word at a place: where there is no word, memory was wanting
+abbrev pub Refuses : ℕ → Option (List ℕ) → EarlyEnd → Type 0
+Refuses place word (Refused line) = (is : List ℕ) × (word ≡ Some is) × (line.items ≡ refused_line place is)
+Refuses place word (Stopped stop) = stop ≡ NoMemory

@@ -1,0 +1,94 @@
+-- Which scripts a run takes, and why it refuses the others. This project's profile.
+use Rattle.std.specs.Prelude.{◌≡◌, ◌≤◌, ◌<◌, ◌⊎◌, ℕ, List, map, length, slice_range, Option, Some, None, codes}
+use Rattle.do_lex.specs.Cut.{IsCut}
+use Rattle.do_lex.specs.declared.kind.Kind.{Kind}
+use Rattle.do_lex.specs.declared.pieces.Span.{Span}
+use Rattle.do_lex.specs.declared.pieces.TheConstants.{LONGEST_SCRIPT}
+use Rattle.do_parse.specs.Fault.{IsFaultAt}
+use Rattle.do_parse.specs.declared.fault.ParseKind.{ParseKind}
+use Rattle.do_parse.specs.declared.fault.ParseKind.TheVariants as wrong
+use Rattle.do_tree.specs.Accepts.{IsScriptText}
+use Rattle.do_tree.specs.Faults.{IsFaultless, IsFirstFault}
+use Rattle.do_tree.specs.Tree.{Script}
+use Rattle.do_tree.specs.declared.kind.CheckKind.{CheckKind}
+use Rattle.do_tree.specs.declared.kind.CheckKind.TheVariants as kind
+use Rattle.do_host.specs.declared.script.TheConstants.{PUT_AND_READ}
+
+-- The text is this script and no other one, and the check finds no fault in it.
+pub record IsAccepted (text : List ℕ) (tree : Script) : Type 0 where
+  pub short : length text ≤ LONGEST_SCRIPT
+  pub read : IsScriptText text tree
+  pub only : (other : Script) → IsScriptText text other → other ≡ tree
+  pub faultless : IsFaultless tree
+
+-- A kind of fault prints as its own name. Want of memory is no fault of a script.
+abbrev pub parse_word : ParseKind → Option (List ℕ)
+parse_word wrong.TooLong = Some (codes "TooLong")
+parse_word wrong.BadChar = Some (codes "BadChar")
+parse_word wrong.OpenText = Some (codes "OpenText")
+parse_word wrong.LongNumber = Some (codes "LongNumber")
+parse_word wrong.Unexpected = Some (codes "Unexpected")
+parse_word wrong.TooNested = Some (codes "TooNested")
+parse_word wrong.NoMemory = None
+
+abbrev pub check_word : CheckKind → Option (List ℕ)
+check_word kind.Doubled = Some (codes "Doubled")
+check_word kind.Reserved = Some (codes "Reserved")
+check_word kind.Unbound = Some (codes "Unbound")
+check_word kind.ConstAssigned = Some (codes "ConstAssigned")
+check_word kind.BadTarget = Some (codes "BadTarget")
+check_word kind.Form = Some (codes "Form")
+check_word kind.NoMember = Some (codes "NoMember")
+check_word kind.AwaitInSync = Some (codes "AwaitInSync")
+check_word kind.NotAwaited = Some (codes "NotAwaited")
+check_word kind.AwaitOfSync = Some (codes "AwaitOfSync")
+check_word kind.InTransaction = Some (codes "InTransaction")
+check_word kind.InBlock = Some (codes "InBlock")
+check_word kind.LoopExit = Some (codes "LoopExit")
+check_word kind.StartTwice = Some (codes "StartTwice")
+check_word kind.NoMemory = None
+
+-- The text has this first fault as it is read. One of more than 262,144 bytes is too long, whatever it holds.
+pub record IsUnread (text : List ℕ) (place : ℕ) (word : List ℕ) : Type 0 where
+  pub kind : ParseKind
+  pub named : parse_word kind ≡ Some word
+  pub at_once : LONGEST_SCRIPT < length text → kind ≡ wrong.TooLong
+  pub fault : IsFaultAt text kind place
+
+-- The text is one script, in which the check finds this first fault.
+pub record IsFaulty (text : List ℕ) (place : ℕ) (word : List ℕ) : Type 0 where
+  pub kind : CheckKind
+  pub named : check_word kind ≡ Some word
+  pub tree : Script
+  pub short : length text ≤ LONGEST_SCRIPT
+  pub read : IsScriptText text tree
+  pub only : (other : Script) → IsScriptText text other → other ≡ tree
+  pub fault : IsFirstFault tree place kind
+
+-- Why the text is refused: its first fault, by its place and the word of its kind.
+abbrev pub IsRefused : List ℕ → ℕ → List ℕ → Type 0
+IsRefused text place word = IsUnread text place word ⊎ IsFaulty text place word
+
+-- What tokens say beside their places: their kinds and texts, in order.
+abbrev pub said : List ℕ → List Span → List (Kind × List ℕ)
+said text tokens = map (λ token. (token.kind, slice_range text token.at token.end)) tokens
+
+-- From these places on both texts are cut into tokens to their ends, and the tokens say the same.
+pub record SaysSame (text : List ℕ) (at : ℕ) (other : List ℕ) (place : ℕ) : Type 0 where
+  pub tokens : List Span
+  pub cut : IsCut text at tokens None
+  pub others : List Span
+  pub other_cut : IsCut other place others None
+  pub same : said text tokens ≡ said other others
+
+-- The text's tokens are those of the one script that is served so far, but for their places.
+abbrev pub HasFirstForm : List ℕ → Type 0
+HasFirstForm text = SaysSame text 0 PUT_AND_READ.now 0
+
+-- The text is accepted, and is of the first form.
+abbrev pub IsFirstScript : List ℕ → Type 0
+IsFirstScript text = ((tree : Script) × IsAccepted text tree) × HasFirstForm text
+
+-- The text is accepted, and isn't of the first form.
+abbrev pub IsOtherScript : List ℕ → Type 0
+IsOtherScript text = ((tree : Script) × IsAccepted text tree) × (HasFirstForm text → ⊥)

@@ -1,0 +1,46 @@
+// Why a run ends before it serves.
+use crate::stop::Stop;
+use do_disk::DepotFault;
+use do_value::NoMemory;
+
+#[derive(Drop)]
+pub(crate) enum EarlyEnd {
+    // The script is refused. The line says where and why.
+    Refused(Vec<u8>),
+    Stopped(Stop),
+}
+
+impl From<Stop> for EarlyEnd {
+    ghost use Rattle.std.specs.Prelude.{◌≡◌};
+    ghost use Rattle.do_host.specs.declared.early_end.EarlyEnd.TheVariants.{Stopped};
+
+    ghost from_gives = { λ stop end. end ≡ Stopped stop };
+
+    fn from(stop: Stop) -> EarlyEnd {
+        EarlyEnd::Stopped(stop)
+    }
+}
+
+impl From<NoMemory> for EarlyEnd {
+    ghost use Rattle.std.specs.Prelude.{◌≡◌};
+    ghost use Rattle.do_host.specs.declared.early_end.EarlyEnd.TheVariants.{Stopped};
+    ghost use Rattle.do_host.specs.declared.stop.Stop.TheVariants.{NoMemory as Wanting};
+
+    ghost from_gives = { λ _ end. end ≡ Stopped Wanting };
+
+    fn from(_: NoMemory) -> EarlyEnd {
+        EarlyEnd::Stopped(Stop::NoMemory)
+    }
+}
+
+impl From<DepotFault> for EarlyEnd {
+    ghost use Rattle.std.specs.Prelude.{◌≡◌};
+    ghost use Rattle.do_host.specs.Status.{depot_stop};
+    ghost use Rattle.do_host.specs.declared.early_end.EarlyEnd.TheVariants.{Stopped};
+
+    ghost from_gives = { λ fault end. end ≡ Stopped (depot_stop fault) };
+
+    fn from(fault: DepotFault) -> EarlyEnd {
+        EarlyEnd::Stopped(Stop::from(fault))
+    }
+}

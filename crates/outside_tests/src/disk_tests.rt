@@ -1,0 +1,216 @@
+use do_disk::{
+    Depot, DepotFault, Disk, Failed, Fails, FolderDepot, FreeGate, MemDepot, MemDisk, MemSink,
+    MemSource, Pick, Sink, Source, StdSink, StdSource, TurnGate, VoidSink,
+};
+use std::alloc::Global;
+use std::fs::File;
+use std::io::{ErrorKind, Read, Write};
+use std::process::Abort;
+use std::rt::Files;
+use std::test::Fail;
+use std::{fs, io};
+
+fn never(alloc: Global) -> Fails {
+    Fails::Listed(Vec::new(alloc))
+}
+
+// Writes within the content.
+fn put(rt: &impl Abort, disk: &mut MemDisk, at: u64, from: &[u8]) -> Result<(), Failed> {
+    assert!(rt; at <= disk.content().len() as u64);
+    disk.write_at(at, from)
+}
+
+// Two writes with a sync between, and a write past the end that fails.
+fn written(rt: &impl Abort, alloc: Global) -> Result<MemDisk, Fail> {
+    let fails = Fails::Listed([4].to_vec(alloc)?);
+    let mut disk = MemDisk::new(b"01234567".to_vec(alloc)?, fails);
+    put(rt, &mut disk, 0, b"abc")?;
+    disk.sync()?;
+    put(rt, &mut disk, 2, b"XY")?;
+    assert!(rt; put(rt, &mut disk, 6, b"????").is_err());
+    assert_eq!(rt; (disk.moment(), disk.faults(), disk.refused()), (4, 1, 0));
+    Ok(disk)
+}
+
+#[test]
+fn a_crash_leaves_what_is_picked(rt: HostRuntime) -> Result<(), Fail> {
+    let alloc = rt.alloc();
+    for (pick, left) in [
+        (Pick::AsRead, b"abXY4567"),
+        (Pick::AsSynced, b"abc34567"),
+        (Pick::Torn(b'#'), b"ab##45##"),
+    ] {
+        let crashed = written(&rt, alloc)?.crash(pick)?;
+        assert_eq!(rt; crashed.content(), left.as_slice(), "{pick:?}");
+        assert_eq!(rt; (crashed.moment(), crashed.faults()), (0, 0));
+    }
+    Ok(())
+}
+
+#[test]
+fn each_call_from_a_number_on_fails(rt: HostRuntime) -> Result<(), Fail> {
+    let alloc = rt.alloc();
+    let mut disk = MemDisk::new(b"old".to_vec(alloc)?, Fails::From(3));
+    assert_eq!(rt; disk.length()?, 3);
+    put(&rt, &mut disk, 3, b"new")?;
+    assert!(rt; disk.sync().is_err());
+    assert!(rt; disk.length().is_err());
+    assert_eq!(rt; (disk.moment(), disk.faults()), (4, 2));
+    assert_eq!(rt; disk.crash(Pick::AsSynced)?.content(), b"old".as_slice());
+    Ok(())
+}
+
+#[test]
+fn a_disk_reads_what_was_written(rt: HostRuntime) -> Result<(), Fail> {
+    let alloc = rt.alloc();
+    let mut disk = MemDisk::new(Vec::new(alloc), never(alloc));
+    put(&rt, &mut disk, 0, b"hello")?;
+    put(&rt, &mut disk, 5, b" disk")?;
+    let mut middle = [0; 5];
+    assert_eq!(rt; disk.content().len(), 10);
+    disk.read_at(3, &mut middle)?;
+    assert_eq!(rt; middle.as_slice(), b"lo di".as_slice());
+    Ok(())
+}
+
+#[test]
+fn a_source_gives_pieces_and_fails_in_mid_stream(rt: HostRuntime) -> Result<(), Fail> {
+    let alloc = rt.alloc();
+    let fails = Fails::Listed([2].to_vec(alloc)?);
+    let mut source = MemSource::new(b"hello".to_vec(alloc)?, 2, fails);
+    let mut buffer = [0; 4];
+    for (n, bytes) in [
+        (Ok(2), b"he"),
+        (Err(Failed), b"he"),
+        (Ok(2), b"ll"),
+        (Ok(1), b"ol"),
+        (Ok(0), b"ol"),
+    ] {
+        assert_eq!(rt; source.read(&mut buffer), n);
+        assert_eq!(rt; &buffer[..2], bytes.as_slice());
+    }
+    Ok(())
+}
+
+#[test]
+fn a_sink_takes_pieces_and_fails_in_mid_stream(rt: HostRuntime) -> Result<(), Fail> {
+    let alloc = rt.alloc();
+    let mut sink = MemSink::new(alloc, 3, Fails::From(3));
+    assert_eq!(rt; sink.write(b"hello"), Ok(3));
+    assert_eq!(rt; sink.write(b"lo"), Ok(2));
+    assert_eq!(rt; sink.write(b"!"), Err(Failed));
+    assert_eq!(rt; sink.taken(), b"hello".as_slice());
+    assert_eq!(rt; sink.refused(), 0);
+    assert_eq!(rt; VoidSink.write(b"hello"), Ok(5));
+    Ok(())
+}
+
+#[test]
+fn a_depot_hands_each_disk_out_once(rt: HostRuntime) -> Result<(), Fail> {
+    let alloc = rt.alloc();
+    let texts = vec![in alloc; (String::from_str(alloc, "s")?, b"text".to_vec(alloc)?)]?;
+    let disks = vec![in alloc; MemDisk::new(b"disk".to_vec(alloc)?, Fails::From(1))]?;
+    let mut depot = MemDepot::new(texts, disks);
+    assert_eq!(rt; depot.text("s")?.as_slice(), b"text".as_slice());
+    assert_eq!(rt; depot.text("t").err(), Some(DepotFault::Failed));
+    let mut disk = depot.slot("f", 0)?;
+    assert_eq!(rt; disk.content(), b"disk".as_slice());
+    assert!(rt; disk.sync().is_err());
+    assert_eq!(rt; depot.slot("g", 0).err(), Some(DepotFault::Failed));
+    assert_eq!(rt; depot.slot("f", 1).err(), Some(DepotFault::Failed));
+    FreeGate.enter(0);
+    FreeGate.leave(0);
+    Ok(())
+}
+
+// Writes a slot's file, opens it again, and reads it as a text.
+fn use_slot<R: Files<File = File> + AllocGlobal + Drop>(
+    rt: &impl Abort,
+    depot: &mut FolderDepot<R>,
+    folder: &str,
+    path: &str,
+) -> Result<(), Fail> {
+    let mut disk = depot.slot(folder, 7)?;
+    assert_eq!(rt; disk.length()?, 0);
+    disk.write_at(0, b"journal")?;
+    disk.sync()?;
+    assert_eq!(rt; (disk.moment(), disk.faults()), (3, 0));
+    let mut again = depot.slot(folder, 7)?;
+    let mut bytes = [0; 4];
+    again.read_at(3, &mut bytes)?;
+    assert_eq!(rt; bytes.as_slice(), b"rnal".as_slice());
+    assert!(rt; again.read_at(4, &mut bytes).is_err());
+    assert_eq!(rt; depot.text(path)?.as_slice(), b"journal".as_slice());
+    assert_eq!(rt; depot.text("no such file").err(), Some(DepotFault::Failed));
+    Ok(())
+}
+
+#[test]
+fn a_folder_holds_the_slots(rt: HostRuntime) -> Result<(), Fail> {
+    let path = "slots of a test/slot-007.journal";
+    fs::create_dir(&rt, "slots of a test")?;
+    let mut depot = FolderDepot::new(rt.clone()?);
+    use_slot(&rt, &mut depot, "slots of a test", path)?;
+    fs::remove_dir_all(&rt, "slots of a test")?;
+    Ok(())
+}
+
+// Interrupts each call once before it does as it should.
+#[derive(Drop)]
+struct Interrupting<T> {
+    inner: T,
+    interrupts: bool,
+}
+
+impl<T> Interrupting<T> {
+    fn turn(&mut self) -> io::Result<()> {
+        self.interrupts = !self.interrupts;
+        if self.interrupts {
+            Err(io::Error::from(ErrorKind::Interrupted))
+        } else {
+            Ok(())
+        }
+    }
+}
+
+impl<T: Read> Read for Interrupting<T> {
+    fn read(&mut self, into: &mut [u8]) -> io::Result<usize> {
+        self.turn()?;
+        self.inner.read(into)
+    }
+}
+
+impl<T: Write> Write for Interrupting<T> {
+    fn write(&mut self, from: &[u8]) -> io::Result<usize> {
+        self.turn()?;
+        self.inner.write(from)
+    }
+
+    fn flush(&mut self) -> io::Result<()> {
+        self.turn()?;
+        self.inner.flush()
+    }
+}
+
+#[test]
+fn streams_of_the_system_outlast_interrupts(rt: HostRuntime) -> Result<(), Fail> {
+    let inner = File::create(&rt, "stream of a test")?;
+    let mut sink = StdSink::new(Interrupting {
+        inner,
+        interrupts: false,
+    });
+    assert_eq!(rt; sink.write(b"stream"), Ok(6));
+    let inner = File::open(&rt, "stream of a test")?;
+    let mut source = StdSource::new(Interrupting {
+        inner,
+        interrupts: false,
+    });
+    let mut bytes = [0; 9];
+    assert_eq!(rt; source.read(&mut bytes), Ok(6));
+    assert_eq!(rt; bytes.as_slice(), b"stream\0\0\0".as_slice());
+    assert_eq!(rt; source.read(&mut bytes), Ok(0));
+    fs::remove_file(&rt, "stream of a test")?;
+    let folder = File::open(&rt, ".")?;
+    assert_eq!(rt; StdSource::new(folder).read(&mut bytes), Err(Failed));
+    Ok(())
+}

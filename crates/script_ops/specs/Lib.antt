@@ -1,0 +1,11 @@
+pub mod Errors
+pub mod Same
+pub mod Numbers
+pub mod Texts
+pub mod Truth
+pub mod Binary
+pub mod Unary
+pub mod Lists
+pub mod Calls
+pub mod Answers
+pub mod Law

@@ -1,0 +1,112 @@
+//! The errors that are thrown, and answers with them.
+ghost use Rattle.std.specs.Prelude.{◌≡◌, ◌+◌, ◌≤◌, IfOk, OnOk, [], ◌∷◌, ◌++◌, length, Result, Err, codes};
+ghost use Rattle.do_value.specs.Limits.{most_bytes};
+ghost use Rattle.do_value.specs.Tree.{Tree, text, items};
+ghost use Rattle.do_value.specs.Seen.{tree_of, trees_in, pairs_in};
+ghost use Rattle.script_ops.specs.Errors.{error_record, within_limits};
+ghost use Rattle.script_ops.specs.Answers.{Answers, Gives, error_of};
+
+use crate::fault::{Cause, OpFault, Stop};
+use do_value::{Mem, NoMemory, Text, Value};
+use std::alloc::Global;
+
+/// The answer, with the error built that is thrown.
+pub(crate) fn finish(alloc: Global, answer: Result<Value, Stop>) -> Result<Value, OpFault>
+    ensures { (meant : Result Tree Tree) → Gives meant answer → Answers meant result }
+{
+    match answer {
+        Ok(value) => Ok(value),
+        Err(Stop::Throws(cause)) => Err(thrown(alloc, cause)),
+        Err(Stop::NoRoom) => Err(OpFault::NoMemory),
+    }
+}
+
+// The error of the cause, thrown.
+fn thrown(alloc: Global, cause: Cause) -> OpFault
+    ensures { Answers (Err (error_of cause)) (Err result) }
+{
+    match error_of_cause(alloc, cause) {
+        Ok(value) => OpFault::Throw(value),
+        Err(_) => OpFault::NoMemory,
+    }
+}
+
+// The error of the cause.
+fn error_of_cause(alloc: Global, cause: Cause) -> Result<Value, Stop>
+    ensures { IfOk result (λ value. tree_of value ≡ error_of cause) }
+{
+    let (name, message) = parts_of(cause);
+    let name = word(alloc, name)?;
+    let message = word(alloc, message)?;
+    error_value(alloc, name, message)
+}
+
+// The name and the message of the error of a cause.
+fn parts_of(cause: Cause) -> (&'static str, &'static str)
+    ensures parts { error_of cause ≡ error_record result.0.now result.1.now }
+    ensures short { (length result.0.now ≤ 16) × (length result.1.now ≤ 16) }
+{
+    match cause {
+        Cause::WrongType => ("TypeError", "type"),
+        Cause::NoProperty => ("TypeError", "property"),
+        Cause::NoNumber => ("RangeError", "number"),
+        Cause::NotWhole => ("RangeError", "divide"),
+        Cause::NoSeparator => ("RangeError", "separator"),
+        Cause::TooDeep => ("RangeError", "depth"),
+        Cause::TooLarge => ("RangeError", "size"),
+    }
+}
+
+/// The error with this name and message.
+pub(crate) fn error_value(alloc: Global, name: Text, message: Text) -> Result<Value, Stop>
+    ensures { Gives (within_limits (error_record name message)) result }
+{
+    let pairs = error_pairs(alloc, name, message)?;
+    Ok(Value::fields(pairs)?)
+}
+
+// The pairs of an error.
+fn error_pairs(alloc: Global, name: Text, message: Text) -> Mem<Vec<(Text, Value)>>
+    ensures { IfOk result (λ pairs. pairs_in pairs.items
+        ≡ (codes "message", text message) ∷ (codes "name", text name) ∷ []) }
+{
+    let mut pairs = Vec::new(alloc);
+    put(&mut pairs, word(alloc, "message")?, message)?;
+    put(&mut pairs, word(alloc, "name")?, name)?;
+    Ok(pairs)
+}
+
+// One pair more.
+fn put(pairs: &mut Vec<(Text, Value)>, key: Text, part: Text) -> Mem<()>
+    ensures { OnOk result (pairs_in pairs.new.items ≡ pairs_in pairs.old.items ++ (key, text part) ∷ []) }
+{
+    match pairs.push((key, Value::Text(part))) {
+        Ok(()) => Ok(()),
+        Err(_) => Err(NoMemory),
+    }
+}
+
+/// The text, where it is within the limit.
+pub(crate) fn word(alloc: Global, s: &str) -> Mem<Text>
+    requires { 5 + length s.now ≤ most_bytes }
+    ensures { IfOk result (λ text. text ≡ s.now) }
+{
+    match Text::new(alloc, s) {
+        Ok(text) => Ok(text),
+        Err(_) => Err(NoMemory),
+    }
+}
+
+/// The value of the text, where the limits allow it.
+pub(crate) fn text_value(alloc: Global, s: &str) -> Result<Value, Stop>
+    ensures { Gives (within_limits (text s.now)) result }
+{
+    Ok(Value::Text(Text::new(alloc, s)?))
+}
+
+/// The list of the values, where the limits allow it.
+pub(crate) fn list_value(values: Vec<Value>) -> Result<Value, Stop>
+    ensures { Gives (within_limits (items (trees_in values.items))) result }
+{
+    Ok(Value::list(values)?)
+}

@@ -1,0 +1,17 @@
+//! The operators of scripts, and the calls that read their arguments alone: JavaScript's, in this project's profile.
+#![tactic(auto)]
+
+mod calls;
+mod compare;
+mod errors;
+mod fault;
+pub mod laws;
+mod lists;
+mod numbers;
+mod operators;
+mod texts;
+
+pub use calls::builtin;
+pub use compare::truth;
+pub use fault::OpFault;
+pub use operators::{binary, unary};
