@@ -1,5 +1,5 @@
 -- What is told of a script, from the bytes that were read of it.
-use Rattle.std.proofs.Common.{◌≡◌, ◌<◌, ◌≤◌, ◌⊎◌, ⊎_elim, inl, inr, ℕ, min, List, length, take, Option, Some, Result, Err, OnErr, refl, sym, ap, subst, ◌∙◌, arith}
+use Rattle.std.proofs.Common.{◌≡◌, ◌<◌, ◌≤◌, ◌⊎◌, ⊎_elim, inl, inr, ℕ, min, List, length, take, Option, Some, Result, Err, OnErr, Vec, Global, refl, sym, ap, subst, ◌∙◌, arith}
 use Rattle.std.proofs.lemmas.Bool.{cases_order}
 use Rattle.std.proofs.lemmas.List.{length-take}
 use Rattle.do_disk.specs.declared.depot.TheConstants.{MOST_TEXT_BYTES}
@@ -7,13 +7,13 @@ use Rattle.do_parse.specs.Fault.{IsFaultAt}
 use Rattle.do_lex.specs.declared.pieces.TheConstants.{LONGEST_SCRIPT}
 use Rattle.do_parse.specs.declared.fault.ParseKind.{ParseKind}
 use Rattle.do_parse.specs.declared.fault.ParseKind.TheVariants as wrong
-use Rattle.do_host.specs.EarlyEnds.{IsRefusedBy, IsStoppedBy, IsOpeningEnd, Refuses}
+use Rattle.do_host.specs.EarlyEnds.{IsRefusedBy, IsBarredBy, IsStoppedBy, IsScriptEnd, IsOpeningEnd, Refuses}
 use Rattle.do_host.specs.ScriptLines.{refused_line, IsRefusalLine, IsScriptLine}
 use Rattle.do_host.specs.Scripts.{parse_word, IsRefused, IsUnread, IsFaulty, IsFirstScript, IsOtherScript}
 use Rattle.do_host.specs.declared.early_end.EarlyEnd.{EarlyEnd}
-use Rattle.do_host.specs.declared.early_end.EarlyEnd.TheVariants.{Refused, Stopped}
+use Rattle.do_host.specs.declared.early_end.EarlyEnd.TheVariants.{Refused, BadSlot, Stopped}
 use Rattle.do_host.specs.declared.stop.Stop.{Stop}
-use Rattle.do_host.specs.declared.stop.Stop.TheVariants.{DiskFailed, NoMemory, BadSlot, NotBuilt}
+use Rattle.do_host.specs.declared.stop.Stop.TheVariants.{DiskFailed, NoMemory, NotBuilt}
 use Rattle.do_host.proofs.Mounted.{take_is_whole}
 
 -- an answer that is an end
@@ -30,11 +30,13 @@ pub line_at : {T : Type 0} (place : ℕ) (word : Option (List ℕ)) (end : Early
 line_at {T} place word (Refused bytes) refuses line (others, same, items) =
     let is : bytes ≡ others = cc in
     record { is = refuses.0; some = refuses.1; line_is = sym items ∙ sym (ap (λ b. b.items) is) ∙ refuses.2 }
+line_at {T} place word (BadSlot bytes) refuses line (others, same, items) = absurd refuses
 line_at {T} place word (Stopped stop) refuses line (others, same, items) = cc
 
 -- a refusal has its line, or memory was wanting
 pub ends_early : {T : Type 0} (place : ℕ) (word : Option (List ℕ)) (end : EarlyEnd) → Refuses place word end → ((line : List ℕ) × IsRefusedBy (ends {T = T} end) line) ⊎ IsStoppedBy (ends {T = T} end) NoMemory
 ends_early {T} place word (Refused bytes) refuses = inl (bytes.items, (bytes, refl, refl))
+ends_early {T} place word (BadSlot bytes) refuses = absurd refuses
 ends_early {T} place word (Stopped stop) refuses = inr (ap (λ s. ends {T = T} (Stopped s)) refuses)
 
 -- of a text that a script may be all was read
@@ -114,12 +116,25 @@ handed_refused {T} {U} result end line is (bytes, by, items) = same_refused {T =
 pub handed_stopped : {T U : Type 0} (result : Result U EarlyEnd) (end : EarlyEnd) (stop : Stop) → result ≡ ends {T = U} end → IsStoppedBy result stop → IsStoppedBy (ends {T = T} end) stop
 handed_stopped {T} {U} result end stop is by = same_stopped {T = U} {U = T} end stop (sym is ∙ by)
 
-same_opening : {T U : Type 0} (end : EarlyEnd) → IsOpeningEnd (ends {T = T} end) → IsOpeningEnd (ends {T = U} end)
-same_opening {T} {U} end is =
+same_script : {T U : Type 0} (end : EarlyEnd) → IsScriptEnd (ends {T = T} end) → IsScriptEnd (ends {T = U} end)
+same_script {T} {U} end is =
     ⊎_elim (λ refused. inl (refused.0, same_refused {T = T} {U = U} end refused.0 refused.1))
     (λ rest. inr (⊎_elim (λ disk. inl (same_stopped {T = T} {U = U} end DiskFailed disk))
-    (λ rest. inr (⊎_elim (λ memory. inl (same_stopped {T = T} {U = U} end NoMemory memory))
-    (λ rest. inr (⊎_elim (λ bad. inl (same_stopped {T = T} {U = U} end BadSlot bad)) (λ built. inr (same_stopped {T = T} {U = U} end NotBuilt built)) rest)) rest)) rest)) is
+    (λ rest. inr (⊎_elim (λ memory. inl (same_stopped {T = T} {U = U} end NoMemory memory)) (λ built. inr (same_stopped {T = T} {U = U} end NotBuilt built)) rest)) rest)) is
 
-pub handed_opening : {T U : Type 0} (result : Result U EarlyEnd) (end : EarlyEnd) → result ≡ ends {T = U} end → IsOpeningEnd (ends {T = T} end) → OnErr result (IsOpeningEnd result)
-handed_opening {T} {U} result end is opening = subst (λ r. OnErr r (IsOpeningEnd r)) (sym is) (same_opening {T = T} {U = U} end opening)
+pub handed_opening : {T U : Type 0} (result : Result U EarlyEnd) (end : EarlyEnd) → result ≡ ends {T = U} end → IsScriptEnd (ends {T = T} end) → OnErr result (IsOpeningEnd result)
+handed_opening {T} {U} result end is script = subst (λ r. OnErr r (IsOpeningEnd r)) (sym is) (inl (same_script {T = T} {U = U} end script))
+
+-- a script that isn't served is no bad slot
+refused_is_no_bar : {T : Type 0} (one other : Vec ℕ Global) → ends {T = T} (Refused one) ≡ ends {T = T} (BadSlot other) → ⊥
+refused_is_no_bar {T} one other same = cc
+
+stop_is_no_bar : {T : Type 0} (stop : Stop) (other : Vec ℕ Global) → ends {T = T} (Stopped stop) ≡ ends {T = T} (BadSlot other) → ⊥
+stop_is_no_bar {T} stop other same = cc
+
+pub script_not_barred : {T U : Type 0} (result : Result U EarlyEnd) (end : EarlyEnd) (line : List ℕ) → result ≡ ends {T = U} end → IsScriptEnd (ends {T = T} end) → IsBarredBy result line → ⊥
+script_not_barred {T} {U} result (Refused bytes) line is script barred = refused_is_no_bar {T = U} bytes barred.0 (sym is ∙ barred.1)
+script_not_barred {T} {U} result (BadSlot bytes) line is script barred =
+    ⊎_elim (λ refused. let e : ends {T = T} (Refused refused.1.0) ≡ ends {T = T} (BadSlot bytes) = sym refused.1.1 in refused_is_no_bar {T = T} refused.1.0 bytes e)
+    (λ rest. ⊎_elim (λ disk. stop_is_no_bar {T = T} DiskFailed bytes (sym disk)) (λ rest. ⊎_elim (λ memory. stop_is_no_bar {T = T} NoMemory bytes (sym memory)) (λ built. stop_is_no_bar {T = T} NotBuilt bytes (sym built)) rest) rest) script
+script_not_barred {T} {U} result (Stopped stop) line is script barred = stop_is_no_bar {T = U} stop barred.0 (sym is ∙ barred.1)

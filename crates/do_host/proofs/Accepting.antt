@@ -1,17 +1,17 @@
 -- The lines that were accepted are the first ones of those read.
 use Rattle.std.proofs.Common.{◌≡◌, ◌≤◌, ⊎_elim, ℕ, arith, List, [], ◌∷◌, ◌++◌, map, Option, sym, ap, subst, ◌∙◌, append_assoc}
 use Rattle.std.proofs.lemmas.List.{append-nil, map-append}
-use Rattle.do_host.specs.Going.{HasGiven}
-use Rattle.do_host.specs.Requests.{SeenLine}
-use Rattle.do_host.specs.Seen.{seen}
-use Rattle.do_host.specs.Lines.{IsReading, IsFirstOf, LooksAt}
+use Rattle.line_server.specs.Going.{HasGiven}
+use Rattle.line_server.specs.Requests.{SeenLine}
+use Rattle.line_server.specs.Seen.{seen}
+use Rattle.line_server.specs.Lines.{IsReading, IsFirstOf, LooksAt, source_of, count_of}
 use Rattle.do_host.specs.Served.{StopsAt}
 use Rattle.do_host.specs.Status.{status_of, most_waiting}
-use Rattle.do_host.specs.declared.line.Line.{Line}
-use Rattle.do_host.specs.declared.lines.Lines.{Lines}
+use Rattle.line_server.specs.declared.line.Line.{Line}
+use Rattle.line_server.specs.declared.lines.Lines.{Lines}
 use Rattle.do_host.specs.declared.stop.Stop.{Stop}
 use Rattle.do_host.specs.declared.switch_log.SwitchLog.{SwitchLog}
-use Rattle.do_host.proofs.Looking.{looked_fewer}
+use Rattle.line_server.proofs.Looking.{looked_fewer}
 use Rattle.do_host.proofs.Outcomes.{waiting_stop}
 
 -- a line more as contracts see it
@@ -36,7 +36,7 @@ reading_on left whole accepted more line lines e reading = subst (λ given. IsRe
 pub first_at_stop : {S : Type 0} (left : S → Option (List ℕ)) (whole : List ℕ) (object : Option (List ℕ × List ℕ)) (old new : SwitchLog) (line : Line) (stop : Stop) (lines : Lines S) → StopsAt object line old new stop
     → IsFirstOf left whole (map seen old.accepted.items ++ seen line ∷ []) lines → IsFirstOf left whole (map seen new.accepted.items) lines
 first_at_stop left whole object old new line stop lines stops first =
-    ⊎_elim (λ same. subst (λ given. IsFirstOf left whole given lines) (sym (ap (map seen) same.0)) (given_fewer whole (map seen old.accepted.items) (seen line ∷ []) (left lines.bytes.source) first))
+    ⊎_elim (λ same. subst (λ given. IsFirstOf left whole given lines) (sym (ap (map seen) same.0)) (given_fewer whole (map seen old.accepted.items) (seen line ∷ []) (left (source_of lines)) first))
     (λ one. subst (λ given. IsFirstOf left whole given lines) (sym (seen_on old.accepted.items new.accepted.items line one.0)) first) stops
 
 -- so many lines may wait, or more
@@ -55,7 +55,7 @@ pub looked_at_stop : {S : Type 0} (left : S → Option (List ℕ)) (whole : List
     → LooksAt left whole (map seen old.accepted.items ++ seen line ∷ []) 0 lines → LooksAt left whole (map seen new.accepted.items) (most_waiting (status_of stop)) lines
 looked_at_stop left whole object old new line stop lines stops looked =
     ⊎_elim (λ same. subst (λ given. LooksAt left whole given (most_waiting (status_of stop)) lines) (sym (ap (map seen) same.0))
-    (looked_fewer whole (map seen old.accepted.items) (seen line ∷ []) 0 (most_waiting (status_of stop)) lines.count (left lines.bytes.source) (waiting_stop stop same.1) looked))
+    (looked_fewer whole (map seen old.accepted.items) (seen line ∷ []) 0 (most_waiting (status_of stop)) (count_of lines) (left (source_of lines)) (waiting_stop stop same.1) looked))
     (λ one. subst (λ given. LooksAt left whole given (most_waiting (status_of stop)) lines) (sym (seen_on old.accepted.items new.accepted.items line one.0))
     (looked_more left whole (map seen old.accepted.items ++ seen line ∷ []) 0 (most_waiting (status_of stop)) lines (omega arith) looked)) stops
 

@@ -1,16 +1,4 @@
-pub mod Reading
-pub mod Cutting
-pub mod Taking
-pub mod Counts
-pub mod Keeping
-pub mod Given
-pub mod Looking
 pub mod Outcomes
-pub mod Values
-pub mod Putting
-pub mod Printing
-pub mod ReadOn
-pub mod Texts
 pub mod Switching
 pub mod Mounted
 pub mod Standing
@@ -23,3 +11,4 @@ pub mod Forms
 pub mod Accepted
 pub mod Names
 pub mod Ends
+pub mod Dumping

@@ -1,15 +1,12 @@
 -- What an answer's form gives, and which end each status is.
-use Rattle.std.proofs.Common.{◌≡◌, ◌≤◌, ◌⊎◌, ⊎_elim, ℕ, zero, suc, Option, Some, Vec, Global, Result, Ok, Err, OnOk, OnErr, refl, sym, subst, arith}
-use Rattle.std.specs.Prelude.{IfOk, IfErr, IfSome}
-use Rattle.do_host.specs.Lines.{most_left}
-use Rattle.do_host.specs.EarlyEnds.{IsOpeningEnd}
-use Rattle.do_host.specs.Status.{status_of, status_in, line_stop, IsStatus, IsOpeningStatus, IsCheckStatus, most_waiting}
-use Rattle.do_host.specs.declared.early_end.EarlyEnd.{EarlyEnd}
-use Rattle.do_host.specs.declared.early_end.EarlyEnd.TheVariants.{Refused, Stopped}
-use Rattle.do_host.specs.declared.fault.LineFault.{LineFault}
-use Rattle.do_host.specs.declared.fault.LineFault.TheVariants.{ReadFailed as LineFailed, NoMemory as NoLineMemory}
+use Rattle.std.proofs.Common.{◌≡◌, ◌≤◌, ◌⊎◌, ⊎_elim, ℕ, zero, suc, Option, Some, Result, Ok, Err, OnOk, OnErr, refl, sym, subst, arith}
+use Rattle.std.specs.Prelude.{IfOk, IfErr, IfSome, IsErrOf}
+use Rattle.line_server.specs.Lines.{most_left}
+use Rattle.do_host.specs.Status.{status_of, status_in, line_stop, IsStatus, IsCheckStatus, IsDumpStatus, most_waiting}
+use Rattle.line_server.specs.declared.fault.LineFault.{LineFault}
+use Rattle.line_server.specs.declared.fault.LineFault.TheVariants.{ReadFailed as LineFailed, NoMemory as NoLineMemory}
 use Rattle.do_host.specs.declared.stop.Stop.{Stop}
-use Rattle.do_host.specs.declared.stop.Stop.TheVariants.{DiskFailed, NoMemory, ReadFailed, WriteFailed, BadSlot, NotBuilt}
+use Rattle.do_host.specs.declared.stop.Stop.TheVariants.{DiskFailed, NoMemory, ReadFailed, WriteFailed, NotBuilt}
 
 -- a fact that holds after a good answer, or after a fault, from another one
 pub on_ok_map : {T E : Type 0} (result : Result T E) (P Q : Type 0) → (P → Q) → OnOk result P → OnOk result Q
@@ -29,6 +26,10 @@ if_ok_map (Err e) P Q f p = tt
 pub on_ok : {T E : Type 0} (result : Result T E) (P : Type 0) → P → OnOk result P
 on_ok (Ok x) P p = p
 on_ok (Err e) P p = tt
+
+-- a good answer is no fault
+pub good_is_no_fault : {T E : Type 0} (result : Result T E) (x : T) (e : E) → result ≡ Ok x → IsErrOf result e → ⊥
+good_is_no_fault result x e good failed = cc
 
 -- a fact that holds after any fault
 pub on_err : {T E : Type 0} (result : Result T E) (P : Type 0) → P → OnErr result P
@@ -55,7 +56,6 @@ good_end (Err DiskFailed) P none p = cc
 good_end (Err NoMemory) P none p = cc
 good_end (Err ReadFailed) P none p = cc
 good_end (Err WriteFailed) P none p = cc
-good_end (Err BadSlot) P none p = cc
 good_end (Err NotBuilt) P none p = cc
 
 -- status 3 is a disk's fault
@@ -65,7 +65,6 @@ disk_end (Err DiskFailed) three = refl
 disk_end (Err NoMemory) three = cc
 disk_end (Err ReadFailed) three = cc
 disk_end (Err WriteFailed) three = cc
-disk_end (Err BadSlot) three = cc
 disk_end (Err NotBuilt) three = cc
 
 -- status 8 is what isn't built
@@ -75,17 +74,7 @@ unbuilt_end (Err DiskFailed) eight = cc
 unbuilt_end (Err NoMemory) eight = cc
 unbuilt_end (Err ReadFailed) eight = cc
 unbuilt_end (Err WriteFailed) eight = cc
-unbuilt_end (Err BadSlot) eight = cc
 unbuilt_end (Err NotBuilt) eight = refl
-
--- status 3 of an opening is a disk's fault
-pub opening_failed : (stop : Stop) → status_of stop ≡ 3 → stop ≡ DiskFailed
-opening_failed DiskFailed three = refl
-opening_failed NoMemory three = cc
-opening_failed ReadFailed three = cc
-opening_failed WriteFailed three = cc
-opening_failed BadSlot three = cc
-opening_failed NotBuilt three = cc
 
 -- a run of lines that ends so
 abbrev ended : Stop → Result (Unit {0}) Stop
@@ -95,22 +84,9 @@ ended stop = Err stop
 pub end_is : (stop other : Stop) → ended stop ≡ ended other → stop ≡ other
 end_is stop other e = cc
 
--- an opening that ends so
-abbrev stopped : {T : Type 0} → Stop → Result T EarlyEnd
-stopped {T} stop = Err (Stopped stop)
-
 -- the answer of a fault
 abbrev fails : {T : Type 0} → LineFault → Result T LineFault
 fails {T} fault = Err fault
-
-other_line : {T : Type 0} (stop : Stop) (bytes : Vec ℕ Global) → stopped {T = T} stop ≡ Err (Refused bytes) → ⊥
-other_line stop bytes e = cc
-
--- a stop that is none of an opening
-no_opening : {T : Type 0} (stop : Stop) → (stop ≡ DiskFailed → ⊥) → (stop ≡ NoMemory → ⊥) → (stop ≡ BadSlot → ⊥) → (stop ≡ NotBuilt → ⊥) → IsOpeningEnd (stopped {T = T} stop) → ⊥
-no_opening {T} stop disk memory bad built is =
-    ⊎_elim (λ refused. absurd (other_line {T = T} stop refused.1.0 refused.1.1))
-    (λ rest. ⊎_elim (λ e. disk (cc)) (λ rest. ⊎_elim (λ e. memory (cc)) (λ others. ⊎_elim (λ e. bad (cc)) (λ e. built (cc)) others) rest) rest) is
 
 -- status 5 is a read fault
 pub read_end : (result : Result (Unit {0}) Stop) → status_in result ≡ 5 → result ≡ Err ReadFailed
@@ -119,17 +95,7 @@ read_end (Err DiskFailed) five = cc
 read_end (Err NoMemory) five = cc
 read_end (Err ReadFailed) five = refl
 read_end (Err WriteFailed) five = cc
-read_end (Err BadSlot) five = cc
 read_end (Err NotBuilt) five = cc
-
--- status 7 of an opening is a bad slot
-pub opening_bad : (stop : Stop) → status_of stop ≡ 7 → stop ≡ BadSlot
-opening_bad DiskFailed seven = cc
-opening_bad NoMemory seven = cc
-opening_bad ReadFailed seven = cc
-opening_bad WriteFailed seven = cc
-opening_bad BadSlot seven = refl
-opening_bad NotBuilt seven = cc
 
 -- each stop has a status
 pub stop_status : (stop : Stop) → IsStatus (status_of stop)
@@ -137,7 +103,6 @@ stop_status DiskFailed = (3, omega arith, refl)
 stop_status NoMemory = (4, omega arith, refl)
 stop_status ReadFailed = (5, omega arith, refl)
 stop_status WriteFailed = (6, omega arith, refl)
-stop_status BadSlot = (7, omega arith, refl)
 stop_status NotBuilt = (8, omega arith, refl)
 
 -- each end has a status
@@ -145,25 +110,13 @@ pub end_status : (result : Result (Unit {0}) Stop) → IsStatus (status_in resul
 end_status (Ok done) = (0, omega arith, refl)
 end_status (Err stop) = stop_status stop
 
--- words that aren't taken have a status, and so has a script that is refused
+-- words that aren't taken have a status
 pub usage_status : (status : ℕ) → (status ≡ 1) ⊎ (status ≡ 6) → IsStatus status
 usage_status status end = ⊎_elim (λ one. (1, omega arith, sym one)) (λ six. (6, omega arith, sym six)) end
 
-pub refused_status : (status : ℕ) → (status ≡ 2) ⊎ (status ≡ 6) → IsStatus status
-refused_status status end = ⊎_elim (λ two. (2, omega arith, sym two)) (λ six. (6, omega arith, sym six)) end
-
-pub refused_opening : (status : ℕ) → (status ≡ 2) ⊎ (status ≡ 6) → IsOpeningStatus status
-refused_opening status end = ⊎_elim (λ two. (0, omega arith, sym two)) (λ six. (3, omega arith, sym six)) end
-
 -- a check ends with one of its statuses
-pub refused_check : (status : ℕ) → (status ≡ 2) ⊎ (status ≡ 6) → IsCheckStatus status
-refused_check status end = ⊎_elim (λ two. (1, omega arith, sym two)) (λ six. (4, omega arith, sym six)) end
-
 pub told_check : (status : ℕ) → (status ≡ 0) ⊎ (status ≡ 6) → IsCheckStatus status
 told_check status end = ⊎_elim (λ none. (0, omega arith, sym none)) (λ six. (4, omega arith, sym six)) end
-
-pub stopped_check : (stop : Stop) → (stop ≡ DiskFailed) ⊎ (stop ≡ NoMemory) → IsCheckStatus (status_of stop)
-stopped_check stop is = ⊎_elim (λ e. rw e (2, omega arith, refl)) (λ e. rw e (3, omega arith, refl)) is
 
 pub check_status : (status : ℕ) → IsCheckStatus status → IsStatus status
 check_status status (zero, within, is) = (0, omega arith, is)
@@ -173,14 +126,18 @@ check_status status (suc (suc (suc zero)), within, is) = (4, omega arith, is)
 check_status status (suc (suc (suc (suc zero))), within, is) = (6, omega arith, is)
 check_status status (suc (suc (suc (suc (suc n)))), within, is) = absurd (omega (arith, within))
 
--- a stop of an opening has a status of one
-pub opening_status : {T : Type 0} (stop : Stop) → IsOpeningEnd (stopped {T = T} stop) → IsOpeningStatus (status_of stop)
-opening_status DiskFailed is = (1, omega arith, refl)
-opening_status NoMemory is = (2, omega arith, refl)
-opening_status ReadFailed is = absurd (no_opening ReadFailed (λ e. cc) (λ e. cc) (λ e. cc) (λ e. cc) is)
-opening_status WriteFailed is = absurd (no_opening WriteFailed (λ e. cc) (λ e. cc) (λ e. cc) (λ e. cc) is)
-opening_status BadSlot is = (4, omega arith, refl)
-opening_status NotBuilt is = (5, omega arith, refl)
+-- a dump ends with one of its statuses
+pub dumped_status : (status : ℕ) → (status ≡ 0) ⊎ (status ≡ 4) ⊎ (status ≡ 6) → IsDumpStatus status
+dumped_status status end =
+    ⊎_elim (λ none. (0, omega arith, sym none)) (λ rest. ⊎_elim (λ four. (2, omega arith, sym four)) (λ six. (3, omega arith, sym six)) rest) end
+
+pub dump_status : (status : ℕ) → IsDumpStatus status → IsStatus status
+dump_status status (zero, within, is) = (0, omega arith, is)
+dump_status status (suc zero, within, is) = (3, omega arith, is)
+dump_status status (suc (suc zero), within, is) = (4, omega arith, is)
+dump_status status (suc (suc (suc zero)), within, is) = (6, omega arith, is)
+dump_status status (suc (suc (suc (suc zero))), within, is) = (7, omega arith, is)
+dump_status status (suc (suc (suc (suc (suc n)))), within, is) = absurd (omega (arith, within))
 
 -- what a fault leaves looked at, the stop that it makes leaves waiting
 pub waiting_fault : (T : Type 0) (fault : LineFault) → most_left (fails {T = T} fault) ≤ most_waiting (status_of (line_stop fault))

@@ -14,12 +14,12 @@ use Rattle.do_host.specs.Switch.{of_slot, text_of, events_in}
 use Rattle.do_host.specs.Served.{Stands, IsLogged, IsBlank, HasWritten, WritesFirstOf}
 use Rattle.do_host.specs.Report.{object_in, IsSlotHistory, StaysWithin, IsQuiet, HasDisk, HasFailedStore}
 use Rattle.do_host.specs.Opened.{IsFresh, IsOpened, HasFailedDisk, row_of}
-use Rattle.do_host.specs.Going.{HasGiven}
-use Rattle.do_host.specs.Requests.{SeenLine}
+use Rattle.line_server.specs.Going.{HasGiven}
+use Rattle.line_server.specs.Requests.{SeenLine}
 use Rattle.do_host.specs.declared.report.Report.{Report}
 use Rattle.do_host.specs.declared.stop.Stop.{Stop}
 use Rattle.do_host.specs.declared.switch_log.SwitchLog.{SwitchLog}
-use Rattle.do_host.specs.declared.out_line.OutLine.{OutLine}
+use Rattle.line_server.specs.declared.out_line.OutLine.{OutLine}
 use Rattle.do_host.proofs.Standing.{logged_at}
 use Rattle.do_host.proofs.Written.{written_all}
 

@@ -10,7 +10,7 @@ use Rattle.object_core.specs.declared.timeline.Event.{Event}
 use Rattle.object_core.specs.declared.timeline.Message.{Message}
 use Rattle.do_host.specs.Switch.{of_slot, object_after, object_through, object_of_body, binds, call_posts, posts_at, posts_of, line_of, lines_of, events_in, messages_of}
 use Rattle.do_host.specs.Served.{Stands, IsLogged, SameSwitch, Routes}
-use Rattle.do_host.specs.declared.line.Line.{Line}
+use Rattle.line_server.specs.declared.line.Line.{Line}
 use Rattle.do_host.specs.declared.switch_log.SwitchLog.{SwitchLog}
 use Rattle.do_host.proofs.Switching.{of_slot_append, of_slot_more, object_on, posts_on}
 

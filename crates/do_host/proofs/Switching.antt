@@ -3,7 +3,7 @@ use Rattle.std.proofs.Common.{◌≡◌, ◌==◌, ℕ, List, [], ◌∷◌, ◌
 use Rattle.std.proofs.lemmas.List.{append-nil}
 use Rattle.object_core.specs.declared.timeline.Event.TheVariants.{Bind}
 use Rattle.do_host.specs.Switch.{of_slot, object_after, object_through, object_of_body, binds, posts_at, posts_of}
-use Rattle.do_host.specs.declared.line.Line.{Line}
+use Rattle.line_server.specs.declared.line.Line.{Line}
 
 -- an item more or not in front of two lists
 if_before : {X : Type 0} (b : Bool) (x : X) (xs ys zs : List X) → zs ≡ xs ++ ys → (if b then x ∷ zs else zs) ≡ (if b then x ∷ xs else xs) ++ ys

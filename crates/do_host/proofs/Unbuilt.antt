@@ -14,16 +14,16 @@ use Rattle.object_core.specs.declared.object.CallEnd.TheVariants.{DiskFailed as 
 use Rattle.object_core.specs.declared.object.Core.{Core}
 use Rattle.object_core.specs.declared.timeline.Message.{Message}
 use Rattle.do_host.specs.FirstForm.{IsFirstLine}
-use Rattle.do_host.specs.Lines.{IsReading, IsFirstOf}
+use Rattle.line_server.specs.Lines.{IsReading, IsFirstOf, source_of}
 use Rattle.do_host.specs.NotBuilt.{MeetsLimit, IsNotBuilt, AreFirstLines, IsFormed, EndsAtOdd, EndsAtLimit}
 use Rattle.do_host.specs.Opened.{IsFresh, IsOpened, row_of}
 use Rattle.do_host.specs.Report.{object_in}
-use Rattle.do_host.specs.Seen.{seen}
+use Rattle.line_server.specs.Seen.{seen}
 use Rattle.do_host.specs.Served.{Stands, IsBlank, StopsAt}
 use Rattle.do_host.specs.Status.{call_stop}
 use Rattle.do_host.specs.Switch.{object_after, object_through}
-use Rattle.do_host.specs.declared.line.Line.{Line}
-use Rattle.do_host.specs.declared.lines.Lines.{Lines}
+use Rattle.line_server.specs.declared.line.Line.{Line}
+use Rattle.line_server.specs.declared.lines.Lines.{Lines}
 use Rattle.do_host.specs.declared.switch_log.SwitchLog.{SwitchLog}
 use Rattle.do_host.proofs.Rows.{stands_first}
 use Rattle.do_host.specs.declared.stop.Stop.{Stop}
@@ -78,7 +78,7 @@ odd_through core log more line first stands same odd is =
 -- the row of a run that ends so
 pub row_not_built : {D S : Type 0} (moment_of : D → ℕ) (left_since : D → ℕ → List ℕ → Type 0) (told_by : D → Option (List ℕ)) (image : D → List ℕ → Type 0) (left : S → Option (List ℕ)) (content : Option (List ℕ)) (core next : Core D) (log more : SwitchLog)
     (input : S) (lines rest : Lines S) → IsOpened moment_of left_since told_by image content core → IsFresh core → IsBlank log → IfTold (left input) (λ whole. IsReading left whole [] lines)
-    → EndsAtOdd left core log more lines rest ⊎ EndsAtLimit moment_of left_since told_by image core next → IsNotBuilt content (left input) (left rest.bytes.source) more (row_of next)
+    → EndsAtOdd left core log more lines rest ⊎ EndsAtLimit moment_of left_since told_by image core next → IsNotBuilt content (left input) (left (source_of rest)) more (row_of next)
 row_not_built moment_of left_since told_by image left content core next log more input lines rest opened fresh blank reading cause = record {
   start = opened.start;
   recovered = opened.recovered;

@@ -3,10 +3,10 @@ use Rattle.std.proofs.Common.{◌≡◌, ◌≤◌, ◌+◌, ℕ, List, [], ◌�
 use Rattle.std.proofs.lemmas.List.{append-nil, length-append}
 use Rattle.std.proofs.lemmas.Grind.{flat_map-append}
 use Rattle.std.proofs.Math.Seq.{take-append-add, take-length}
-use Rattle.do_host.specs.Text.{text}
+use Rattle.line_server.specs.Text.{text}
 use Rattle.do_host.specs.Switch.{text_of}
 use Rattle.do_host.specs.Served.{HasWritten, WritesFirstOf}
-use Rattle.do_host.specs.declared.out_line.OutLine.{OutLine}
+use Rattle.line_server.specs.declared.out_line.OutLine.{OutLine}
 
 -- the text of a line more
 text_on : (lines : List OutLine) (line : OutLine) → text_of (lines ++ line ∷ []) ≡ text_of lines ++ text line

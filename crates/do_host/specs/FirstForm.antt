@@ -2,10 +2,10 @@
 use Rattle.std.specs.Prelude.{◌≡◌, ◌⊎◌, ℕ, List, Option, Some, None, Result, Ok, Err, codes}
 use Rattle.do_value.specs.declared.value.Value.{Value}
 use Rattle.object_core.specs.Serving.{AreSetArgs, AreReadArgs}
-use Rattle.do_host.specs.declared.line.Line.{Line}
-use Rattle.do_host.specs.declared.refusal.Refusal.{Refusal}
-use Rattle.do_host.specs.declared.request.Request.{Request}
-use Rattle.do_host.specs.declared.request.Request.TheVariants.{Call, Tick, Fetched, FetchFailed, Evict}
+use Rattle.line_server.specs.declared.line.Line.{Line}
+use Rattle.line_server.specs.declared.refusal.Refusal.{Refusal}
+use Rattle.line_server.specs.declared.request.Request.{Request}
+use Rattle.line_server.specs.declared.request.Request.TheVariants.{Call, Tick, Fetched, FetchFailed, Evict}
 
 -- the object is of the class C, and it is the slot's object, where the slot has one
 abbrev pub IsFor : Option (List ℕ × List ℕ) → List ℕ × List ℕ → Type 0

@@ -1,15 +1,3 @@
-pub mod Cut
-pub mod Reader
-pub mod Raw
-pub mod Given
-pub mod Taken
-pub mod Asked
-pub mod Requests
-pub mod Bodies
-pub mod Seen
-pub mod Going
-pub mod Lines
-pub mod Text
 pub mod FirstForm
 pub mod Scripts
 pub mod ScriptLines
@@ -20,5 +8,7 @@ pub mod Status
 pub mod Served
 pub mod Report
 pub mod Commands
+pub mod SlotLines
+pub mod Dump
 pub mod Opened
 pub mod NotBuilt

@@ -12,15 +12,15 @@ use Rattle.object_core.specs.declared.timeline.Event.{Event}
 use Rattle.object_core.specs.declared.front_log.FrontLog.{FrontLog}
 use Rattle.object_core.specs.declared.object.Core.{Core}
 use Rattle.do_host.specs.FirstForm.{IsFirstLine}
-use Rattle.do_host.specs.Going.{HasGiven}
-use Rattle.do_host.specs.Lines.{IsReading, IsFirstOf}
+use Rattle.line_server.specs.Going.{HasGiven}
+use Rattle.line_server.specs.Lines.{IsReading, IsFirstOf}
 use Rattle.do_host.specs.Report.{object_in}
-use Rattle.do_host.specs.Seen.{seen}
+use Rattle.line_server.specs.Seen.{seen}
 use Rattle.do_host.specs.Served.{Stands}
 use Rattle.do_host.specs.Switch.{object_after, object_through}
 use Rattle.do_host.specs.declared.TheConstants.{MOST_JOURNAL_BYTES}
-use Rattle.do_host.specs.declared.line.Line.{Line}
-use Rattle.do_host.specs.declared.lines.Lines.{Lines}
+use Rattle.line_server.specs.declared.line.Line.{Line}
+use Rattle.line_server.specs.declared.lines.Lines.{Lines}
 use Rattle.do_host.specs.declared.report.SlotReport.{SlotReport}
 use Rattle.do_host.specs.declared.switch_log.SwitchLog.{SwitchLog}
 

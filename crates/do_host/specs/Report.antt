@@ -27,9 +27,23 @@ IsCheck words script = words ≡ codes "check" ∷ script ∷ []
 abbrev pub AreCheckWords : List (List ℕ) → Type 0
 AreCheckWords words = (script : List ℕ) × IsCheck words script
 
--- the words are one of the two commands
+-- the words are `dump`, and a folder
+abbrev pub IsDump : List (List ℕ) → List ℕ → Type 0
+IsDump words folder = words ≡ codes "dump" ∷ folder ∷ []
+
+abbrev pub AreDumpWords : List (List ℕ) → Type 0
+AreDumpWords words = (folder : List ℕ) × IsDump words folder
+
+-- the words are one of the three commands
 abbrev pub AreCommandWords : List (List ℕ) → Type 0
-AreCommandWords words = AreServeWords words ⊎ AreCheckWords words
+AreCommandWords words = AreServeWords words ⊎ AreCheckWords words ⊎ AreDumpWords words
+
+-- the words are a command over the slots of this folder
+abbrev pub IsOverFolder : List (List ℕ) → List ℕ → Type 0
+IsOverFolder words folder = ((script : List ℕ) × IsServe words script folder) ⊎ IsDump words folder
+
+abbrev pub AreFolderWords : List (List ℕ) → Type 0
+AreFolderWords words = (folder : List ℕ) × IsOverFolder words folder
 
 -- the words are a command over the script at this path
 abbrev pub IsOverScript : List (List ℕ) → List ℕ → Type 0

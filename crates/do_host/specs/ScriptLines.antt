@@ -4,7 +4,7 @@ use Rattle.serde_json.specs.Data.{Data, unsigned, number, string, array, no_item
 use Rattle.serde_json.specs.View.{items_of}
 use Rattle.serde_json.specs.Written.{compact_text}
 use Rattle.do_tree.specs.Tree.{Class, Script}
-use Rattle.do_host.specs.Cut.{line_end}
+use Rattle.line_server.specs.Cut.{line_end}
 use Rattle.do_host.specs.Scripts.{IsAccepted, IsRefused}
 
 -- `["script-refused",place,kind]`: where the script's first fault stands, and what it is.

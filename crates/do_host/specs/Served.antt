@@ -7,8 +7,8 @@ use Rattle.object_core.specs.declared.timeline.Event.{Event}
 use Rattle.object_core.specs.declared.timeline.Message.{Message}
 use Rattle.do_host.specs.FirstForm.{IsFirstLine}
 use Rattle.do_host.specs.Switch.{of_slot, object_through, posts_of, line_of, lines_of, text_of, events_in, messages_of, IsSwitchRun, IsServedBy}
-use Rattle.do_host.specs.declared.line.Line.{Line}
-use Rattle.do_host.specs.declared.out_line.OutLine.{OutLine}
+use Rattle.line_server.specs.declared.line.Line.{Line}
+use Rattle.line_server.specs.declared.out_line.OutLine.{OutLine}
 use Rattle.do_host.specs.declared.stop.Stop.{Stop}
 use Rattle.do_host.specs.declared.stop.Stop.TheVariants.{NoMemory, NotBuilt}
 use Rattle.do_host.specs.declared.switch_log.SwitchLog.{SwitchLog}

@@ -4,14 +4,12 @@ use Rattle.std.specs.Prelude.{◌≢◌, ℕ, ◌==◌, ◌||◌, if◌then◌el
 use Rattle.std.specs.List.{Contains}
 use Rattle.do_disk.specs.declared.depot.DepotFault.{DepotFault}
 use Rattle.do_disk.specs.declared.depot.DepotFault.TheVariants.{Failed, NoMemory as NoDepotMemory}
-use Rattle.batch_journal.specs.declared.mount.MountFault.{MountFault}
-use Rattle.batch_journal.specs.declared.mount.MountFault.TheVariants.{DiskFailed as MountFailed, Foreign, Damaged, Mixed, NoMemory as NoMountMemory}
 use Rattle.object_core.specs.declared.object.CallEnd.{CallEnd}
 use Rattle.object_core.specs.declared.object.CallEnd.TheVariants.{DiskFailed as CallFailed, Full, NoMemory as NoCallMemory}
-use Rattle.do_host.specs.declared.fault.LineFault.{LineFault}
-use Rattle.do_host.specs.declared.fault.LineFault.TheVariants.{ReadFailed as LineFailed, NoMemory as NoLineMemory}
+use Rattle.line_server.specs.declared.fault.LineFault.{LineFault}
+use Rattle.line_server.specs.declared.fault.LineFault.TheVariants.{ReadFailed as LineFailed, NoMemory as NoLineMemory}
 use Rattle.do_host.specs.declared.stop.Stop.{Stop}
-use Rattle.do_host.specs.declared.stop.Stop.TheVariants.{DiskFailed, NoMemory, ReadFailed, WriteFailed, BadSlot, NotBuilt}
+use Rattle.do_host.specs.declared.stop.Stop.TheVariants.{DiskFailed, NoMemory, ReadFailed, WriteFailed, NotBuilt}
 
 -- a status that a run may end with: 0 for all lines served or a script that is accepted, 1 for words that aren't taken, and
 -- those above
@@ -26,10 +24,14 @@ IsOpeningStatus status = Contains (2 ∷ 3 ∷ 4 ∷ 6 ∷ 7 ∷ 8 ∷ []) statu
 abbrev pub IsCheckStatus : ℕ → Type 0
 IsCheckStatus status = Contains (0 ∷ 2 ∷ 3 ∷ 4 ∷ 6 ∷ []) status
 
--- a status at which a run that serves no line writes nothing: none of those of a line that tells of the words or the script, and
--- no write fault
+-- a status of `dump`
+abbrev pub IsDumpStatus : ℕ → Type 0
+IsDumpStatus status = Contains (0 ∷ 3 ∷ 4 ∷ 6 ∷ 7 ∷ []) status
+
+-- a status at which a run over no mounted slot writes nothing: none of those of a line that tells of the words, the script or
+-- the slot, and no write fault
 abbrev pub IsSilentStatus : ℕ → Type 0
-IsSilentStatus status = (status ≢ 0) × (status ≢ 1) × (status ≢ 2) × (status ≢ 6)
+IsSilentStatus status = (status ≢ 0) × (status ≢ 1) × (status ≢ 2) × (status ≢ 6) × (status ≢ 7)
 
 -- how many lines may have been looked at and not accepted: one where memory was wanting, or where it isn't built yet
 abbrev pub most_waiting : ℕ → ℕ
@@ -40,7 +42,6 @@ status_of DiskFailed = 3
 status_of NoMemory = 4
 status_of ReadFailed = 5
 status_of WriteFailed = 6
-status_of BadSlot = 7
 status_of NotBuilt = 8
 
 -- the status of a run of lines
@@ -61,11 +62,3 @@ call_stop NoCallMemory = NoMemory
 abbrev pub depot_stop : DepotFault → Stop
 depot_stop Failed = DiskFailed
 depot_stop NoDepotMemory = NoMemory
-
--- why a run stops where its slot isn't mounted
-abbrev pub mount_stop : {D : Type 0} → MountFault D → Stop
-mount_stop (MountFailed disk) = DiskFailed
-mount_stop (Foreign disk place) = BadSlot
-mount_stop (Damaged disk place) = BadSlot
-mount_stop (Mixed disk first other) = BadSlot
-mount_stop (NoMountMemory disk) = NoMemory

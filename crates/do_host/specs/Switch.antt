@@ -14,13 +14,13 @@ use Rattle.object_core.specs.declared.front_log.FrontLog.{FrontLog}
 use Rattle.object_core.specs.declared.back_log.BackLog.{BackLog}
 use Rattle.do_value.specs.declared.value.Value.{Value}
 use Rattle.object_core.specs.declared.timeline.Failure.{Failure}
-use Rattle.do_host.specs.Text.{text}
-use Rattle.do_host.specs.declared.line.Line.{Line}
-use Rattle.do_host.specs.declared.refusal.Refusal.{Refusal}
-use Rattle.do_host.specs.declared.request.Request.{Request}
-use Rattle.do_host.specs.declared.request.Request.TheVariants.{Call, Tick, Fetched, FetchFailed, Evict}
-use Rattle.do_host.specs.declared.out_line.OutLine.{OutLine}
-use Rattle.do_host.specs.declared.out_line.OutLine.TheVariants.{Reply}
+use Rattle.line_server.specs.Text.{text}
+use Rattle.line_server.specs.declared.line.Line.{Line}
+use Rattle.line_server.specs.declared.refusal.Refusal.{Refusal}
+use Rattle.line_server.specs.declared.request.Request.{Request}
+use Rattle.line_server.specs.declared.request.Request.TheVariants.{Call, Tick, Fetched, FetchFailed, Evict}
+use Rattle.line_server.specs.declared.out_line.OutLine.{OutLine}
+use Rattle.line_server.specs.declared.out_line.OutLine.TheVariants.{Reply}
 use Rattle.do_host.specs.declared.switch_log.SwitchLog.{SwitchLog}
 
 -- the items of this slot, in order

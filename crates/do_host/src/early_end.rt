@@ -1,4 +1,4 @@
-// Why a run ends before it serves.
+// Why a run ends before it serves or prints a slot.
 use crate::stop::Stop;
 use do_disk::DepotFault;
 use do_value::NoMemory;
@@ -7,6 +7,8 @@ use do_value::NoMemory;
 pub(crate) enum EarlyEnd {
     // The script is refused. The line says where and why.
     Refused(Vec<u8>),
+    // The slot's file is foreign, damaged or mixed. The line says which, and where or with which objects.
+    BadSlot(Vec<u8>),
     Stopped(Stop),
 }
 

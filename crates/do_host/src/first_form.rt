@@ -5,9 +5,8 @@ ghost use Rattle.object_core.specs.Serving.{AreSetArgs, AreReadArgs, IsStorable}
 ghost use Rattle.do_host.specs.FirstForm.{IsFirstLine, IsFirstCall, IsFor};
 ghost use Rattle.do_host.specs.Switch.{method_number as number_of, call_posts, object_of_body};
 
-use crate::line::Line;
-use crate::request::Request;
 use do_value::{Mem, Text, Value};
+use line_server::{Line, Request};
 use object_core::{Caller, Event};
 use storage_map::{Identity, MOST_KEY_BYTES, MOST_STORED_BYTES};
 

@@ -7,11 +7,10 @@ ghost use Rattle.do_host.specs.Switch.{binds, call_posts, object_of_body};
 ghost use Rattle.do_host.specs.Served.{Stands, SameSwitch, HasPostRoom};
 
 use crate::first_form::call_event;
-use crate::line::Line;
-use crate::request::Request;
 use crate::switch_log::SwitchLog;
 use do_disk::Disk;
 use do_value::{Mem, NoMemory};
+use line_server::{Line, Request};
 use object_core::{Core, Event};
 use storage_map::Identity;
 

@@ -19,7 +19,7 @@ pub struct Report<S> {
     pub lines: u64,
 }
 
-/// A slot: its disk, the logs of its object since it was mounted, and its object, where it has one.
+/// A slot: its disk, the logs of its object since it was mounted, which `dump` leaves empty, and its object, where it has one.
 #[derive(Drop)]
 pub struct SlotReport<S> {
     pub store: S,

@@ -2,17 +2,15 @@
 ghost use Rattle.std.specs.Prelude.{◌≡◌, ◌⊎◌, ◌++◌, ◌∷◌, [], ℕ, List, Option, Err, IfOk, IfSome, OnOk, OnErr, IsErrOf, option_map};
 ghost use Rattle.do_disk.specs.Disk.{Rose};
 ghost use Rattle.do_host.specs.Switch.{line_of, text_of};
-ghost use Rattle.do_host.specs.Text.{text as text_in};
+ghost use Rattle.line_server.specs.Text.{text as text_in};
 ghost use Rattle.do_host.specs.Served.{SameSwitch, HasRouteRoom, HasWritten, WritesFirstOf, Routes};
 ghost use Rattle.std.specs.Option.{option_to_list};
 
-use crate::out_line::OutLine;
 use crate::stop::Stop;
 use crate::switch_log::SwitchLog;
-use crate::text::print;
-use crate::write::put;
 use do_disk::Sink;
 use do_value::{Mem, NoMemory};
+use line_server::{OutLine, print, put};
 use object_core::{Caller, Message};
 use std::alloc::Global;
 

@@ -2,7 +2,7 @@
 ghost use Rattle.std.specs.Prelude.{◌≡◌, ◌⊎◌, ◌++◌, ◌∷◌, [], ℕ, List, IfOk, OnOk, OnErr};
 ghost use Rattle.do_disk.specs.Disk.{IfTold, Rose};
 ghost use Rattle.do_disk.specs.Asks.{for_text};
-ghost use Rattle.do_host.specs.EarlyEnds.{IsRefusedBy, IsStoppedBy, IsOpeningEnd};
+ghost use Rattle.do_host.specs.EarlyEnds.{IsRefusedBy, IsStoppedBy, IsScriptEnd};
 ghost use Rattle.do_host.specs.Opened.{Asks};
 ghost use Rattle.do_host.specs.ScriptLines.{IsRefusalLine, IsScriptLine};
 ghost use Rattle.do_host.specs.Scripts.{IsFirstScript, IsOtherScript};
@@ -29,10 +29,9 @@ pub(crate) fn first_script<P: Depot>(
     ensures asked { Asks (P.asked depot.old) (P.asked depot.new) (for_text path.now ∷ []) }
     ensures whole { OnOk result (P.asked depot.new ≡ P.asked depot.old ++ for_text path.now ∷ []) }
     ensures same_slots { (folder : List ℕ) (number : ℕ) → P.slot_at depot.new folder number ≡ P.slot_at depot.old folder number }
-    ensures end { OnErr result (IsOpeningEnd result) }
+    ensures end { OnErr result (IsScriptEnd result) }
     ensures failed { IsStoppedBy result Stop.DiskFailed → Rose (P.faults_of depot.old) (P.faults_of depot.new) }
     ensures steady { OnOk result (P.faults_of depot.new ≡ P.faults_of depot.old) }
-    ensures no_slot { IsStoppedBy result Stop.BadSlot → ⊥ }
     ensures first_script { OnOk result (IfTold (P.text_at depot.old path.now) IsFirstScript) }
     ensures not_built { IsStoppedBy result Stop.NotBuilt → IfTold (P.text_at depot.old path.now) IsOtherScript }
     ensures refused { (line : List ℕ) → IsRefusedBy result line → IfTold (P.text_at depot.old path.now) (λ text. IsRefusalLine text line) }

@@ -4,8 +4,8 @@ ghost use Rattle.serde_json.specs.View.{view};
 ghost use Rattle.do_tree.specs.Seen.{script_of, class_of};
 ghost use Rattle.do_host.specs.ScriptLines as spec;
 
-use crate::text::json_text;
 use do_tree::{Class, Script};
+use line_server::json_text;
 use serde_json::{Value as Json, json};
 use std::alloc::{AllocError, Global};
 

@@ -4,24 +4,23 @@ ghost use Rattle.do_disk.specs.Disk.{Rose};
 ghost use Rattle.batch_journal.specs.Frames.{Frame};
 ghost use Rattle.object_core.specs.Serving.{IsServing, IsWithinLimit, CanServe, IsHistoryOf, limit_in, object_of, disk_of};
 ghost use Rattle.do_host.specs.FirstForm.{IsFirstLine};
-ghost use Rattle.do_host.specs.Cut.{lines as all_lines};
-ghost use Rattle.do_host.specs.Requests.{SeenLine, requests, through};
-ghost use Rattle.do_host.specs.Seen.{seen};
-ghost use Rattle.do_host.specs.Lines.{IsReading, IsFirstOf, LooksAt, source_of, count_of, fault_of};
+ghost use Rattle.line_server.specs.Cut.{lines as all_lines};
+ghost use Rattle.line_server.specs.Requests.{SeenLine, requests, through};
+ghost use Rattle.line_server.specs.Seen.{seen};
+ghost use Rattle.line_server.specs.Lines.{IsReading, IsFirstOf, LooksAt, source_of, count_of, fault_of};
 ghost use Rattle.do_host.specs.Switch.{text_of};
 ghost use Rattle.do_host.specs.NotBuilt.{AreFirstLines, IsOddTo, EndsAtOdd, EndsAtLimit};
 ghost use Rattle.do_host.specs.Served.{Stands, IsLogged, IsBlank, StopsAt, HasWritten, WritesFirstOf};
 ghost use Rattle.do_host.specs.Status.{status_in, most_waiting};
-ghost use Rattle.do_host.specs.declared.TheConstants.{MOST_LINES};
+ghost use Rattle.line_server.specs.declared.TheConstants.{MOST_LINES};
 
 use crate::first_form::is_first_form;
-use crate::line::Line;
-use crate::lines::Lines;
 use crate::posting::post;
 use crate::routing::route;
 use crate::stop::Stop;
 use crate::switch_log::SwitchLog;
 use do_disk::{Disk, Sink, Source};
+use line_server::{Line, Lines};
 use object_core::Core;
 use std::alloc::Global;
 
@@ -56,7 +55,6 @@ pub(crate) fn serve<D: Disk, R: Source, W: Sink>(
     ensures read_serving { IsErrOf result Stop.ReadFailed → (since : ℕ) (start : List Frame) → IsServing D.moment_of D.left_since D.told D.image since start core.old → IsServing D.moment_of D.left_since D.told D.image since start core.new }
     ensures read_written { IsErrOf result Stop.ReadFailed → HasWritten (W.taken out.old) (W.taken out.new) log.new.lines.items }
     ensures write_failed { IsErrOf result Stop.WriteFailed → Rose (W.faults_of out.old) (W.faults_of out.new) }
-    ensures good_slot { IsErrOf result Stop.BadSlot → ⊥ }
     ensures not_built { IsErrOf result Stop.NotBuilt → EndsAtOdd R.left core.old log.old log.new lines.old lines.new ⊎ EndsAtLimit D.moment_of D.left_since D.told D.image core.old core.new }
     ensures sink_steady { (IsErrOf result Stop.WriteFailed → ⊥) → W.faults_of out.new ≡ W.faults_of out.old }
 {
@@ -90,7 +88,6 @@ fn answer<D: Disk, W: Sink>(
     ensures same_limit { limit_in core.new ≡ limit_in core.old }
     ensures no_read { IsErrOf result Stop.ReadFailed → ⊥ }
     ensures write_failed { IsErrOf result Stop.WriteFailed → Rose (W.faults_of out.old) (W.faults_of out.new) }
-    ensures good_slot { IsErrOf result Stop.BadSlot → ⊥ }
     ensures not_built { IsErrOf result Stop.NotBuilt → IsOddTo line core.old core.new log.old log.new ⊎ EndsAtLimit D.moment_of D.left_since D.told D.image core.old core.new }
     ensures sink_steady { (IsErrOf result Stop.WriteFailed → ⊥) → W.faults_of out.new ≡ W.faults_of out.old }
 {

@@ -1,7 +1,7 @@
 // Why a run ends before its last line.
-use crate::fault::LineFault;
 use do_disk::{DepotFault, Failed};
 use do_value::NoMemory;
+use line_server::LineFault;
 use object_core::CallEnd;
 
 #[derive(Clone, Copy, Debug, Drop, PartialEq, Eq)]
@@ -11,8 +11,6 @@ pub(crate) enum Stop {
     NoMemory,
     ReadFailed,
     WriteFailed,
-    // The slot's file is foreign, damaged or mixed.
-    BadSlot,
     // What is asked for isn't built yet.
     NotBuilt,
 }
@@ -29,7 +27,6 @@ impl Stop {
             Stop::NoMemory => 4,
             Stop::ReadFailed => 5,
             Stop::WriteFailed => 6,
-            Stop::BadSlot => 7,
             Stop::NotBuilt => 8,
         }
     }

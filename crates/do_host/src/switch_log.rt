@@ -1,8 +1,7 @@
 //! What passed between the lines and the objects.
 ghost use Rattle.std.specs.Prelude.{◌≡◌, []};
 
-use crate::line::Line;
-use crate::out_line::OutLine;
+use line_server::{Line, OutLine};
 use object_core::{Event, Message};
 use std::alloc::Global;
 

@@ -8,6 +8,8 @@ pub(crate) enum Command<'a> {
     Serve(ServeWords<'a>),
     // Tells of the script at this path.
     Check(&'a str),
+    // Prints what the slots of this folder have.
+    Dump(&'a str),
     // The words are no command.
     Unknown,
 }
@@ -19,7 +21,7 @@ pub(crate) struct ServeWords<'a> {
     pub(crate) folder: &'a str,
 }
 
-// The command `serve SCRIPT FOLDER` or `check SCRIPT`.
+// The command `serve SCRIPT FOLDER`, `check SCRIPT` or `dump FOLDER`.
 pub(crate) fn command_of(words: &[String]) -> Command<'_>
     ensures { IsCommand (map string_bytes words.now) result }
 {
@@ -29,6 +31,7 @@ pub(crate) fn command_of(words: &[String]) -> Command<'_>
             folder: folder.as_str(),
         }),
         [check, script] if is_check(check.as_str()) => Command::Check(script.as_str()),
+        [dump, folder] if is_dump(dump.as_str()) => Command::Dump(folder.as_str()),
         _ => Command::Unknown,
     }
 }
@@ -43,4 +46,10 @@ fn is_check(word: &str) -> bool
     ensures { IsTrue result ↔ word.now ≡ codes "check" }
 {
     word == "check"
+}
+
+fn is_dump(word: &str) -> bool
+    ensures { IsTrue result ↔ word.now ≡ codes "dump" }
+{
+    word == "dump"
 }

@@ -10,3 +10,6 @@ pub mod Allowed
 pub mod Measured
 pub mod WithPair
 pub mod Again
+pub mod Changed
+pub mod Placed
+pub mod ChangedPairs

@@ -65,7 +65,7 @@ fn fields_of(pairs: Vec<(Text, Value)>) -> Result<Value, BuildFault>
 }
 
 // Whether a list or record of this size, whose parts have at most this depth, is within the limits.
-fn within_limits(size: u64, part_depth: u32) -> Result<(), BuildFault>
+pub(crate) fn within_limits(size: u64, part_depth: u32) -> Result<(), BuildFault>
     ensures { result ≡ allowed (1 + part_depth) size tt }
 {
     if part_depth >= MOST_LEVELS {

@@ -93,7 +93,7 @@ impl Model for Fields {
 }
 
 impl Items {
-    ghost use Rattle.do_value.specs.Tree.{items};
+    ghost use Rattle.do_value.specs.Tree.{items, size_of};
     ghost use Rattle.do_value.specs.Seen.{trees_in};
     ghost use Rattle.do_value.specs.Sound.{IsValue};
 
@@ -104,11 +104,19 @@ impl Items {
     {
         self.values.as_slice()
     }
+
+    /// How many bytes the encoding of the list has. It is at hand and isn't counted anew.
+    pub fn size(&self) -> u64
+        ensures value { result ≡ size_of (items self.now) }
+        ensures within { IsValue (items self.now) }
+    {
+        self.size
+    }
 }
 
 impl Fields {
     ghost use Rattle.std.specs.Prelude.{option_map};
-    ghost use Rattle.do_value.specs.Tree.{fields};
+    ghost use Rattle.do_value.specs.Tree.{fields, size_of};
     ghost use Rattle.do_value.specs.Keyed.{IsAscending, value_at};
     ghost use Rattle.do_value.specs.Seen.{tree_of, pairs_in};
     ghost use Rattle.do_value.specs.Sound.{IsValue};
@@ -120,6 +128,14 @@ impl Fields {
         ensures within { IsValue (fields self.now) }
     {
         self.pairs.as_slice()
+    }
+
+    /// How many bytes the encoding of the record has. It is at hand and isn't counted anew.
+    pub fn size(&self) -> u64
+        ensures value { result ≡ size_of (fields self.now) }
+        ensures within { IsValue (fields self.now) }
+    {
+        self.size
     }
 
     /// The value of the key, `None` exactly where no pair has it.

@@ -1,4 +1,4 @@
-// Runs over the files that earlier runs and their crashes left, and over files of other bytes.
+// Runs over the files that earlier runs and their crashes left.
 ghost use Rattle.std.specs.Prelude.{◌<◌};
 
 use crate::run_tests::{ONE_PUT, Outcome, expect, lines, lines_until, served_over};
@@ -146,30 +146,6 @@ fn every_image_at_every_stop_holds_what_replies_follow(rt: HostRuntime) -> Resul
         for pick in [Pick::AsRead, Pick::AsSynced, Pick::Torn(0), Pick::Torn(165)] {
             expect_held(&rt, rt.alloc(), stop, pick)?;
         }
-    }
-    Ok(())
-}
-
-// The slot of this file is refused, and its disk is kept as it was.
-fn expect_bad(rt: &impl Abort, alloc: Global, file: &[u8]) -> Result<(), Fail> {
-    let outcome = served_over(alloc, lines(SET_K), file)?;
-    expect(rt, &outcome, 7, "");
-    assert!(rt; outcome.1.slots.is_empty());
-    assert_eq!(rt;
-        outcome.1.unopened.as_ref().map(MemDisk::content),
-        Some(file)
-    );
-    Ok(())
-}
-
-#[test]
-fn files_that_are_no_journal_are_bad_slots(rt: HostRuntime) -> Result<(), Fail> {
-    let mut changed = ONE_PUT;
-    changed[25] ^= 1;
-    expect_bad(&rt, rt.alloc(), &[0; 17])?;
-    expect_bad(&rt, rt.alloc(), &changed)?;
-    for count in [2, 15, 16, 85] {
-        expect_bad(&rt, rt.alloc(), &ONE_PUT[..count])?;
     }
     Ok(())
 }

@@ -4,6 +4,8 @@
 #[cfg(test)]
 mod crash_tests;
 #[cfg(test)]
+mod dump_tests;
+#[cfg(test)]
 mod edge_tests;
 #[cfg(test)]
 mod line_tests;

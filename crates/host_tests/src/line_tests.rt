@@ -1,8 +1,8 @@
 ghost use Rattle.std.specs.Prelude.{◌≤◌};
 
 use do_disk::{Fails, MemSink, MemSource};
-use do_host::{LineFault, Lines, OutLine, Refusal, Request, print, put};
 use do_value::{Num, Text, Value};
+use line_server::{LineFault, Lines, OutLine, Refusal, Request, print, put};
 use std::alloc::Global;
 use std::test::Fail;
 

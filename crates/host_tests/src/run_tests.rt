@@ -208,6 +208,7 @@ fn other_words_are_usage(rt: HostRuntime) -> Result<(), Fail> {
     expect_usage(&rt, rt.alloc(), &["serve", "s", "f", "g"])?;
     expect_usage(&rt, rt.alloc(), &["check"])?;
     expect_usage(&rt, rt.alloc(), &["check", "s", "f"])?;
+    expect_usage(&rt, rt.alloc(), &["dump"])?;
     expect_usage(&rt, rt.alloc(), &["dump", "s", "f"])
 }
 

@@ -14,7 +14,7 @@ use Rattle.object_core.specs.Told.{told, event_says, stored_by}
 use Rattle.object_core.specs.Turn.{turn_says, turn_entries, SameFront, SameBack}
 use Rattle.object_core.specs.Kept.{NameOnly, RecoversTo, RecoversToPrefix}
 use Rattle.object_core.specs.Within.{AreWithin}
-use Rattle.object_core.specs.History.{line, needs_of, IsFirst, IsHistory}
+use Rattle.object_core.specs.History.{line, needs_of, IsFirst, AreEmpty, IsHistory}
 use Rattle.object_core.specs.Serving.{IsMounted, IsServing}
 use Rattle.object_core.specs.declared.timeline.Event.{Event}
 use Rattle.object_core.specs.declared.timeline.Message.{Message}
@@ -28,20 +28,6 @@ use Rattle.object_core.proofs.Logged.{Logs, still_first, turn_spoken, numbered_o
 use Rattle.storage_map.proofs.Folds.{value_after-append}
 use Rattle.object_core.specs.declared.timeline.Entry.{Entry}
 use Rattle.object_core.proofs.Histories.{goes_on, releases, leaves_weaker, leaves_same}
-
--- the logs of a core that has done nothing
-pub record IsFresh (front : FrontLog) (back : BackLog) : Type 0 where
-  pub delivered : front.delivered.items ≡ []
-  pub downed : front.downed.items ≡ []
-  pub dropped : front.dropped.items ≡ []
-  pub sent : front.sent.items ≡ []
-  pub ends : front.ends.items ≡ []
-  pub taken : back.taken.items ≡ []
-  pub flights : back.flights.items ≡ []
-  pub stops : back.stops.items ≡ []
-  pub released : back.released.items ≡ []
-  pub kept : back.ends.items ≡ []
-  pub downs : back.downs.items ≡ []
 
 -- a release changes nothing of what is the first incarnation's
 pub released_first : (front : FrontLog) (back later_back : BackLog) → IsFirst front back → later_back ≡ record back { released = later_back.released } → IsFirst front later_back
@@ -68,7 +54,7 @@ module _ {D : Type 0} (moment_of : D → ℕ) (left_since : D → ℕ → List �
     (only_now : (disk : D) (c : List ℕ) → left_since disk (moment_of disk) c → image disk c)
     (counts_now : (disk : D) (t : ℕ) (c : List ℕ) → t ≤ moment_of disk → image disk c → left_since disk t c) (since : ℕ) (start : List Frame) where
   -- the history of fresh logs
-  fresh_history : (mounted : Mounted D) (front : FrontLog) (back : BackLog) → IsMounted moment_of left_since told_by image since start mounted → IsFresh front back
+  fresh_history : (mounted : Mounted D) (front : FrontLog) (back : BackLog) → IsMounted moment_of left_since told_by image since start mounted → AreEmpty front back
       → IsHistory moment_of left_since image since start mounted.journal.disk mounted.identity front back
   fresh_history mounted front back m fresh = record {
     said = rw (fresh.sent, fresh.delivered) refl;
@@ -97,7 +83,7 @@ module _ {D : Type 0} (moment_of : D → ℕ) (left_since : D → ℕ → List �
       none c recovers = (0, omega arith, omega arith, subst (λ all. RecoversTo mounted.identity all c) (sym (append-nil (batches_in start))) recovers)
 
   -- a core over a slot that was just mounted
-  pub first_serves : (mounted : Mounted D) (core : Core D) → core.journal ≡ mounted.journal → core.map ≡ mounted.map → core.identity ≡ mounted.identity → IsFresh core.front core.back
+  pub first_serves : (mounted : Mounted D) (core : Core D) → core.journal ≡ mounted.journal → core.map ≡ mounted.map → core.identity ≡ mounted.identity → AreEmpty core.front core.back
       → IsMounted moment_of left_since told_by image since start mounted → IsServing moment_of left_since told_by image since start core
   first_serves mounted core journal map_is identity fresh m =
       let history : IsHistory moment_of left_since image since start mounted.journal.disk mounted.identity core.front core.back = fresh_history mounted core.front core.back m fresh in

@@ -36,6 +36,20 @@ pub record IsFirst (front : FrontLog) (back : BackLog) : Type 0 where
   pub kept : back.ends.items ≡ []
   pub downs : back.downs.items ≡ []
 
+-- nothing has happened: nothing was delivered, said, taken, written or released, and no incarnation has ended
+pub record AreEmpty (front : FrontLog) (back : BackLog) : Type 0 where
+  pub delivered : front.delivered.items ≡ []
+  pub downed : front.downed.items ≡ []
+  pub dropped : front.dropped.items ≡ []
+  pub sent : front.sent.items ≡ []
+  pub ends : front.ends.items ≡ []
+  pub taken : back.taken.items ≡ []
+  pub flights : back.flights.items ≡ []
+  pub stops : back.stops.items ≡ []
+  pub released : back.released.items ≡ []
+  pub kept : back.ends.items ≡ []
+  pub downs : back.downs.items ≡ []
+
 -- What the logs of an object tell, and what a crash of its disk leaves, since a moment at which the disk had the frames of
 -- the start.
 pub record IsHistory {D : Type 0} (moment_of : D → ℕ) (left_since : D → ℕ → List ℕ → Type 0) (image : D → List ℕ → Type 0)

@@ -7,6 +7,7 @@ use Rattle.do_value.specs.declared.value.Value.TheVariants.{Undefined, Null, Boo
 use Rattle.storage_map.specs.Limits.{most_key_bytes, most_stored_bytes}
 use Rattle.batch_journal.specs.Frames.{Frame, batches_in}
 use Rattle.batch_journal.specs.Rest.{IsAtRest, IsStaged, needed}
+use Rattle.storage_map.specs.Contents.{Contents}
 use Rattle.storage_map.specs.Stored.{value_in}
 use Rattle.batch_journal.specs.declared.mount.Mounted.{Mounted}
 use Rattle.object_core.specs.Said.{spoken, batches_of, operations, messages_in}
@@ -30,6 +31,9 @@ object_of core = core.identity
 
 abbrev pub disk_of : {D : Type 0} → Core D → D
 disk_of core = core.journal.disk
+
+abbrev pub map_of : {D : Type 0} → Core D → Contents
+map_of core = core.map
 
 abbrev pub front_of : {D : Type 0} → Core D → FrontLog
 front_of core = core.front

@@ -1,9 +1,10 @@
 //! One object: its journal, its map and its logs.
-ghost use Rattle.std.specs.Prelude.{◌≡◌, [], ℕ, List, option_map};
+ghost use Rattle.std.specs.Prelude.{◌≡◌, ℕ, List, option_map};
 ghost use Rattle.batch_journal.specs.Frames.{Frame};
 ghost use Rattle.batch_journal.specs.Recovery.{Recovers};
 ghost use Rattle.batch_journal.specs.Rest.{limit_of};
-ghost use Rattle.object_core.specs.Serving.{IsMounted, IsServing, IsWithinLimit, limit_in, object_of, disk_of, front_of, back_of};
+ghost use Rattle.object_core.specs.History.{AreEmpty};
+ghost use Rattle.object_core.specs.Serving.{IsMounted, IsServing, IsWithinLimit, limit_in, object_of, disk_of, map_of, front_of, back_of};
 
 use crate::back_log::BackLog;
 use crate::front_log::FrontLog;
@@ -25,11 +26,12 @@ pub struct Core<D> {
     pub(crate) back: BackLog,
 }
 
-/// What a core leaves: its disk, its object, where it has one, and its logs.
+/// What a core leaves: its disk, its object, where it has one, what its storage contains, and its logs.
 #[derive(Drop)]
 pub struct CoreParts<D> {
     pub disk: D,
     pub identity: Option<Identity>,
+    pub map: Map,
     pub front: FrontLog,
     pub back: BackLog,
 }
@@ -83,8 +85,8 @@ impl<D: Disk> Core<D> {
         ensures object { object_of result ≡ mounted.identity }
         ensures disk { disk_of result ≡ mounted.journal.disk }
         ensures limit { limit_in result ≡ limit_of mounted.journal }
-        ensures delivered { (front_of result).delivered.items ≡ [] }
-        ensures released { (back_of result).released.items ≡ [] }
+        ensures map { map_of result ≡ mounted.map }
+        ensures empty { AreEmpty (front_of result) (back_of result) }
     {
         Core {
             alloc,
@@ -103,16 +105,18 @@ impl<D: Disk> Core<D> {
         self.identity.as_ref()
     }
 
-    /// The disk, the object and the logs, after a refused call too.
+    /// The disk, the object, the map and the logs, after a refused call too.
     pub fn into_parts(self) -> CoreParts<D>
         ensures disk { result.disk ≡ disk_of self }
         ensures object { result.identity ≡ object_of self }
+        ensures map { result.map ≡ map_of self }
         ensures front { result.front ≡ front_of self }
         ensures back { result.back ≡ back_of self }
     {
         CoreParts {
             disk: self.journal.into_disk(),
             identity: self.identity,
+            map: self.map,
             front: self.front,
             back: self.back,
         }

@@ -1,5 +1,5 @@
 //! The calls that read their arguments alone.
-ghost use Rattle.std.specs.Prelude.{◌≡◌, ◌+◌, ◌≤◌, nat_eq, false, [], codes, length, Ok};
+ghost use Rattle.std.specs.Prelude.{◌≡◌, ◌+◌, ◌*◌, ◌≤◌, nat_eq, false, [], codes, length, Ok};
 ghost use Rattle.std.specs.List.{starts_with, ends_with};
 ghost use Rattle.do_value.specs.Limits.{most_bytes};
 ghost use Rattle.do_value.specs.Seen.{tree_of, trees_in};
@@ -7,7 +7,7 @@ ghost use Rattle.script_ops.specs.Answers.{Answers, Gives};
 ghost use Rattle.script_ops.specs.Calls.{argument, builtin, length_of, includes, index_of, slice, split, keys, is_array, to_number, make_error, on_texts, on_text};
 ghost use Rattle.script_ops.specs.Errors.{error_record, within_limits};
 ghost use Rattle.script_ops.specs.Binary.{is_text};
-ghost use Rattle.script_ops.specs.Texts.{printed};
+ghost use Rattle.script_ops.specs.Texts.{printed, unit_count};
 ghost use Rattle.do_value.specs.Tree.{text as text_tree};
 
 use crate::errors::{error_value, finish, text_value, word};
@@ -78,7 +78,15 @@ fn length(of: &Value) -> Result<Value, Stop>
 fn text_length(text: &Text) -> Result<Value, Stop>
     ensures { Gives (length_of (text_tree text.now)) result }
 {
-    counted(count_units(limited(text)))
+    counted(unit_count(text))
+}
+
+/// How many units of UTF-16 the text has: `length` in JavaScript. All its bytes are visited.
+pub fn unit_count(text: &Text) -> usize
+    ensures units { result ≡ unit_count text.now }
+    ensures limit { result ≤ 2 * most_bytes }
+{
+    count_units(limited(text))
 }
 
 // The text as Rust has it, with the limit that its length tells of.

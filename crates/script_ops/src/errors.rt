@@ -25,17 +25,28 @@ pub(crate) fn finish(alloc: Global, answer: Result<Value, Stop>) -> Result<Value
 fn thrown(alloc: Global, cause: Cause) -> OpFault
     ensures { Answers (Err (error_of cause)) (Err result) }
 {
-    match error_of_cause(alloc, cause) {
+    let (name, message) = parts_of(cause);
+    throw(alloc, name, message)
+}
+
+/// The error with this name and message, thrown: a record of both. It is `NoMemory` only for want of memory.
+pub fn throw(alloc: Global, name: &str, message: &str) -> OpFault
+    requires name { length name.now ≤ 16 }
+    requires message { length message.now ≤ 16 }
+    ensures { Answers (Err (error_record name.now message.now)) (Err result) }
+{
+    match named_error(alloc, name, message) {
         Ok(value) => OpFault::Throw(value),
         Err(_) => OpFault::NoMemory,
     }
 }
 
-// The error of the cause.
-fn error_of_cause(alloc: Global, cause: Cause) -> Result<Value, Stop>
-    ensures { IfOk result (λ value. tree_of value ≡ error_of cause) }
+// The error with this name and message.
+fn named_error(alloc: Global, name: &str, message: &str) -> Result<Value, Stop>
+    requires name { length name.now ≤ 16 }
+    requires message { length message.now ≤ 16 }
+    ensures { IfOk result (λ value. tree_of value ≡ error_record name.now message.now) }
 {
-    let (name, message) = parts_of(cause);
     let name = word(alloc, name)?;
     let message = word(alloc, message)?;
     error_value(alloc, name, message)

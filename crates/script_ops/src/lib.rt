@@ -11,7 +11,8 @@ mod numbers;
 mod operators;
 mod texts;
 
-pub use calls::builtin;
+pub use calls::{builtin, unit_count};
 pub use compare::truth;
+pub use errors::throw;
 pub use fault::OpFault;
 pub use operators::{binary, unary};

@@ -6,6 +6,8 @@ mod batcher_tests;
 #[cfg(test)]
 mod cache_tests;
 #[cfg(test)]
+mod change_tests;
+#[cfg(test)]
 mod map_tests;
 #[cfg(test)]
 mod transaction_tests;

@@ -2,6 +2,7 @@ use Rattle.std.proofs.Common.{◌≡◌, ◌++◌, ◌∷◌, [], sym, ap, subst
 use Rattle.do_host.specs.Report.{IsSlotHistory, StaysWithin, IsQuiet}
 use Rattle.do_host.specs.NotBuilt.{IsNotBuilt}
 use Rattle.do_host.specs.Opened.{row_of}
+use Rattle.line_server.specs.Lines.{source_of}
 use Rattle.do_host.specs.Status.{status_in, IsStatus}
 use Rattle.do_host.proofs.Rows.{all_one, row_history, row_within, row_quiet, row_failed, ends_written}
 use Rattle.do_host.proofs.Unbuilt.{row_not_built, row_formed}
@@ -62,7 +63,7 @@ pub returns-clause-not_built : goal.returns-clause-not_built
 returns-clause-not_built g c = λ eight content opened.
     let next = c.serve-served.new.core in
     let one : c.add_row.new.slots.items ≡ row_of next ∷ [] = c.add_row.ensures ∙ ap (λ rows. rows ++ row_of next ∷ []) c.requires.empty.slots in
-    let row : IsNotBuilt content (g.R.Source.left c.args.input) (g.R.Source.left c.serve-served.new.lines.bytes.source) c.serve-served.new.log (row_of next) =
+    let row : IsNotBuilt content (g.R.Source.left c.args.input) (g.R.Source.left (source_of c.serve-served.new.lines)) c.serve-served.new.log (row_of next) =
     row_not_built g.D.Disk.moment_of g.D.Disk.left_since g.D.Disk.told g.D.Disk.image g.R.Source.left content c.args.core next c.args.report.now.switch c.serve-served.new.log
     c.args.input c.new-lines.result c.serve-served.new.lines opened c.requires.fresh c.requires.empty.switch c.new-lines.ensures.reading
     (c.serve-served.ensures.not_built (unbuilt_end c.serve-served.result (sym c.status_of.ensures ∙ eight))) in

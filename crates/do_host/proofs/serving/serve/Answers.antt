@@ -2,14 +2,14 @@ use Rattle.std.proofs.Common.{map, Option, sym, ap, subst, ◌∙◌, arith, Ok,
 use Rattle.std.proofs.lemmas.Result.{err_from_is_err_and}
 use Rattle.object_core.specs.Serving.{object_of, front_of}
 use Rattle.do_host.specs.NotBuilt.{MeetsLimit}
-use Rattle.do_host.specs.Lines.{LooksAt}
-use Rattle.do_host.specs.Seen.{seen}
+use Rattle.line_server.specs.Lines.{LooksAt}
+use Rattle.line_server.specs.Seen.{seen}
 use Rattle.do_host.specs.Status.{status_in, most_waiting}
 use Rattle.do_host.proofs.Accepting.{reading_on, first_at_stop, first_none, looked_at_stop, looked_none_more}
-use Rattle.do_host.proofs.Outcomes.{on_err, waiting_fault}
+use Rattle.do_host.proofs.Outcomes.{good_is_no_fault, on_err, waiting_fault}
 use Rattle.do_host.proofs.Written.{written_all}
 use Rattle.do_host.proofs.Unbuilt.{odd_next, odd_through, formed_on, formed_at_stop}
-use Rattle.do_host.specs.declared.line.Line.{Line}
+use Rattle.line_server.specs.declared.line.Line.{Line}
 use Rattle.do_host.proofs.serving.serve.Goals as goal
 
 pub returns-in_err-line-clause-history : goal.returns-in_err-line-clause-history
@@ -52,7 +52,7 @@ loop-line-preserved g c = record {
   disk = omega (arith, c.loop-line.invariant.disk, c.answer.ensures.disk_later);
   source = (c.in_ok-line.ensures.reads c.loop-line.invariant.good).steady ∙ c.loop-line.invariant.source;
   limit = c.answer.ensures.same_limit ∙ c.loop-line.invariant.limit;
-  sink = c.answer.ensures.sink_steady (λ e. cc) ∙ c.loop-line.invariant.sink;
+  sink = c.answer.ensures.sink_steady (λ failed. good_is_no_fault c.answer.result c.in_ok-answer.field-0 _ c.in_ok-answer.was failed) ∙ c.loop-line.invariant.sink;
 }
 
 pub returns-in_err-answer-clause-history : goal.returns-in_err-answer-clause-history

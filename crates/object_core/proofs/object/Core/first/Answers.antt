@@ -1,11 +1,12 @@
 use Rattle.std.proofs.Common.{refl}
-use Rattle.object_core.proofs.Served.{first_serves, IsFresh}
+use Rattle.object_core.specs.History.{AreEmpty}
+use Rattle.object_core.proofs.Served.{first_serves}
 use Rattle.object_core.proofs.Limits.{first_within}
 use Rattle.object_core.proofs.object.Core.first.Goals as goal
 
 pub returns-clause-serving : goal.returns-clause-serving
 returns-clause-serving g c =
-    let fresh : IsFresh c.new.result c.new-2.result = record {
+    let fresh : AreEmpty c.new.result c.new-2.result = record {
       delivered = c.new.ensures.delivered;
       downed = c.new.ensures.downed;
       dropped = c.new.ensures.dropped;

@@ -1,0 +1,139 @@
+-- Texts that are written one behind the other, and the text of a slot.
+use Rattle.std.proofs.Common.{◌≡◌, ◌+◌, ℕ, List, [], ◌∷◌, ◌++◌, length, take, false, Option, Some, None, option_map, Result, Ok, Err, OnOk, refl, sym, ap, subst, ◌∙◌, arith, append_assoc}
+use Rattle.std.specs.List.{filter}
+use Rattle.std.proofs.lemmas.List.{append-nil, length-append, take-append-le}
+use Rattle.std.proofs.lemmas.Grind.{flat_map-append}
+use Rattle.std.proofs.Math.Seq.{take-append-add, take-length}
+use Rattle.do_disk.specs.Disk.{IfTold}
+use Rattle.serde_json.specs.Written.{has_float}
+use Rattle.do_value.specs.Seen.{tree_of}
+use Rattle.do_value.specs.declared.value.Value.{Value}
+use Rattle.storage_map.specs.Contents.{Contents}
+use Rattle.storage_map.specs.Limits.{Object}
+use Rattle.storage_map.specs.Readings.{keeps, listed}
+use Rattle.storage_map.specs.declared.options.Options.{Options}
+use Rattle.object_core.specs.Serving.{object_of, map_of}
+use Rattle.object_core.specs.declared.object.Core.{Core}
+use Rattle.do_host.specs.Dump.{pairs_text, dump_text, IsDumpOf, Writes}
+use Rattle.do_host.specs.Opened.{IsOpened}
+use Rattle.do_host.specs.Report.{object_in}
+use Rattle.do_host.specs.Served.{WritesAll, WritesFirstOf}
+use Rattle.do_host.specs.SlotLines.{pair_json, pair_line}
+use Rattle.line_server.proofs.Printing.{has_no_float}
+
+-- nothing was written
+pub all_none : (taken : Option (List ℕ)) → WritesAll taken taken []
+all_none None = refl
+all_none (Some had) = ap Some (sym (append-nil had))
+
+pub front_none : (taken : Option (List ℕ)) (text : List ℕ) → WritesFirstOf taken taken text
+front_none taken text = (0, omega arith, all_none taken)
+
+-- all of it is its first bytes
+pub front_all : (before after : Option (List ℕ)) (text : List ℕ) → WritesAll before after text → WritesFirstOf before after text
+front_all before after text was = (length text, omega arith, was ∙ ap (λ all. option_map (λ taken. taken ++ all) before) (sym (take-length text)))
+
+-- the first bytes are those of a longer text
+pub front_longer : (before after : Option (List ℕ)) (text more : List ℕ) → WritesFirstOf before after text → WritesFirstOf before after (text ++ more)
+front_longer before after text more (n, short, was) =
+    (n, omega (arith, length-append text more, short), was ∙ ap (λ first. option_map (λ taken. taken ++ first) before) (sym (take-append-le n text more short)))
+
+-- one text behind another
+pub all_on : (before middle after : Option (List ℕ)) (text more : List ℕ) → WritesAll before middle text → WritesAll middle after more → WritesAll before after (text ++ more)
+all_on None middle after text more was now = now ∙ ap (option_map (λ taken. taken ++ more)) was
+all_on (Some had) middle after text more was now = now ∙ ap (option_map (λ taken. taken ++ more)) was ∙ ap Some (append_assoc had text more)
+
+part_taken : (before middle after : Option (List ℕ)) (text more : List ℕ) (n : ℕ) → WritesAll before middle text → after ≡ option_map (λ taken. taken ++ take n more) middle
+    → after ≡ option_map (λ taken. taken ++ take (length text + n) (text ++ more)) before
+part_taken None middle after text more n was now = now ∙ ap (option_map (λ taken. taken ++ take n more)) was
+part_taken (Some had) middle after text more n was now =
+    now ∙ ap (option_map (λ taken. taken ++ take n more)) was ∙ ap Some (append_assoc had text (take n more) ∙ ap (λ r. had ++ r) (sym (take-append-add text more n)))
+
+pub front_on : (before middle after : Option (List ℕ)) (text more : List ℕ) → WritesAll before middle text → WritesFirstOf middle after more → WritesFirstOf before after (text ++ more)
+front_on before middle after text more was (n, short, now) =
+    (length text + n, omega (arith, length-append text more, short), part_taken before middle after text more n was now)
+
+-- what a good end, or a stop, has written
+pub writes_all : {T E : Type 0} (before after : Option (List ℕ)) (text : List ℕ) (result : Result T E) → WritesAll before after text → Writes before after text result
+writes_all before after text (Ok done) was = record { whole = was; front = front_all before after text was }
+writes_all before after text (Err end) was = record { whole = tt; front = front_all before after text was }
+
+pub writes_front : {T E : Type 0} (before after : Option (List ℕ)) (text : List ℕ) (result : Result T E) (end : E) → result ≡ Err end → WritesFirstOf before after text → Writes before after text result
+writes_front before after text result end is was = record { whole = subst (λ r. OnOk r (WritesAll before after text)) (sym is) tt; front = was }
+
+-- a text that is written behind another
+pub writes_on : {T E : Type 0} (before middle after : Option (List ℕ)) (text more : List ℕ) (result : Result T E) → WritesAll before middle text → Writes middle after more result → Writes before after (text ++ more) result
+writes_on before middle after text more (Ok done) was then = record { whole = all_on before middle after text more was then.whole; front = front_on before middle after text more was then.front }
+writes_on before middle after text more (Err end) was then = record { whole = tt; front = front_on before middle after text more was then.front }
+
+-- a line that was made, and a part of it
+pub writes_line : {T E : Type 0} (before after : Option (List ℕ)) (bytes text : List ℕ) (result : Result T E) → bytes ≡ text → WritesAll before after bytes → Writes before after text result
+writes_line before after bytes text result same was = writes_all before after text result (subst (λ b. WritesAll before after b) same was)
+
+pub writes_part : {T E : Type 0} (before after : Option (List ℕ)) (bytes text : List ℕ) (result : Result T E) (end : E) → result ≡ Err end → bytes ≡ text → WritesFirstOf before after bytes → Writes before after text result
+writes_part before after bytes text result end is same was = writes_front before after text result end is (subst (λ b. WritesFirstOf before after b) same was)
+
+-- no float stands in the JSON of a pair
+pub pair_has_no_float : (key : List ℕ) (value : Value) → has_float (pair_json key value) ≡ false
+pair_has_no_float key value = rw (has_no_float (tree_of value)) refl
+
+-- a pair more
+pub pairs_on : (pairs : List (List ℕ × Value)) (pair : List ℕ × Value) → pairs_text (pairs ++ pair ∷ []) ≡ pairs_text pairs ++ pair_line pair
+pairs_on pairs pair = flat_map-append pair_line pairs (pair ∷ []) ∙ ap (λ r. pairs_text pairs ++ r) (append-nil (pair_line pair))
+
+-- the pairs that were printed, and those that are left, are all
+pub record IsPrinted (before after : Option (List ℕ)) (left all : List (List ℕ × Value)) : Type 0 where
+  pub done : List (List ℕ × Value)
+  pub split : done ++ left ≡ all
+  pub written : WritesAll before after (pairs_text done)
+
+pub printed_none : (taken : Option (List ℕ)) (left all : List (List ℕ × Value)) → left ≡ all → IsPrinted taken taken left all
+printed_none taken left all same = record { done = []; split = same; written = all_none taken }
+
+pub printed_on : (before middle after : Option (List ℕ)) (pair : List ℕ × Value) (left rest all : List (List ℕ × Value)) → IsPrinted before middle left all → left ≡ pair ∷ rest → WritesAll middle after (pair_line pair) → IsPrinted before after rest all
+printed_on before middle after pair left rest all so_far first was = record {
+  done = so_far.done ++ pair ∷ [];
+  split = append_assoc so_far.done (pair ∷ []) rest ∙ ap (λ pairs. so_far.done ++ pairs) (sym first) ∙ so_far.split;
+  written = subst (λ text. WritesAll before after text) (sym (pairs_on so_far.done pair)) (all_on before middle after (pairs_text so_far.done) (pair_line pair) so_far.written was);
+}
+
+pub printed_all : (before after : Option (List ℕ)) (left all : List (List ℕ × Value)) → IsPrinted before after left all → left ≡ [] → WritesAll before after (pairs_text all)
+printed_all before after left all so_far none =
+    subst (λ pairs. WritesAll before after (pairs_text pairs)) (sym (append-nil so_far.done) ∙ ap (λ pairs. so_far.done ++ pairs) (sym none) ∙ so_far.split) so_far.written
+
+-- a part of the text of a pair more is a part of that of all
+pub printed_part : (before middle after : Option (List ℕ)) (pair : List ℕ × Value) (left rest all : List (List ℕ × Value)) → IsPrinted before middle left all → left ≡ pair ∷ rest → WritesFirstOf middle after (pair_line pair)
+    → WritesFirstOf before after (pairs_text all)
+printed_part before middle after pair left rest all so_far first part =
+    let whole : pairs_text all ≡ (pairs_text so_far.done ++ pair_line pair) ++ pairs_text rest =
+    ap pairs_text (sym so_far.split ∙ ap (λ pairs. so_far.done ++ pairs) first ∙ sym (append_assoc so_far.done (pair ∷ []) rest)) ∙ flat_map-append pair_line (so_far.done ++ pair ∷ []) rest
+    ∙ ap (λ text. text ++ pairs_text rest) (pairs_on so_far.done pair) in
+    subst (λ text. WritesFirstOf before after text) (sym whole)
+    (front_longer before after (pairs_text so_far.done ++ pair_line pair) (pairs_text rest) (front_on before middle after (pairs_text so_far.done) (pair_line pair) so_far.written part))
+
+-- options without a bound list all pairs
+abbrev pub everything : Options
+everything = record { start = None; after = None; end = None; prefix = None; reverse = false; limit = None }
+
+all_kept : (pairs : List (List ℕ × Value)) → filter (λ p. keeps everything p.0) pairs ≡ pairs
+all_kept [] = refl
+all_kept (pair ∷ pairs) = ap (λ rest. pair ∷ rest) (all_kept pairs)
+
+pub lists_all : (options : Options) (pairs : List (List ℕ × Value)) → options ≡ everything → listed options pairs ≡ pairs
+lists_all options pairs is = ap (λ o. listed o pairs) is ∙ all_kept pairs
+
+-- the text of the slot that a core has is that of its file
+pub core_text : {D : Type 0} (moment_of : D → ℕ) (left_since : D → ℕ → List ℕ → Type 0) (told : D → Option (List ℕ)) (image : D → List ℕ → Type 0) (content : Option (List ℕ)) (core : Core D) (object : Option Object) (m : Contents)
+    → IsOpened moment_of left_since told image content core → object ≡ object_of core → m ≡ map_of core → IfTold content (λ file. IsDumpOf file (dump_text object m))
+core_text moment_of left_since told image content core object m opened named kept = λ file is. record {
+  frames = opened.start;
+  recovers = opened.recovered file is;
+  text_is = ap (λ o. dump_text o m) (named ∙ opened.object) ∙ ap (dump_text (object_in opened.start)) (kept ∙ opened.map);
+}
+
+-- of which the first bytes were written, or all
+pub core_part : (before after content : Option (List ℕ)) (text : List ℕ) → IfTold content (λ file. IsDumpOf file text) → WritesFirstOf before after text → IfTold content (λ file. (t : List ℕ) × IsDumpOf file t × WritesFirstOf before after t)
+core_part before after content text is part = λ file told. (text, is file told, part)
+
+pub core_whole : (before after content : Option (List ℕ)) (text : List ℕ) → IfTold content (λ file. IsDumpOf file text) → WritesAll before after text → IfTold content (λ file. (t : List ℕ) × IsDumpOf file t × WritesAll before after t)
+core_whole before after content text is whole = λ file told. (text, is file told, whole)

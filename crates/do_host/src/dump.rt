@@ -1,0 +1,81 @@
+// What the slot of a core has, as lines.
+ghost use Rattle.std.specs.Prelude.{◌≡◌, ◌⊎◌, ℕ, List, Err, IfOk, OnOk, OnErr, IsErrOf, option_map};
+ghost use Rattle.std.specs.FinMap.{entries};
+ghost use Rattle.do_disk.specs.Disk.{Rose};
+ghost use Rattle.do_host.specs.Dump.{dump_text, pairs_text, alarm_text, Writes};
+
+use crate::slot_lines::{alarm_line, object_line, pair_line};
+use crate::stop::Stop;
+use do_disk::Sink;
+use do_value::Mem;
+use line_server::put;
+use std::alloc::Global;
+use storage_cache::Cache;
+use storage_map::{Alarm, Identity, Map, Options};
+
+// Writes the object, its pairs and its alarm, a line each. A slot without an object has no line.
+pub(crate) fn dump<W: Sink>(
+    alloc: Global,
+    object: Option<&Identity>,
+    map: Map,
+    out: &mut W,
+) -> Result<(), Stop>
+    ensures writes { Writes (W.taken out.old) (W.taken out.new) (dump_text (option_map (λ object. object.now) object.entry) map) result }
+    ensures stop { OnErr result ((result ≡ Err Stop.WriteFailed) ⊎ (result ≡ Err Stop.NoMemory)) }
+    ensures failed { IsErrOf result Stop.WriteFailed → Rose (W.faults_of out.old) (W.faults_of out.new) }
+    ensures steady { OnOk result (W.faults_of out.new ≡ W.faults_of out.old) }
+{
+    let Some(object) = object else {
+        return Ok(());
+    };
+    let alarm = map.alarm();
+    let cache = Cache::new(alloc, map);
+    put_line(object_line(alloc, object), out)?;
+    dump_pairs(alloc, &cache, out)?;
+    dump_alarm(alloc, alarm, out)
+}
+
+// Writes the pairs, ascending by key.
+fn dump_pairs<W: Sink>(alloc: Global, cache: &Cache, out: &mut W) -> Result<(), Stop>
+    ensures writes { Writes (W.taken out.old) (W.taken out.new) (pairs_text (entries cache.now.values)) result }
+    ensures stop { OnErr result ((result ≡ Err Stop.WriteFailed) ⊎ (result ≡ Err Stop.NoMemory)) }
+    ensures failed { IsErrOf result Stop.WriteFailed → Rose (W.faults_of out.old) (W.faults_of out.new) }
+    ensures steady { OnOk result (W.faults_of out.new ≡ W.faults_of out.old) }
+{
+    let all = Options {
+        start: None,
+        after: None,
+        end: None,
+        prefix: None,
+        reverse: false,
+        limit: None,
+    };
+    for (key, value) in cache.range(&all) {
+        put_line(pair_line(alloc, key, value), out)?;
+    }
+    Ok(())
+}
+
+fn dump_alarm<W: Sink>(alloc: Global, alarm: Option<Alarm>, out: &mut W) -> Result<(), Stop>
+    ensures writes { Writes (W.taken out.old) (W.taken out.new) (alarm_text alarm) result }
+    ensures stop { OnErr result ((result ≡ Err Stop.WriteFailed) ⊎ (result ≡ Err Stop.NoMemory)) }
+    ensures failed { IsErrOf result Stop.WriteFailed → Rose (W.faults_of out.old) (W.faults_of out.new) }
+    ensures steady { OnOk result (W.faults_of out.new ≡ W.faults_of out.old) }
+{
+    match alarm {
+        Some(alarm) => put_line(alarm_line(alloc, alarm), out),
+        None => Ok(()),
+    }
+}
+
+// Writes a line, where there was memory for it.
+fn put_line<W: Sink>(line: Mem<Vec<u8>>, out: &mut W) -> Result<(), Stop>
+    ensures writes { (text : List ℕ) → IfOk line (λ bytes. bytes.items ≡ text) → Writes (W.taken out.old) (W.taken out.new) text result }
+    ensures stop { OnErr result ((result ≡ Err Stop.WriteFailed) ⊎ (result ≡ Err Stop.NoMemory)) }
+    ensures failed { IsErrOf result Stop.WriteFailed → Rose (W.faults_of out.old) (W.faults_of out.new) }
+    ensures steady { OnOk result (W.faults_of out.new ≡ W.faults_of out.old) }
+{
+    let line = line?;
+    put(out, line.as_slice())?;
+    Ok(())
+}

@@ -1,0 +1,49 @@
+-- The first line of bytes.
+use Rattle.std.proofs.Common.{◌≡◌, ◌<◌, ◌-◌, ℕ, List, [], ◌∷◌, ◌++◌, length, refl, ◌∙◌, arith, Bool, true, false, not, ◌==◌}
+use Rattle.std.proofs.lemmas.Grind.{common_steps}
+use Rattle.std.specs.List.{onto_first, list_all}
+use Rattle.line_server.specs.Cut.{lines_within, line_end}
+
+-- no byte of the line is an LF
+abbrev pub has_no_end : List ℕ → Bool
+has_no_end = list_all (λ b. not (b == line_end))
+
+step_on : (most room b : ℕ) (bs : List ℕ) → (b == line_end) ≡ false → 1 < room → lines_within most room (b ∷ bs) ≡ onto_first b (lines_within most (room - 1) bs)
+step_on most room b bs other more = let not_last : (room == 1) ≡ false = grind (arith, common_steps) in rw (other, not_last) refl
+
+not_end : (b : ℕ) (bs : List ℕ) → has_no_end (b ∷ bs) ≡ true → ((b == line_end) ≡ false) × (has_no_end bs ≡ true)
+not_end b bs all = grind (arith, common_steps)
+
+-- a line ends before an LF
+pub line_before_end : (most room : ℕ) (line more : List ℕ) → has_no_end line ≡ true → length line < room → lines_within most room (line ++ line_end ∷ more) ≡ line ∷ lines_within most most more
+line_before_end most room [] more all short = refl
+line_before_end most room (b ∷ bs) more all short =
+    let parts : ((b == line_end) ≡ false) × (has_no_end bs ≡ true) = not_end b bs all in
+    let rest : lines_within most (room - 1) (bs ++ line_end ∷ more) ≡ bs ∷ lines_within most most more = line_before_end most (room - 1) bs more parts.1 (omega arith) in
+    step_on most room b (bs ++ line_end ∷ more) parts.0 (omega arith) ∙ rw rest refl
+
+-- a line ends after its last byte where it has no room for another
+pub line_of_room : (most room : ℕ) (line more : List ℕ) → has_no_end line ≡ true → length line ≡ room → 0 < room → lines_within most room (line ++ more) ≡ line ∷ lines_within most most more
+line_of_room most room [] more all full some = absurd (omega arith)
+line_of_room most room (b ∷ []) more all full some =
+    let parts : ((b == line_end) ≡ false) × (has_no_end [] ≡ true) = not_end b [] all in
+    let last : (room == 1) ≡ true = grind (arith, common_steps) in
+    rw (parts.0, last) refl
+line_of_room most room (b ∷ c ∷ bs) more all full some =
+    let parts : ((b == line_end) ≡ false) × (has_no_end (c ∷ bs) ≡ true) = not_end b (c ∷ bs) all in
+    let rest : lines_within most (room - 1) ((c ∷ bs) ++ more) ≡ (c ∷ bs) ∷ lines_within most most more = line_of_room most (room - 1) (c ∷ bs) more parts.1 (omega arith) (omega arith) in
+    step_on most room b ((c ∷ bs) ++ more) parts.0 (omega arith) ∙ rw rest refl
+
+-- what follows the last LF is a line
+pub last_line : (most room b : ℕ) (bs : List ℕ) → has_no_end (b ∷ bs) ≡ true → length (b ∷ bs) < room → lines_within most room (b ∷ bs) ≡ (b ∷ bs) ∷ []
+last_line most room b [] all short =
+    let parts : ((b == line_end) ≡ false) × (has_no_end [] ≡ true) = not_end b [] all in
+    step_on most room b [] parts.0 (omega arith)
+last_line most room b (c ∷ bs) all short =
+    let parts : ((b == line_end) ≡ false) × (has_no_end (c ∷ bs) ≡ true) = not_end b (c ∷ bs) all in
+    let rest : lines_within most (room - 1) (c ∷ bs) ≡ (c ∷ bs) ∷ [] = last_line most (room - 1) c bs parts.1 (omega arith) in
+    step_on most room b (c ∷ bs) parts.0 (omega arith) ∙ rw rest refl
+
+-- a byte that isn't an LF
+pub other_byte : (b : ℕ) → (b ≡ line_end → ⊥) → (b == line_end) ≡ false
+other_byte b other = grind (arith, common_steps)

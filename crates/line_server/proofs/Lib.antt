@@ -1,0 +1,12 @@
+pub mod Reading
+pub mod Cutting
+pub mod Taking
+pub mod Counts
+pub mod Keeping
+pub mod Given
+pub mod Looking
+pub mod Values
+pub mod Putting
+pub mod Printing
+pub mod ReadOn
+pub mod Texts

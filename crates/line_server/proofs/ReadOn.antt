@@ -1,0 +1,122 @@
+-- Reading on, from a state that was reached by reading.
+use Rattle.std.proofs.Common.{◌≡◌, ◌≤◌, ◌+◌, inl, inr, ℕ, List, [], ◌∷◌, ◌++◌, length, Option, Some, None, Result, Ok, Err, refl, subst, ◌∙◌, arith, true, false}
+use Rattle.std.proofs.lemmas.List.{append-nil}
+use Rattle.line_server.specs.Cut.{is_blank}
+use Rattle.line_server.specs.Given.{Gives, IsAtEnd}
+use Rattle.line_server.specs.Requests.{SeenLine, seen_at, body_of}
+use Rattle.line_server.specs.Bodies.{body_seen}
+use Rattle.line_server.specs.Seen.{seen}
+use Rattle.line_server.specs.Taken.{TakesLine}
+use Rattle.line_server.specs.Lines.{most_left, IsReading, LooksAt, ReadsOn}
+use Rattle.line_server.specs.declared.fault.LineFault.{LineFault}
+use Rattle.line_server.specs.declared.fault.LineFault.TheVariants.{NoMemory}
+use Rattle.line_server.specs.declared.line.Line.{Line}
+use Rattle.line_server.specs.declared.lines.Lines.{Lines}
+use Rattle.line_server.specs.declared.TheConstants.{MOST_LINES}
+use Rattle.line_server.proofs.Given.{goes_on, goes_on_still, has_given, has_given_now, all_at_end, all_at_most, count_at_end, count_at_most}
+use Rattle.line_server.proofs.Looking.{looked_on, looked_now, looked_fewer, seen_one}
+
+-- the answer of a fault
+abbrev fails : LineFault → Result (Option Line) LineFault
+fails fault = Err fault
+
+-- what is seen of a line that isn't blank
+seen_line : (line : List ℕ) (answer : Line) (n : ℕ) → is_blank line ≡ false → answer.number ≡ n → body_seen answer.body ≡ body_of line → seen_at n line ≡ seen answer ∷ []
+seen_line line answer n solid number body = rw (solid, number, body) refl
+
+module _ {S : Type 0} (left : S → Option (List ℕ)) where
+  -- what was given so far stands for the later state too
+  abbrev pub Stays : Lines S → Lines S → Type 0
+  Stays old now = (whole : List ℕ) (given : List SeenLine) → IsReading left whole given old → IsReading left whole given now
+
+  -- a line was taken
+  taken_on : (now new : Lines S) (line : List ℕ) (whole : List ℕ) (given : List SeenLine) → IsReading left whole given now → TakesLine left now.bytes new.bytes line → new.count ≡ now.count + 1 → new.fault ≡ None
+      → IsReading left whole (given ++ seen_at (now.count + 1) line) new
+  taken_on now new line whole given reading takes count good =
+      (good, rw count (goes_on whole given now.count now.bytes.buffer takes.bytes line new.bytes.buffer _ _ reading.1 takes.gives takes.first))
+
+  -- a blank line gives nothing
+  pub stays_on : (old now new : Lines S) (line : List ℕ) → Stays old now → TakesLine left now.bytes new.bytes line → new.count ≡ now.count + 1 → new.fault ≡ None → is_blank line ≡ true → Stays old new
+  stays_on old now new line stays takes count good blank = λ whole given reading.
+      let on : IsReading left whole (given ++ seen_at (now.count + 1) line) new = taken_on now new line whole given (stays whole given reading) takes count good in
+      let none : given ++ seen_at (now.count + 1) line ≡ given = rw blank (append-nil given) in
+      subst (λ g. IsReading left whole g new) none on
+
+  -- another line gives itself
+  pub reads_line : (old now new : Lines S) (line : List ℕ) (answer : Line) → Stays old now → TakesLine left now.bytes new.bytes line → new.count ≡ now.count + 1 → new.fault ≡ None → is_blank line ≡ false
+      → answer.number ≡ new.count → body_seen answer.body ≡ body_of line → old.count ≤ now.count → ReadsOn left old new (Ok (Some answer))
+  reads_line old now new line answer stays takes count good solid number body counted =
+      let given_line : seen_at (now.count + 1) line ≡ seen answer ∷ [] = seen_line line answer (now.count + 1) solid (number ∙ count) body in
+      let on : (whole : List ℕ) (given : List SeenLine) → IsReading left whole given old → IsReading left whole (given ++ seen answer ∷ []) new =
+      λ whole given reading. subst (λ l. IsReading left whole (given ++ l) new) given_line (taken_on now new line whole given (stays whole given reading) takes count good) in
+      record {
+        reading = on;
+        first = λ whole given reading. has_given_now whole (given ++ seen answer ∷ []) new.count new.bytes.buffer _ (on whole given reading).1;
+        looked = λ whole given reading. looked_now whole (given ++ seen answer ∷ []) new.count new.bytes.buffer _ (on whole given reading).1;
+        all = λ is. cc;
+        total = λ is. cc;
+        end = λ is. cc;
+        count = omega arith;
+      }
+
+  -- the input ends
+  pub reads_end : (old now new : Lines S) → Stays old now → Gives left now.bytes new.bytes [] × IsAtEnd left new.bytes → new.count ≡ now.count → new.fault ≡ None → old.count ≤ now.count → new.count ≤ MOST_LINES
+      → ReadsOn left old new (Ok None)
+  reads_end old now new stays ends count good counted most =
+      let on : (whole : List ℕ) (given : List SeenLine) → IsReading left whole given old → IsReading left whole given new =
+      λ whole given reading. (good, rw count (goes_on_still whole given now.count now.bytes.buffer new.bytes.buffer _ _ (stays whole given reading).1 ends.0)) in
+      record {
+        reading = λ whole given reading. rw append-nil (on whole given reading);
+        first = λ whole given reading. rw append-nil (has_given_now whole given new.count new.bytes.buffer _ (on whole given reading).1);
+        looked = λ whole given reading. rw append-nil (looked_now whole given new.count new.bytes.buffer _ (on whole given reading).1);
+        all = λ is whole given reading. all_at_end whole given new.count MOST_LINES new.bytes.buffer _ (on whole given reading).1 ends.1.0 ends.1.1 most;
+        total = λ is whole given reading. count_at_end whole given new.count MOST_LINES new.bytes.buffer _ (on whole given reading).1 ends.1.0 ends.1.1 most;
+        end = λ is. inr ends.1.1;
+        count = omega arith;
+      }
+
+  -- the last line that is read was read
+  pub reads_most : (old now : Lines S) → Stays old now → now.count ≡ MOST_LINES → old.count ≤ now.count → ReadsOn left old now (Ok None)
+  reads_most old now stays most counted = record {
+    reading = λ whole given reading. rw append-nil (stays whole given reading);
+    first = λ whole given reading. rw append-nil (has_given_now whole given now.count now.bytes.buffer _ (stays whole given reading).1);
+    looked = λ whole given reading. rw append-nil (looked_now whole given now.count now.bytes.buffer _ (stays whole given reading).1);
+    all = λ is whole given reading. all_at_most whole given MOST_LINES now.bytes.buffer _ (rw most at (stays whole given reading).1);
+    total = λ is whole given reading. most ∙ count_at_most whole given MOST_LINES now.bytes.buffer _ (rw most at (stays whole given reading).1);
+    end = λ is. inl most;
+    count = counted;
+  }
+
+  -- lines that were looked at, behind an answer of a fault
+  looked_at_fault : (whole : List ℕ) (given back : List SeenLine) (most more : ℕ) (new : Lines S) → length back + most ≤ more → LooksAt left whole (given ++ back) most new → LooksAt left whole (given ++ []) more new
+  looked_at_fault whole given back most more new few looked = rw append-nil (looked_fewer whole given back most more new.count (left new.bytes.source) few looked)
+
+  -- a fault comes in the middle of a line
+  pub reads_fault : (old now new : Lines S) (fault : LineFault) (bytes : List ℕ) → Stays old now → Gives left now.bytes new.bytes bytes → new.count ≡ now.count → old.count ≤ now.count → ReadsOn left old new (Err fault)
+  reads_fault old now new fault bytes stays gives same counted = record {
+    reading = tt;
+    first = λ whole given reading. rw append-nil (has_given whole given now.count now.bytes.buffer bytes new.bytes.buffer _ _ (stays whole given reading).1 gives);
+    looked = λ whole given reading.
+        looked_at_fault whole given [] 0 (most_left (fails fault)) new (omega arith)
+        (rw (append-nil, same) (looked_on whole given now.count now.bytes.buffer bytes new.bytes.buffer _ _ (stays whole given reading).1 gives));
+    all = λ is. cc;
+    total = λ is. cc;
+    end = λ is. cc;
+    count = omega arith;
+  }
+
+  -- memory is wanting for a line that was taken
+  pub reads_refused : (old now new : Lines S) (line : List ℕ) (fault : LineFault) → Stays old now → TakesLine left now.bytes new.bytes line → new.count ≡ now.count + 1 → new.fault ≡ None → fault ≡ NoMemory → old.count ≤ now.count
+      → ReadsOn left old new (Err fault)
+  reads_refused old now new line fault stays takes count good wanting counted = record {
+    reading = tt;
+    first = λ whole given reading. rw append-nil (has_given whole given now.count now.bytes.buffer takes.bytes new.bytes.buffer _ _ (stays whole given reading).1 takes.gives);
+    looked = λ whole given reading.
+        let on : IsReading left whole (given ++ seen_at (now.count + 1) line) new = taken_on now new line whole given (stays whole given reading) takes count good in
+        looked_at_fault whole given (seen_at (now.count + 1) line) 0 (most_left (fails fault)) new (rw wanting (omega (arith, seen_one (now.count + 1) line)))
+        (looked_now whole (given ++ seen_at (now.count + 1) line) new.count new.bytes.buffer _ on.1);
+    all = λ is. cc;
+    total = λ is. cc;
+    end = λ is. cc;
+    count = omega arith;
+  }

@@ -1,0 +1,15 @@
+use Rattle.std.proofs.Common.{◌-◌, ◌≡◌, ◌≤◌, None}
+use Rattle.line_server.specs.declared.TheConstants.{MOST_LINES}
+use Rattle.line_server.proofs.ReadOn.{Stays}
+use Rattle.line_server.proofs.lines.Lines.read.Given as goal
+
+abbrev pub invariant-loop-self : goal.invariant-loop-self
+invariant-loop-self g l = record {
+  stays : Stays g.R.Source.left l.initial.self l.self;
+  good : l.self.fault ≡ None;
+  counted : l.initial.self.count ≤ l.self.count;
+  steady : g.R.Source.faults_of l.self.bytes.source ≡ g.R.Source.faults_of l.initial.self.bytes.source;
+}
+
+abbrev pub decreases-loop-self : goal.decreases-loop-self
+decreases-loop-self g l = MOST_LINES - l.self.count

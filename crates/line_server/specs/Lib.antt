@@ -1,0 +1,12 @@
+pub mod Cut
+pub mod Reader
+pub mod Raw
+pub mod Given
+pub mod Taken
+pub mod Asked
+pub mod Requests
+pub mod Bodies
+pub mod Seen
+pub mod Going
+pub mod Lines
+pub mod Text

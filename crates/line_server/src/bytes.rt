@@ -1,0 +1,42 @@
+// The bytes of a source, one by one.
+ghost use Rattle.std.specs.Prelude.{◌≡◌, [], Ok, None};
+ghost use Rattle.do_disk.specs.Disk.{CountsFaults};
+
+use crate::buffer::Buffer;
+use do_disk::{Failed, Source};
+
+#[derive(Drop)]
+pub(crate) struct Bytes<R> {
+    pub(crate) source: R,
+    pub(crate) buffer: Buffer,
+}
+
+impl<R: Source> Bytes<R> {
+    ghost use Rattle.line_server.specs.Reader.{byte_in};
+    ghost use Rattle.line_server.specs.Given.{Gives, IsAtEnd};
+
+    pub(crate) fn new(source: R) -> Bytes<R>
+        ensures source { result.source ≡ source }
+        ensures buffer { result.buffer ≡ [] }
+    {
+        Bytes {
+            source,
+            buffer: Buffer::new(),
+        }
+    }
+
+    // The next byte, or `None` at the input's end.
+    pub(crate) fn next(&mut self) -> Result<Option<u8>, Failed>
+        ensures gives { Gives R.left self.old self.new (byte_in result) }
+        ensures end { result ≡ Ok None → IsAtEnd R.left self.new }
+        ensures faults { CountsFaults (R.faults_of self.old.source) (R.faults_of self.new.source) result }
+    {
+        match self.buffer.take() {
+            Some(byte) => Ok(Some(byte)),
+            None => {
+                self.buffer.fill(&mut self.source)?;
+                Ok(self.buffer.take())
+            }
+        }
+    }
+}

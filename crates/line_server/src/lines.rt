@@ -1,0 +1,122 @@
+//! The lines of the input.
+ghost use Rattle.std.specs.Prelude.{◌≡◌, ◌<◌, ◌≤◌, ◌⊎◌, ◌++◌, [], List, ℕ, Ok, Err, None, Some, IfOk, IfSome, OnOk, length, min};
+ghost use Rattle.do_disk.specs.Disk.{IfTold};
+ghost use Rattle.line_server.specs.declared.TheConstants.{MOST_LINES};
+
+use crate::MOST_LINES;
+use crate::bytes::Bytes;
+use crate::cut::cut;
+use crate::fault::LineFault;
+use crate::line::Line;
+use do_disk::Source;
+use std::alloc::Global;
+
+/// The lines of a source, numbered from 1, without the blank ones. It keeps no more of a line than is read of it.
+#[derive(Drop)]
+pub struct Lines<R> {
+    alloc: Global,
+    bytes: Bytes<R>,
+    count: u64,
+    fault: Option<LineFault>,
+    ghost counted: { count ≤ MOST_LINES },
+}
+
+impl<R: Source> Lines<R> {
+    ghost use Rattle.line_server.specs.Cut.{lines as all_lines};
+    ghost use Rattle.line_server.specs.Given.{CountsReads};
+    ghost use Rattle.line_server.specs.Requests.{SeenLine, requests, through};
+    ghost use Rattle.line_server.specs.Lines.{lines_in, fault_in, source_of, count_of, fault_of, most_left, IsReading, IsFirstOf, LooksAt, ReadsOn};
+
+    /// The lines of the source from its first byte on. It takes no memory and reads nothing.
+    pub fn new(alloc: Global, source: R) -> Lines<R>
+        ensures reading { IfTold (R.left source) (λ whole. IsReading R.left whole [] result) }
+        ensures source { source_of result ≡ source }
+        ensures count { count_of result ≡ 0 }
+        ensures fault { fault_of result ≡ None }
+    {
+        Lines {
+            alloc,
+            bytes: Bytes::new(source),
+            count: 0,
+            fault: None,
+        }
+    }
+
+    /// The next line that isn't blank. `None` comes at the input's end and after line [`MOST_LINES`]. After a fault every
+    /// further call gives that fault and reads nothing.
+    pub fn next(&mut self) -> Result<Option<Line>, LineFault>
+        ensures reading { OnOk result ((whole : List ℕ) (given : List SeenLine) → IsReading R.left whole given self.old
+            → IsReading R.left whole (given ++ lines_in result) self.new) }
+        ensures first { (whole : List ℕ) (given : List SeenLine) → IsReading R.left whole given self.old
+            → IsFirstOf R.left whole (given ++ lines_in result) self.new }
+        ensures looked_at { (whole : List ℕ) (given : List SeenLine) → IsReading R.left whole given self.old
+            → LooksAt R.left whole (given ++ lines_in result) (most_left result) self.new }
+        ensures all { result ≡ Ok None → (whole : List ℕ) (given : List SeenLine) → IsReading R.left whole given self.old
+            → given ≡ through MOST_LINES (requests whole) }
+        ensures total { result ≡ Ok None → (whole : List ℕ) (given : List SeenLine) → IsReading R.left whole given self.old
+            → count_of self.new ≡ min MOST_LINES (length (all_lines whole)) }
+        ensures end { result ≡ Ok None → (count_of self.new ≡ MOST_LINES) ⊎ IfTold (R.left (source_of self.new)) (λ rest. rest ≡ []) }
+        ensures number { IfOk result (λ o. IfSome o (λ line. line.number ≡ count_of self.new)) }
+        ensures further { IfOk result (λ o. IfSome o (λ line. count_of self.old < count_of self.new)) }
+        ensures count { (count_of self.old ≤ count_of self.new) × (count_of self.new ≤ MOST_LINES) }
+        ensures fault { fault_of self.new ≡ fault_in result }
+        ensures again { (fault : LineFault) → fault_of self.old ≡ Some fault → (result ≡ Err fault) × (self.new ≡ self.old) }
+        ensures reads { fault_of self.old ≡ None → CountsReads (R.faults_of (source_of self.old)) (R.faults_of (source_of self.new)) result }
+    {
+        if let Some(fault) = self.fault {
+            return Err(fault);
+        }
+        match self.read() {
+            Ok(line) => Ok(line),
+            Err(fault) => {
+                self.fault = Some(fault);
+                Err(fault)
+            }
+        }
+    }
+
+    /// How many lines were read, blank ones included.
+    pub fn count(&self) -> u64
+        ensures value { result ≡ count_of self.now }
+        ensures limit { result ≤ MOST_LINES }
+    {
+        self.count
+    }
+
+    /// The source as reading left it. Bytes that were read of it and not given are lost.
+    pub fn into_source(self) -> R
+        ensures { result ≡ source_of self }
+    {
+        let Lines {
+            alloc: _,
+            bytes: Bytes { source, buffer: _ },
+            count: _,
+            fault: _,
+        } = self;
+        source
+    }
+
+    fn read(&mut self) -> Result<Option<Line>, LineFault>
+        requires { fault_of self.old ≡ None }
+        ensures on { ReadsOn R.left self.old self.new result }
+        ensures number { IfOk result (λ o. IfSome o (λ line. line.number ≡ count_of self.new)) }
+        ensures further { IfOk result (λ o. IfSome o (λ line. count_of self.old < count_of self.new)) }
+        ensures fault { fault_of self.new ≡ None }
+        ensures reads { CountsReads (R.faults_of (source_of self.old)) (R.faults_of (source_of self.new)) result }
+    {
+        while self.count < MOST_LINES {
+            let Some(raw) = cut(self.alloc, &mut self.bytes)? else {
+                return Ok(None);
+            };
+            self.count += 1;
+            if !raw.blank {
+                let body = raw.body(self.alloc)?;
+                return Ok(Some(Line {
+                    number: self.count,
+                    body,
+                }));
+            }
+        }
+        Ok(None)
+    }
+}

@@ -1,0 +1,5 @@
+pub mod Refusals
+pub mod Requests
+pub mod Keys
+pub mod Values
+pub mod Words

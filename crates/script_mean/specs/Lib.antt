@@ -1,0 +1,15 @@
+pub mod Errors
+pub mod Texts
+pub mod Task
+pub mod Answers
+pub mod Turn
+pub mod Places
+pub mod Storing
+pub mod Calls
+pub mod Paths
+pub mod Meaning
+pub mod Frames
+pub mod Law
+pub mod Builders
+pub mod Examples
+pub mod FrameExamples

@@ -1,0 +1,9 @@
+pub mod Grown
+pub mod Fields
+pub mod Items
+pub mod ReadBack
+pub mod Spots
+pub mod Sized
+pub mod Steps
+pub mod PutBack
+pub mod Gives

@@ -1,0 +1,5 @@
+pub mod Steps
+pub mod Refusals
+pub mod Reads
+pub mod Writes
+pub mod Changes

@@ -1,0 +1,5 @@
+use Rattle.script_steps.proofs.Exits.{break_passes}
+use Rattle.script_steps.proofs.outcome.on_break.Goals as goal
+
+pub returns : goal.returns
+returns c = λ calls. break_passes calls c.args.frame c.in_default.not-Turn c.in_default.not-Next c.in_default.not-Leave

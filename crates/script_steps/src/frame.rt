@@ -1,0 +1,63 @@
+//! The parts of a script that are still to run.
+use do_tree::{Block, Expr, Simple, Stmt};
+use do_value::{BinOp, Items, Text, UnOp, Value};
+use std::sync::Arc;
+
+/// A part that is still to run once the part inside it is over. It points into the script and copies none of its tree: a
+/// place in a list is the node that keeps the list, and the number of the part that comes next.
+#[derive(Drop)]
+pub enum Frame {
+    /// `TEST ? YES : NO`, whose test is evaluated.
+    Choose(Arc<Expr>, Arc<Expr>),
+    /// A chain of `&&`, `||` or `??`, with the operand that comes next.
+    Chain(Arc<Expr>, usize),
+    /// A chain of operators, with the operand that comes next.
+    Operate(Arc<Expr>, usize),
+    /// The same while an operand is evaluated: the value on its left, its operator, and the operand that comes next.
+    Apply(Value, BinOp, Arc<Expr>, usize),
+    /// An operator before one value.
+    Prefix(UnOp),
+    /// A list, with the items so far, and the item that comes next.
+    List(Vec<Value>, Arc<Expr>, usize),
+    /// A record, with the pairs so far, the key of the pair that is evaluated, and the pair that comes next.
+    Record(Vec<(Text, Value)>, Text, Arc<Expr>, usize),
+    /// `new Error(MESSAGE)`, whose message is evaluated.
+    Error,
+    /// A declaration whose value is evaluated, in this place of the block, and the item that comes next.
+    Declare(Arc<Block>, usize, usize),
+    /// The rest of a block, with the item that comes next.
+    GoOn(Arc<Block>, usize),
+    /// `if`, whose test is evaluated, with its branches.
+    Branch(Arc<Stmt>, Option<Arc<Stmt>>),
+    /// A loop whose test is evaluated, with its test, its body, and what stands between two turns.
+    Test(Arc<Expr>, Arc<Stmt>, Between),
+    /// A loop whose body runs.
+    Turn(Arc<Expr>, Arc<Stmt>, Between),
+    /// A loop between two turns.
+    Loop(Arc<Expr>, Arc<Stmt>, Between),
+    /// `for (let NAME = FIRST; TEST; STEP) BODY`, whose first value is evaluated.
+    Count(Arc<Stmt>),
+    /// `for (let NAME of LIST) BODY`, whose list is evaluated.
+    Visit(Arc<Stmt>),
+    /// The same while its body runs, with the list, and the item that comes next.
+    Next(Arc<Stmt>, Items, usize),
+    /// `throw`, whose value is evaluated.
+    Throw,
+    /// `return`, whose value is evaluated.
+    Return,
+    /// An expression that is run for itself.
+    Pass,
+    /// A block, which is left however it ends.
+    Leave,
+    /// `try`, whose block runs.
+    Catch(Arc<Stmt>),
+}
+
+/// What stands between two turns of a loop.
+#[derive(Drop)]
+pub enum Between {
+    /// Nothing, as in `while`.
+    AtOnce,
+    /// The step of `for (let NAME = FIRST; TEST; STEP) BODY`.
+    Stepped(Arc<Simple>),
+}
