@@ -37,7 +37,7 @@ complete_keeps count c =
 
 -- A request,
 request_keeps : {claim : Claim} (awaited : Bool) (r : Request) → PartKeeps claim (do_request awaited r)
-request_keeps awaited (reads a) = ask_storage_keeps (asked.Store a) (task.reads a)
+request_keeps awaited (reads a) = ask_storage_keeps (asked.Store a) task.reads
 request_keeps awaited syncs = ask_storage_keeps asked.Sync task.syncs
 request_keeps true (writes ops c) = bind_keeps (join_keeps ops) (λ _. complete_keeps (length ops) c)
 request_keeps false (writes ops c) = join_keeps ops

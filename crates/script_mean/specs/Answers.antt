@@ -1,9 +1,11 @@
 -- How a part of a script ends, and what the answer to an ask gives (this project's profile).
-use Rattle.std.specs.Prelude.{ℕ, min, ℤ, pos, Bool, true, false, not, ◌==◌, List, [], ◌∷◌, map, length, Option, Some, None, Result, Ok, Err}
+use Rattle.std.specs.Prelude.{ℕ, min, ℤ, pos, Bool, true, false, not, ◌==◌, if◌then◌else◌, List, [], ◌∷◌, map, length, Option, Some, None, Result, Ok, Err}
 use Rattle.do_value.specs.Tree.{Tree, undefined, null, boolean, number, text, items}
 use Rattle.do_value.specs.Seen.{tree_of}
 use Rattle.do_value.specs.declared.value.Value.{Value}
 use Rattle.do_value.specs.declared.value.Value.TheVariants.{Undefined}
+use Rattle.storage_map.specs.declared.ask.StoreAsk.{StoreAsk}
+use Rattle.storage_map.specs.declared.ask.StoreAsk.TheVariants as ask
 use Rattle.storage_map.specs.declared.answer.Reading.{Reading}
 use Rattle.storage_map.specs.declared.answer.Reading.TheVariants.{One, Pairs, Alarm, Count}
 use Rattle.storage_txn.specs.Overlay.{view}
@@ -61,11 +63,19 @@ abbrev pub completed_by : ℕ → Completed → Reading → Tree
 completed_by tail c (Count n) = completed c (min n tail)
 completed_by tail c _ = completed c 0
 
--- What an answer gives to the task that waits for it so.
+-- Whether the reading is of the kind that the ask has.
+abbrev pub is_answer : StoreAsk → Reading → Bool
+is_answer (ask.Get key) (One v) = true
+is_answer (ask.GetMany keys) (Pairs ps) = true
+is_answer (ask.List options) (Pairs ps) = true
+is_answer ask.Alarm (Alarm alarm) = true
+is_answer _ _ = false
+
+-- What an answer gives to the task that waits for it so. One of another kind gives `undefined`.
 abbrev pub answered : Wait → Answer → Outcome
-answered (reads a) (answer.Read reading) = outcome_of (value_of_reading reading)
-answered (views ops a) (answer.Read reading) = outcome_of (value_of_reading (view ops a reading))
-answered (finds ops a) (answer.Read reading) = gave (found (view ops a reading))
+answered reads (answer.Read reading) = outcome_of (value_of_reading reading)
+answered (views ops a) (answer.Read reading) = if is_answer a reading then outcome_of (value_of_reading (view ops a reading)) else gave undefined
+answered (finds ops a) (answer.Read reading) = if is_answer a reading then gave (found (view ops a reading)) else gave undefined
 answered (completes tail c) (answer.Read reading) = gave (completed_by tail c reading)
 answered outside (answer.Value v) = gave (tree_of v)
 answered outside (answer.Thrown v) = threw (tree_of v)

@@ -42,7 +42,7 @@ complete count c env next st =
 
 -- The call's request, awaited or not.
 abbrev pub do_request : Bool → Request → Run
-do_request awaited (reads a) = ask_storage (asked.Store a) (task.reads a)
+do_request awaited (reads a) = ask_storage (asked.Store a) task.reads
 do_request awaited syncs = ask_storage asked.Sync task.syncs
 do_request true (writes ops c) = join ops >> complete (length ops) c
 do_request false (writes ops c) = join ops

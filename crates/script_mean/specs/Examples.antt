@@ -348,7 +348,7 @@ own_suspended = record {
   class = class_of (own_write ∷ []);
   starts = false;
   frames = to_walk true tree.no_links ∷ to_declare (codes "v") (items (give (var "v") ∷ [])) ∷ [];
-  wait = task.reads (Get (codes "n"));
+  wait = task.reads;
   env = [] ∷ [];
   held = record untouched { awaits = 1 };
 }
@@ -376,7 +376,7 @@ reads_suspended awaits = record {
   class = class_of (reads ∷ []);
   starts = false;
   frames = inside_try (items later_reads);
-  wait = task.reads (Get (codes "a"));
+  wait = task.reads;
   env = [] ∷ [] ∷ [];
   held = record untouched { awaits = awaits };
 }

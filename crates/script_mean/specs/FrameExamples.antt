@@ -40,11 +40,11 @@ GoesOnSo answers turns methods t = (meaning (script_of methods) 0 0 [] (starts_w
 
 -- The first of a single method that holds nothing but the read that it awaits.
 abbrev pub Waits : Method → Env → List Frame → Type 0
-Waits m env frames = GoesOnAs (m ∷ []) (waiting read_once (task.reads (Get (codes "k"))) (m ∷ []) env frames)
+Waits m env frames = GoesOnAs (m ∷ []) (waiting read_once task.reads (m ∷ []) env frames)
 
 -- And the second.
 abbrev pub WaitsSo : List Answer → List Segment → Method → Env → List Frame → Type 0
-WaitsSo answers turns m env frames = GoesOnSo answers turns (m ∷ []) (waiting read_once (task.reads (Get (codes "k"))) (m ∷ []) env frames)
+WaitsSo answers turns m env frames = GoesOnSo answers turns (m ∷ []) (waiting read_once task.reads (m ∷ []) env frames)
 
 -- async m() { item .. }
 abbrev pub method : List (Items → Items) → Method
@@ -200,7 +200,7 @@ abbrev pub in_block : Method
 in_block = method (run (awaited (own_block (run k ∷ run (put "n" (num 1)) ∷ []))) ∷ run (put "m" (num 2)) ∷ [])
 
 abbrev pub blocking : Suspended
-blocking = waiting (record read_once { block = true }) (task.reads (Get (codes "k"))) (in_block ∷ []) ([] ∷ [] ∷ [])
+blocking = waiting (record read_once { block = true }) task.reads (in_block ∷ []) ([] ∷ [] ∷ [])
     (to_pass ∷ to_go_on puts_n ∷ to_leave ∷ to_unblock true ∷ to_walk true tree.no_links ∷ to_pass ∷ to_go_on puts_m ∷ [])
 
 -- let a = 1; await this.h(2); this.ctx.storage.put("m", 2);   where   async h(a) { await k; this.ctx.storage.put("n", 1); }
@@ -212,7 +212,7 @@ helper_asks = async_method "h" ("a" ∷ []) (run k ∷ run (put "n" (num 1)) ∷
 
 -- The task where the helper waits, with what is left of it.
 abbrev pub in_helper : Method → Items → Suspended
-in_helper h left = waiting read_once (task.reads (Get (codes "k"))) (asks_helper ∷ h ∷ []) (with_a (task.value (number (pos 2))))
+in_helper h left = waiting read_once task.reads (asks_helper ∷ h ∷ []) (with_a (task.value (number (pos 2))))
     (to_pass ∷ to_go_on left ∷ to_caller_of true (with_a one) ∷ to_walk true tree.no_links ∷ to_pass ∷ to_go_on puts_m ∷ [])
 
 abbrev pub helping : Suspended

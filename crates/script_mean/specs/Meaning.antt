@@ -22,7 +22,7 @@ use Rattle.script_ops.specs.Truth.{is_true}
 use Rattle.script_mean.specs.Answers.{gave, threw, returned, broke, continued}
 use Rattle.script_mean.specs.Calls.{Calls, store_call, handle_call, reach, call_word, push_to, transaction, block}
 use Rattle.script_mean.specs.Errors.{nested_too_deep}
-use Rattle.script_mean.specs.Paths.{Point, itself, context, storage, environment, of_class, handle, word, holds, begun_by, pushes, parts, parts_from, operators, lazy_operators}
+use Rattle.script_mean.specs.Paths.{Point, itself, context, storage, environment, of_class, handle, word, holds, begun_by, pushes, parts_from, parts_of_push, parts_of_value, operators, lazy_operators}
 use Rattle.script_mean.specs.Places.{Root, variable, own, Step, named, indexed, variable_value, own_value, place_value, property, element, put, write, moved}
 use Rattle.script_mean.specs.Task as task
 use Rattle.script_mean.specs.Task.{Fields, Bound, Scope, Env, Held, untouched, Resume, Segment}
@@ -157,11 +157,11 @@ abbrev mutual
   value awaited calls (tree.path at (tree.this place_at) ls) = do
     steps (parts_from itself ls)
     links awaited calls itself ls
-  value awaited calls (tree.path at (tree.variable n) ls) = with_point n.text (λ p. do
-    steps (parts_from p ls)
-    either (pushes ls) (to_push calls (variable n.text) [] ls) (links awaited calls p ls))
+  value awaited calls (tree.path at (tree.variable n) ls) = with_point n.text (λ p. either (pushes ls)
+      (steps (parts_of_push ls) >> to_push calls (variable n.text) [] ls)
+      (steps (parts_from p ls) >> links awaited calls p ls))
   value awaited calls (tree.path at e ls) = do
-    steps (parts ls)
+    steps (parts_of_value ls)
     v ← value false calls e
     links awaited calls (holds v) ls
   value awaited calls (tree.number at n) = do

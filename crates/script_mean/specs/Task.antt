@@ -62,7 +62,7 @@ pub data Completed : Type 0 where
 -- transaction has made; whether and how many keys a transaction's delete finds; the completion of a write of so many
 -- operations; the durability of all batches; a call or a fetch.
 pub data Wait : Type 0 where
-  reads : StoreAsk → Wait
+  reads : Wait
   views : List Op → StoreAsk → Wait
   finds : List Op → StoreAsk → Wait
   completes : ℕ → Completed → Wait

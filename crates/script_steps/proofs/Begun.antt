@@ -4,13 +4,15 @@ use Rattle.std.proofs.Math.Dec.{leb-zero}
 use Rattle.std.specs.declared.sync.Arc.{Arc}
 use Rattle.std.specs.declared.vec.Vec.{Vec}
 use Rattle.std.specs.declared.alloc.Global.{Global}
-use Rattle.do_value.specs.Tree.{Tree}
+use Rattle.do_value.specs.Keyed.{gathered}
+use Rattle.do_value.specs.Tree.{Tree, fields, items}
 use Rattle.do_value.specs.Tree as value_tree
 use Rattle.do_value.specs.declared.operator.BinOp.{BinOp}
 use Rattle.do_value.specs.declared.operator.UnOp.{UnOp}
 use Rattle.do_value.specs.declared.operator.Builtin.TheVariants.{MakeError}
 use Rattle.script_ops.specs.Binary.{binary}
 use Rattle.script_ops.specs.Calls.{builtin}
+use Rattle.script_ops.specs.Errors.{within_limits}
 use Rattle.do_tree.proofs.Rows.{hidden_exprs, hidden_operands, hidden_option}
 use Rattle.do_tree.specs.Nodes.{exprs_in, operands_in, option_expr_in}
 use Rattle.do_value.specs.Seen.{pairs_in, trees_in}
@@ -26,7 +28,7 @@ use Rattle.do_tree.specs.declared.script.Name.{Name}
 use Rattle.script_mean.specs.Answers.{Outcome, gave, threw, outcome_of}
 use Rattle.script_mean.specs.Calls.{Calls}
 use Rattle.script_mean.specs.Frames.{to_choose, to_chain, to_operate, to_apply, to_prefix, to_list, to_record, to_error}
-use Rattle.script_mean.specs.Meaning.{goes_on, lazy, strict, value, message, exprs, pairs, pair_value, list_of, record_of}
+use Rattle.script_mean.specs.Meaning.{goes_on, lazy, strict, value, message, exprs, pairs, pair_value}
 use Rattle.script_mean.specs.Paths.{operators, lazy_operators}
 use Rattle.script_mean.specs.Turn.{Run, Next, State, ends, of, pass, exceed, either, on_value, steps, ◌>>=◌, ◌>>◌}
 use Rattle.script_mean.specs.Task.{Env}
@@ -65,9 +67,16 @@ count : (xs : List Operand) → operators (operands_in xs) ≡ length xs
 count [] = refl
 count (x ∷ xs) = let e = count xs in omega arith
 
--- The rest of a list, and of a record.
-pub list_none : (n : ℕ) (calls : Calls) (es : tree.Exprs) (got : List Tree) → es ≡ tree.no_exprs → charged n (exprs calls es got) ≡ charged n (list_of got)
-list_none n calls es got e = ap (λ x. charged n (exprs calls x got)) e
+-- What an operator comes to is given or thrown.
+pub of_ends : (r : Result Tree Tree) → of r ≡ ends (outcome_of r)
+of_ends (Ok v) = refl
+of_ends (Err v) = refl
+
+-- A list without further items is made.
+pub list_none : (n : ℕ) (calls : Calls) (es : tree.Exprs) (got : List Tree) (o : Outcome) → es ≡ tree.no_exprs → outcome_of (within_limits (items got)) ≡ o
+    → charged n (exprs calls es got) ≡ charged n (ends o)
+list_none n calls es got o e p =
+    ap (λ x. charged n (exprs calls x got)) e ∙ ap (charged n) (of_ends (within_limits (items got))) ∙ ap (λ z. charged n (ends z)) p
 
 -- A list goes on with its next item.
 pub list_some : (n : ℕ) (calls : Calls) (es : tree.Exprs) (got : List Tree) (x : tree.Expr) (rest : tree.Exprs) → es ≡ tree.expr x rest
@@ -75,19 +84,16 @@ pub list_some : (n : ℕ) (calls : Calls) (es : tree.Exprs) (got : List Tree) (x
 list_some n calls es got x rest e = ap (λ y. charged n (exprs calls y got)) e
 
 -- A record without further pairs is made.
-pub record_none : (n : ℕ) (calls : Calls) (ps : tree.Pairs) (got : List (List ℕ × Tree)) → ps ≡ tree.no_pairs → charged n (pairs calls ps got) ≡ charged n (record_of got)
-record_none n calls ps got e = ap (λ x. charged n (pairs calls x got)) e
+pub record_none : (n : ℕ) (calls : Calls) (ps : tree.Pairs) (got : List (List ℕ × Tree)) (o : Outcome) → ps ≡ tree.no_pairs
+    → outcome_of (within_limits (fields (gathered got))) ≡ o → charged n (pairs calls ps got) ≡ charged n (ends o)
+record_none n calls ps got o e p =
+    ap (λ x. charged n (pairs calls x got)) e ∙ ap (charged n) (of_ends (within_limits (fields (gathered got)))) ∙ ap (λ z. charged n (ends z)) p
 
 -- A record goes on with its next pair.
 pub record_some : (n : ℕ) (calls : Calls) (ps : tree.Pairs) (got : List (List ℕ × Tree)) (name : tree.Named) (o : tree.OptionExpr) (rest : tree.Pairs) (part : Run)
     → ps ≡ tree.pair name o rest → pair_value calls name.text o ≡ part
     → charged n (pairs calls ps got) ≡ charged n (framed calls (to_record got name.text rest) part)
 record_some n calls ps got name o rest part e p = ap (λ y. charged n (pairs calls y got)) e ∙ ap (λ r. charged n (framed calls (to_record got name.text rest) r)) p
-
--- What an operator comes to is given or thrown.
-pub of_ends : (r : Result Tree Tree) → of r ≡ ends (outcome_of r)
-of_ends (Ok v) = refl
-of_ends (Err v) = refl
 
 module _ (calls : Calls) where
   -- A chain after a value.

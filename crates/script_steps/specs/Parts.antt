@@ -3,9 +3,11 @@ use Rattle.std.specs.Prelude.{ℕ, zero, suc, List, [], ◌∷◌, drop, Option,
 use Rattle.do_value.specs.Seen.{tree_of}
 use Rattle.do_value.specs.Tree.{Tree}
 use Rattle.do_value.specs.declared.value.Value.{Value}
-use Rattle.do_tree.specs.Nodes.{option_expr_in}
+use Rattle.do_tree.specs.Nodes.{option_expr_in, with_arg, with_link}
 use Rattle.do_tree.specs.Seen.{expr_of, named_of}
-use Rattle.do_tree.specs.Tree.{Named, Expr, Exprs, no_exprs, expr, Operands, no_operands, operand, Pairs, no_pairs, pair, lazy, strict, list, rec, undefined, variable, Items, no_items, declare, statement, Stmt, for, for_of, try, break, Simple, run}
+use Rattle.do_tree.specs.Tree.{Named, Expr, Exprs, no_exprs, expr, Operands, no_operands, operand, Links, no_links, field, index, call, Args, no_args, value_arg, callback, Pairs, no_pairs, pair, lazy, strict, path, group, list, rec, undefined, variable, Items, no_items, declare, statement, Stmt, for, for_of, try, break, Simple, run}
+use Rattle.do_tree.specs.declared.expr.Arg.{Arg}
+use Rattle.do_tree.specs.declared.expr.Link.{Link}
 use Rattle.do_tree.specs.declared.expr.Chain.{Chain}
 use Rattle.do_tree.specs.declared.expr.Chain.TheVariants as chain
 use Rattle.script_steps.specs.declared.node.NextExpr.{NextExpr}
@@ -119,3 +121,64 @@ declared_in _ = []
 abbrev pub with_item : Option (Value × ℕ) → List Tree → List Tree
 with_item None ts = []
 with_item (Some found) ts = tree_of found.0 ∷ drop found.1 ts
+
+-- The links of a path.
+abbrev pub links_of : Expr → Links
+links_of (path at e ls) = ls
+links_of _ = no_links
+
+-- The links of a path from a place on.
+abbrev pub links_from : ℕ → Links → Links
+links_from zero ls = ls
+links_from (suc n) no_links = no_links
+links_from (suc n) (field name ls) = links_from n ls
+links_from (suc n) (index at e ls) = links_from n ls
+links_from (suc n) (call at args ls) = links_from n ls
+
+-- The arguments of the first of the links, if it is a call.
+abbrev pub args_of : Links → Args
+args_of (call at args ls) = args
+args_of _ = no_args
+
+-- The arguments of a call from a place on.
+abbrev pub args_from : ℕ → Args → Args
+args_from zero args = args
+args_from (suc n) no_args = no_args
+args_from (suc n) (value_arg e args) = args_from n args
+args_from (suc n) (callback at name is args) = args_from n args
+
+-- The parts of paths in an expression: its links from a place on, and the arguments of one of them from a place on.
+abbrev pub links_in : Expr → ℕ → Links
+links_in e n = links_from n (links_of e)
+
+abbrev pub args_in : Expr → ℕ → ℕ → Args
+args_in e n k = args_from k (args_of (links_in e n))
+
+-- An expression that has something of its own besides the one in it.
+abbrev pub IsBare : Expr → Type 0
+IsBare (group at e) = ⊥
+IsBare (lazy at k e no_exprs) = ⊥
+IsBare (strict at e no_operands) = ⊥
+IsBare _ = Unit {0}
+
+-- A bound on how often what stands around an expression can be taken off.
+abbrev pub coats : Expr → ℕ
+coats (group at e) = suc (coats e)
+coats (lazy at k e es) = suc (coats e)
+coats (strict at e os) = suc (coats e)
+coats _ = 0
+
+-- One that is no path.
+abbrev pub IsPlain : Expr → Type 0
+IsPlain (path at e ls) = ⊥
+IsPlain e = IsBare e
+
+-- A link that was found, and those behind it; or none.
+abbrev pub with_next : Option Link → Links → Links
+with_next None ls = no_links
+with_next (Some l) ls = with_link l ls
+
+-- An argument that was found, and those behind it; or none.
+abbrev pub with_next_arg : Option Arg → Args → Args
+with_next_arg None args = no_args
+with_next_arg (Some a) args = with_arg a args

@@ -1,5 +1,5 @@
 -- Frames, foci and moves as the definition of the meaning has them.
-use Rattle.std.specs.Prelude.{ℕ, zero, suc, pos, negsuc, List, [], ◌∷◌, drop, Option, Some, None}
+use Rattle.std.specs.Prelude.{ℕ, zero, suc, Bool, pos, negsuc, List, [], ◌∷◌, drop, Option, Some, None}
 use Rattle.do_value.specs.Seen.{tree_of, trees_in, pairs_in}
 use Rattle.do_value.specs.Tree.{Tree}
 use Rattle.do_value.specs.declared.operator.BinOp.{BinOp}
@@ -9,16 +9,19 @@ use Rattle.do_tree.specs.Seen.{expr_of, stmt_of}
 use Rattle.do_tree.specs.Tree as tree
 use Rattle.do_tree.specs.Tree.{Expr, OptionExpr, Operands, Stmt, Simple}
 use Rattle.script_ops.specs.Binary.{binary}
-use Rattle.script_ops.specs.Errors.{wrong_type}
 use Rattle.script_mean.specs.Answers.{Outcome, gave, threw, returned, broke, continued}
-use Rattle.script_mean.specs.Calls.{Calls}
+use Rattle.script_mean.specs.Calls.{Calls, on_transaction, on_block}
 use Rattle.script_mean.specs.Frames as frame
-use Rattle.script_mean.specs.Frames.{Frame, frame_next}
-use Rattle.script_mean.specs.Meaning.{value, value_or_undefined, strict, list_of, record_of, place, body, run, simple, caught_as}
-use Rattle.script_mean.specs.Places.{variable_value}
+use Rattle.script_mean.specs.Frames.{Frame, frame_next, called, written}
+use Rattle.script_mean.specs.Meaning.{value, value_or_undefined, strict, arguments, links, to_push, to_place, place, body, run, simple, caught_as, to_caller}
+use Rattle.script_mean.specs.Places.{variable_value, put, write}
 use Rattle.script_mean.specs.Task as task
-use Rattle.script_mean.specs.Turn.{Run, ends, throws, nowhere, of, step, steps, within, leaving, declare, ◌>>=◌, ◌>>◌}
-use Rattle.script_steps.specs.Parts.{exprs_of, chain_of, operands_of, pairs_of, name_of, exprs_from, operands_from, pairs_from, name_in, body_in, test_in, step_in, caught_in, handler_in, items_from, declared_in}
+use Rattle.script_mean.specs.Task.{Env}
+use Rattle.script_mean.specs.Turn.{Run, ends, nowhere, of, step, steps, within, leaving, declare, ◌>>=◌, ◌>>◌}
+use Rattle.script_places.specs.Steps.{steps_in}
+use Rattle.script_vars.specs.Seen.{env_of}
+use Rattle.script_steps.specs.Paths.{root_of, point_of, callee_of, writing_of, path_frame_of}
+use Rattle.script_steps.specs.Parts.{links_in, args_in, exprs_of, chain_of, operands_of, pairs_of, name_of, exprs_from, operands_from, pairs_from, name_in, body_in, test_in, step_in, caught_in, handler_in, items_from, declared_in}
 use Rattle.script_steps.specs.declared.frame.Between.{Between as Standing}
 use Rattle.script_steps.specs.declared.frame.Between.TheVariants as standing
 use Rattle.script_steps.specs.declared.frame.Frame.{Frame as Waiting}
@@ -59,6 +62,10 @@ frame_of waiting.Return = frame.to_return
 frame_of waiting.Pass = frame.to_pass
 frame_of waiting.Leave = frame.to_leave
 frame_of (waiting.Catch s) = frame.to_catch (caught_in (stmt_of s.value)) (handler_in (stmt_of s.value))
+frame_of (waiting.Path f) = path_frame_of f
+frame_of (waiting.Caller awaited vars) = frame.to_caller_of awaited (env_of vars)
+frame_of waiting.Commit = frame.to_commit
+frame_of (waiting.Unblock awaited) = frame.to_unblock awaited
 
 -- The variable of this name, if there is a name.
 abbrev pub variable_of : Option (List ℕ) → Run
@@ -106,11 +113,24 @@ writing calls (tree.decrement at p) = place calls p (frame.written calls (frame.
 abbrev pub over : Calls → Expr → Stmt → frame.Between → Run
 over calls test s b = frame.between calls b >> frame.again calls test s b
 
+-- What a frame does where the part inside it ended so.
+abbrev pub handed : Calls → Frame → Outcome → Run
+handed calls f o env next st = frame_next calls f next o env st
+
+-- A helper, the body of a transaction and that of a block ended so.
+abbrev pub returned_to : Bool → Env → Outcome → Run
+returned_to awaited caller o env next st = to_caller awaited caller next o env st
+
+abbrev pub committing : Outcome → Run
+committing o env next st = on_transaction next o env st
+
+abbrev pub unblocking : Bool → Outcome → Run
+unblocking awaited o env next st = on_block awaited next o env st
+
 -- What a focus does, by the definition's own words.
 abbrev pub focus_run : Calls → Focus → Run
 focus_run calls (focus.Ended o) = ends (outcome_of o)
 focus_run calls (focus.Value awaited e) = value awaited calls (expr_of e.value)
-focus_run calls (focus.Path awaited e) = value awaited calls (expr_of e.value)
 focus_run calls (focus.Variable e) = variable_of (name_of (expr_of e.value))
 focus_run calls (focus.Named name) = step >> variable_value name
 focus_run calls (focus.Run s) = run calls (stmt_of s.value)
@@ -123,10 +143,18 @@ focus_run calls (focus.Visit s v) = visiting calls (stmt_of s.value) (tree_of v)
 focus_run calls (focus.Handle s v) = handling calls (stmt_of s.value) (tree_of v)
 focus_run calls (focus.Simple p) = simple calls (simple_of p.value)
 focus_run calls (focus.Write p) = writing calls (simple_of p.value)
-focus_run calls focus.WrongType = throws wrong_type
 focus_run calls (focus.Leave o) = left (outcome_of o)
-focus_run calls (focus.List got) = list_of (trees_in got.items)
-focus_run calls (focus.Record got) = record_of (pairs_in got.items)
+focus_run calls (focus.Handed f v) = handed calls (path_frame_of f) (gave (tree_of v))
+focus_run calls (focus.Walk awaited p e n) = links awaited calls (point_of p) (links_in (expr_of e.value) n)
+focus_run calls (focus.Arguments c got e n k) = arguments calls (args_in (expr_of e.value) n k) (trees_in got.items) (called calls (callee_of c))
+focus_run calls (focus.Call c got) = called calls (callee_of c) (trees_in got.items)
+focus_run calls (focus.Push r ss e n) = to_push calls (root_of r) (steps_in ss.items) (links_in (expr_of e.value) n)
+focus_run calls (focus.Place w r ss e n) = to_place calls (root_of r) (steps_in ss.items) (links_in (expr_of e.value) n) (written calls (writing_of w) (root_of r))
+focus_run calls (focus.Written w r ss) = written calls (writing_of w) (root_of r) (steps_in ss.items)
+focus_run calls (focus.Assign r ss v) = write (root_of r) (steps_in ss.items) (put (tree_of v))
+focus_run calls (focus.Return awaited vars o) = returned_to awaited (env_of vars) (outcome_of o)
+focus_run calls (focus.Commit o) = committing (outcome_of o)
+focus_run calls (focus.Unblock awaited o) = unblocking awaited (outcome_of o)
 
 -- So many steps are charged first.
 abbrev pub charged : ℕ → Run → Run
@@ -141,10 +169,6 @@ framed calls f part env next st = part env (frame_next calls f next) st
 abbrev pub move_run : Calls → Move → Run
 move_run calls (move.Then n f) = charged n (focus_run calls f)
 move_run calls (move.Inside n w f) = charged n (framed calls (frame_of w) (focus_run calls f))
-
--- What a frame does where the part inside it ended so.
-abbrev pub handed : Calls → Frame → Outcome → Run
-handed calls f o env next st = frame_next calls f next o env st
 
 -- An operator of a chain between two values, and the rest of the chain.
 abbrev pub applied : Calls → BinOp → Tree → Tree → Operands → Run

@@ -1,5 +1,5 @@
 //! Blocks, item by item, and loops, turn by turn.
-ghost use Rattle.std.specs.Prelude.{◌≡◌, IfOk, drop, false};
+ghost use Rattle.std.specs.Prelude.{◌≡◌, ◌<◌, IfOk, drop, false};
 ghost use Rattle.do_tree.specs.Nodes.{block_in, option_expr_in, option_stmt_in};
 ghost use Rattle.do_tree.specs.Seen.{expr_of, stmt_of};
 ghost use Rattle.do_value.specs.Seen.{tree_of};
@@ -12,18 +12,22 @@ ghost use Rattle.script_mean.specs.Turn.{either};
 ghost use Rattle.script_ops.specs.Truth.{is_true};
 ghost use Rattle.script_steps.specs.Parts.{body_in, declared_in, items_from, name_in, with_item};
 ghost use Rattle.script_steps.specs.Seen.{between_of, focus_run, handed, move_run, over};
+ghost use Rattle.script_steps.specs.Weight.{LeavesLess, focus_weight};
 
 use crate::focus::{Focus, Move, Outcome};
 use crate::frame::{Between, Frame};
 use crate::node::again;
+use crate::operators::of_wrong_type;
 use do_tree::{Block, Expr, Item, Stmt};
 use do_value::{Items, Mem, Value};
 use script_ops::truth;
+use std::alloc::Global;
 use std::sync::Arc;
 
 /// The items of a block from that place on.
 pub fn begin_body(block: Arc<Block>, place: usize) -> Mem<Move>
-    ensures { IfOk result (λ m. (calls : Calls) → body calls (items_from place (block_in block.value)) ≡ move_run calls m) }
+    ensures moves { IfOk result (λ m. (calls : Calls) → body calls (items_from place (block_in block.value)) ≡ move_run calls m) }
+    ensures less { IfOk result (LeavesLess 9) }
 {
     if place >= block.items.len() {
         return Ok(Move::Then(0, Focus::Ended(Outcome::Gave(Value::Undefined))));
@@ -42,7 +46,8 @@ pub fn begin_body(block: Arc<Block>, place: usize) -> Mem<Move>
 
 /// The value of a declaration, which is `undefined` where there is none.
 fn first_focus(value: &Option<Arc<Expr>>) -> Mem<Focus>
-    ensures { IfOk result (λ f. (calls : Calls) → value_or_undefined calls (option_expr_in value.now) ≡ focus_run calls f) }
+    ensures begins { IfOk result (λ f. (calls : Calls) → value_or_undefined calls (option_expr_in value.now) ≡ focus_run calls f) }
+    ensures less { IfOk result (λ f. focus_weight f < 9) }
 {
     match value {
         Some(value) => Ok(Focus::Value(false, again(value)?)),
@@ -52,8 +57,9 @@ fn first_focus(value: &Option<Arc<Expr>>) -> Mem<Focus>
 
 /// A declaration whose value is there, and the rest of its block.
 pub(crate) fn declared(block: Arc<Block>, place: usize, next: usize, value: Value) -> Mem<Move>
-    ensures { IfOk result (λ m. (calls : Calls)
+    ensures moves { IfOk result (λ m. (calls : Calls)
         → handed calls (to_declare (declared_in (items_from place (block_in block.value))) (items_from next (block_in block.value))) (gave (tree_of value)) ≡ move_run calls m) }
+    ensures less { IfOk result (LeavesLess 12) }
 {
     let rest = again(&block)?;
     Ok(Move::Inside(
@@ -65,7 +71,8 @@ pub(crate) fn declared(block: Arc<Block>, place: usize, next: usize, value: Valu
 
 /// The branch of an `if`.
 pub(crate) fn branch(yes: Arc<Stmt>, other: Option<Arc<Stmt>>, test: &Value) -> Focus
-    ensures { (calls : Calls) → either (is_true (tree_of test.now)) (run calls (stmt_of yes.value)) (run_or_pass calls (option_stmt_in other)) ≡ focus_run calls result }
+    ensures begins { (calls : Calls) → either (is_true (tree_of test.now)) (run calls (stmt_of yes.value)) (run_or_pass calls (option_stmt_in other)) ≡ focus_run calls result }
+    ensures less { focus_weight result < 9 }
 {
     if truth(test) {
         return Focus::Run(yes);
@@ -78,8 +85,9 @@ pub(crate) fn branch(yes: Arc<Stmt>, other: Option<Arc<Stmt>>, test: &Value) -> 
 
 /// How a loop begins, where it is its test, and its body and itself again where the test is true.
 pub fn begin_loop(test: Arc<Expr>, body: Arc<Stmt>, between: Between) -> Mem<Move>
-    ensures { IfOk result (λ m. (calls : Calls)
+    ensures moves { IfOk result (λ m. (calls : Calls)
         → unfolded (value false calls (expr_of test.value)) (run calls (stmt_of body.value)) (what_stands calls (between_of between)) ≡ move_run calls m) }
+    ensures less { IfOk result (LeavesLess 4) }
 {
     let inner = again(&test)?;
     Ok(Move::Inside(
@@ -91,8 +99,9 @@ pub fn begin_loop(test: Arc<Expr>, body: Arc<Stmt>, between: Between) -> Mem<Mov
 
 /// A loop after its test.
 pub(crate) fn tested(test: Arc<Expr>, body: Arc<Stmt>, between: Between, value: &Value) -> Mem<Move>
-    ensures { IfOk result (λ m. (calls : Calls)
+    ensures moves { IfOk result (λ m. (calls : Calls)
         → handed calls (to_test (expr_of test.value) (stmt_of body.value) (between_of between)) (gave (tree_of value.now)) ≡ move_run calls m) }
+    ensures less { IfOk result (LeavesLess 9) }
 {
     if truth(value) {
         let inner = again(&body)?;
@@ -104,7 +113,8 @@ pub(crate) fn tested(test: Arc<Expr>, body: Arc<Stmt>, between: Between, value: 
 
 /// A loop after its body.
 pub(crate) fn turned(test: Arc<Expr>, body: Arc<Stmt>, between: Between) -> Mem<Move>
-    ensures { IfOk result (λ m. (calls : Calls) → over calls (expr_of test.value) (stmt_of body.value) (between_of between) ≡ move_run calls m) }
+    ensures moves { IfOk result (λ m. (calls : Calls) → over calls (expr_of test.value) (stmt_of body.value) (between_of between) ≡ move_run calls m) }
+    ensures less { IfOk result (LeavesLess 9) }
 {
     match between {
         Between::AtOnce => Ok(Move::Then(0, Focus::Loop(test, body, Between::AtOnce))),
@@ -120,20 +130,22 @@ pub(crate) fn turned(test: Arc<Expr>, body: Arc<Stmt>, between: Between) -> Mem<
 }
 
 /// A loop over a list, which is there.
-pub(crate) fn visited(node: Arc<Stmt>, list: Value) -> Mem<Move>
-    ensures { IfOk result (λ m. (calls : Calls)
+pub(crate) fn visited(alloc: Global, node: Arc<Stmt>, list: Value) -> Mem<Move>
+    ensures moves { IfOk result (λ m. (calls : Calls)
         → each_of (name_in (stmt_of node.value)) (run calls (body_in (stmt_of node.value))) (tree_of list) ≡ move_run calls m) }
+    ensures less { IfOk result (LeavesLess 9) }
 {
     match list {
         Value::List(items) => visit_from(node, items, 0),
-        _ => Ok(Move::Then(0, Focus::WrongType)),
+        _ => Ok(Move::Then(0, Focus::Ended(of_wrong_type(alloc)?))),
     }
 }
 
 /// A loop over a list, from the item at that place on.
 pub(crate) fn visit_from(node: Arc<Stmt>, items: Items, place: usize) -> Mem<Move>
-    ensures { IfOk result (λ m. (calls : Calls)
+    ensures moves { IfOk result (λ m. (calls : Calls)
         → each (name_in (stmt_of node.value)) (run calls (body_in (stmt_of node.value))) (drop place items) ≡ move_run calls m) }
+    ensures less { IfOk result (LeavesLess 9) }
 {
     match item_at(&items, place)? {
         None => Ok(Move::Then(0, Focus::Ended(Outcome::Gave(Value::Undefined)))),

@@ -1,7 +1,10 @@
 //! What is to be done next.
 use crate::frame::{Between, Frame};
+use crate::path::{Callee, PathFrame, Point, Root, Writing};
 use do_tree::{Block, Expr, Simple, Stmt};
 use do_value::{Text, Value};
+use script_places::Step;
+use script_vars::Vars;
 use std::sync::Arc;
 
 /// How a part ended.
@@ -27,8 +30,6 @@ pub enum Focus {
     Ended(Outcome),
     /// An expression is to be evaluated. The flag tells that it is the operand of an await.
     Value(bool, Arc<Expr>),
-    /// A path is to be evaluated, with the same flag.
-    Path(bool, Arc<Expr>),
     /// The variable is to be read that this expression names.
     Variable(Arc<Expr>),
     /// The variable of this name is to be read, for which a step is charged.
@@ -53,14 +54,31 @@ pub enum Focus {
     Simple(Arc<Simple>),
     /// The place of this statement is to be found, and written, once its step is charged.
     Write(Arc<Simple>),
-    /// An error is to be thrown, since a value is of a kind that isn't taken.
-    WrongType,
     /// A block is left, and its names with it, and ended so.
     Leave(Outcome),
-    /// The list of these values is to be made.
-    List(Vec<Value>),
-    /// The record of these pairs is to be made.
-    Record(Vec<(Text, Value)>),
+    /// A part of a path is handed the value that it waits for.
+    Handed(PathFrame, Value),
+    /// A path goes on from this point with this link. The flag tells that it is the operand of an await.
+    Walk(bool, Point, Arc<Expr>, usize),
+    /// The arguments of a call are to be evaluated: what is called, the arguments so far, the path and the call's link, and
+    /// the argument that comes next.
+    Arguments(Callee, Vec<Value>, Arc<Expr>, usize, usize),
+    /// A call with these arguments.
+    Call(Callee, Vec<Value>),
+    /// The rest of the place of a push, and the push.
+    Push(Root, Vec<Step>, Arc<Expr>, usize),
+    /// The rest of the place of a write, and the write.
+    Place(Writing, Root, Vec<Step>, Arc<Expr>, usize),
+    /// A write to a place that is found.
+    Written(Writing, Root, Vec<Step>),
+    /// The place is to have this value.
+    Assign(Root, Vec<Step>, Value),
+    /// A helper ended so: its caller goes on with its own variables. The flag tells that the call is awaited.
+    Return(bool, Vars, Outcome),
+    /// The body of a transaction ended so.
+    Commit(Outcome),
+    /// The body of a block ended so. The flag tells that it is awaited.
+    Unblock(bool, Outcome),
 }
 
 /// How a part unfolds. So many steps are charged, and then the focus is done.

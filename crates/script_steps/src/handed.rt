@@ -1,5 +1,5 @@
 //! What a frame does with the value of the part inside it.
-ghost use Rattle.std.specs.Prelude.{◌≡◌, false, IfOk};
+ghost use Rattle.std.specs.Prelude.{◌≡◌, ◌+◌, ◌<◌, false, IfOk};
 ghost use Rattle.do_tree.specs.Seen.{expr_of};
 ghost use Rattle.do_value.specs.Seen.{tree_of};
 ghost use Rattle.script_mean.specs.Answers.{gave};
@@ -9,6 +9,7 @@ ghost use Rattle.script_mean.specs.Turn.{either};
 ghost use Rattle.script_ops.specs.Truth.{is_true};
 ghost use Rattle.script_steps.specs.Parts.{chain_of, exprs_from, exprs_of, operands_from, operands_of};
 ghost use Rattle.script_steps.specs.Seen.{applied, focus_run, frame_of, handed, move_run};
+ghost use Rattle.script_steps.specs.Weight.{LeavesLess, focus_weight, frame_weight};
 
 use crate::block::{branch, declared, tested, turned, visit_from, visited};
 use crate::focus::{Focus, Move, Outcome};
@@ -24,7 +25,8 @@ use std::sync::Arc;
 
 /// What a frame does with the value of the part inside it.
 pub fn hand(alloc: Global, frame: Frame, value: Value) -> Mem<Move>
-    ensures { IfOk result (λ m. (calls : Calls) → handed calls (frame_of frame) (gave (tree_of value)) ≡ move_run calls m) }
+    ensures moves { IfOk result (λ m. (calls : Calls) → handed calls (frame_of frame) (gave (tree_of value)) ≡ move_run calls m) }
+    ensures less { IfOk result (LeavesLess (frame_weight frame + 8)) }
 {
     match frame {
         Frame::Choose(yes, no) => Ok(Move::Then(0, chosen(yes, no, &value))),
@@ -35,12 +37,12 @@ pub fn hand(alloc: Global, frame: Frame, value: Value) -> Mem<Move>
         Frame::List(got, node, place) => {
             let mut got = got;
             put(&mut got, value)?;
-            list_from(0, got, node, place)
+            list_from(alloc, 0, got, node, place)
         }
         Frame::Record(got, key, node, place) => {
             let mut got = got;
             put_pair(&mut got, key, value)?;
-            record_from(0, got, node, place)
+            record_from(alloc, 0, got, node, place)
         }
         Frame::Error => Ok(Move::Then(0, Focus::Ended(error_of(alloc, &[value])?))),
         Frame::Declare(block, place, next) => declared(block, place, next, value),
@@ -50,19 +52,27 @@ pub fn hand(alloc: Global, frame: Frame, value: Value) -> Mem<Move>
         Frame::Turn(test, body, between) => turned(test, body, between),
         Frame::Loop(test, body, between) => Ok(Move::Then(0, Focus::Loop(test, body, between))),
         Frame::Count(node) => Ok(Move::Then(0, Focus::Count(node, value))),
-        Frame::Visit(node) => visited(node, value),
+        Frame::Visit(node) => visited(alloc, node, value),
         Frame::Next(node, items, next) => visit_from(node, items, next),
         Frame::Throw => Ok(Move::Then(0, Focus::Ended(Outcome::Threw(value)))),
         Frame::Return => Ok(Move::Then(0, Focus::Ended(Outcome::Returned(value)))),
         Frame::Pass => Ok(Move::Then(0, Focus::Ended(Outcome::Gave(Value::Undefined)))),
         Frame::Leave => Ok(Move::Then(0, Focus::Leave(Outcome::Gave(value)))),
         Frame::Catch(_) => Ok(Move::Then(0, Focus::Ended(Outcome::Gave(value)))),
+        Frame::Path(part) => Ok(Move::Then(0, Focus::Handed(part, value))),
+        Frame::Caller(awaited, vars) => {
+            let outcome = Outcome::Gave(value);
+            Ok(Move::Then(0, Focus::Return(awaited, vars, outcome)))
+        }
+        Frame::Commit => Ok(Move::Then(0, Focus::Commit(Outcome::Gave(value)))),
+        Frame::Unblock(awaited) => Ok(Move::Then(0, Focus::Unblock(awaited, Outcome::Gave(value)))),
     }
 }
 
 /// The branch of a choice.
 fn chosen(yes: Arc<Expr>, no: Arc<Expr>, test: &Value) -> Focus
-    ensures { (calls : Calls) → either (is_true (tree_of test.now)) (value false calls (expr_of yes.value)) (value false calls (expr_of no.value)) ≡ focus_run calls result }
+    ensures begins { (calls : Calls) → either (is_true (tree_of test.now)) (value false calls (expr_of yes.value)) (value false calls (expr_of no.value)) ≡ focus_run calls result }
+    ensures less { focus_weight result < 9 }
 {
     if truth(test) {
         Focus::Value(false, yes)
@@ -73,8 +83,9 @@ fn chosen(yes: Arc<Expr>, no: Arc<Expr>, test: &Value) -> Focus
 
 /// A chain of `&&`, `||` or `??` after the value of an operand, from that place on.
 fn chain_on(node: Arc<Expr>, place: usize, value: Value) -> Mem<Move>
-    ensures { IfOk result (λ m. (calls : Calls)
+    ensures moves { IfOk result (λ m. (calls : Calls)
         → lazy calls (chain_of (expr_of node.value)) (tree_of value) (exprs_from place (exprs_of (expr_of node.value))) ≡ move_run calls m) }
+    ensures less { IfOk result (LeavesLess 9) }
 {
     match expr_at(&node, place)? {
         None => Ok(Move::Then(0, Focus::Ended(Outcome::Gave(value)))),
@@ -101,8 +112,9 @@ fn goes_on(chain: Chain, value: &Value) -> bool
 
 /// A chain of operators after the value of an operand, from that place on.
 fn operate_on(node: Arc<Expr>, place: usize, value: Value) -> Mem<Move>
-    ensures { IfOk result (λ m. (calls : Calls)
+    ensures moves { IfOk result (λ m. (calls : Calls)
         → strict calls (tree_of value) (operands_from place (operands_of (expr_of node.value))) ≡ move_run calls m) }
+    ensures less { IfOk result (LeavesLess 9) }
 {
     match operand_at(&node, place)? {
         None => Ok(Move::Then(0, Focus::Ended(Outcome::Gave(value)))),
@@ -124,8 +136,9 @@ fn apply_on(
     node: Arc<Expr>,
     place: usize,
 ) -> Mem<Move>
-    ensures { IfOk result (λ m. (calls : Calls)
+    ensures moves { IfOk result (λ m. (calls : Calls)
         → applied calls op (tree_of left) (tree_of right) (operands_from place (operands_of (expr_of node.value))) ≡ move_run calls m) }
+    ensures less { IfOk result (LeavesLess 9) }
 {
     match binary(alloc, op, &left, &right) {
         Ok(value) => operate_on(node, place, value),

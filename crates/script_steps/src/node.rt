@@ -9,7 +9,7 @@ use do_value::{BinOp, Mem, NoMemory};
 use std::sync::Arc;
 
 /// The same node again.
-pub(crate) fn again<T: Drop>(node: &Arc<T>) -> Mem<Arc<T>>
+pub fn again<T: Drop>(node: &Arc<T>) -> Mem<Arc<T>>
     ensures { IfOk result (λ again. again.value ≡ node.now.value) }
 {
     match node.clone() {

@@ -5,6 +5,7 @@ ghost use Rattle.do_tree.specs.Seen.{stmt_of};
 ghost use Rattle.script_mean.specs.Calls.{Calls};
 ghost use Rattle.script_mean.specs.Meaning.{run, simple};
 ghost use Rattle.script_steps.specs.Seen.{charged, move_run, returning};
+ghost use Rattle.script_steps.specs.Weight.{LeavesLess};
 
 use crate::focus::{Focus, Move, Outcome};
 use crate::frame::{Between, Frame};
@@ -15,7 +16,8 @@ use std::sync::Arc;
 
 /// How a statement begins.
 pub fn begin_run(stmt: &Arc<Stmt>) -> Mem<Move>
-    ensures { IfOk result (λ m. (calls : Calls) → run calls (stmt_of stmt.now.value) ≡ move_run calls m) }
+    ensures moves { IfOk result (λ m. (calls : Calls) → run calls (stmt_of stmt.now.value) ≡ move_run calls m) }
+    ensures less { IfOk result (LeavesLess 2) }
 {
     match &**stmt {
         Stmt::Block(block) => Ok(Move::Then(1, Focus::Block(again(block)?))),
@@ -57,7 +59,8 @@ pub fn begin_run(stmt: &Arc<Stmt>) -> Mem<Move>
 
 /// A return, for which a step is charged.
 fn begin_return(value: &Option<Arc<Expr>>) -> Mem<Move>
-    ensures { IfOk result (λ m. (calls : Calls) → charged 1 (returning calls (option_expr_in value.now)) ≡ move_run calls m) }
+    ensures moves { IfOk result (λ m. (calls : Calls) → charged 1 (returning calls (option_expr_in value.now)) ≡ move_run calls m) }
+    ensures less { IfOk result (LeavesLess 2) }
 {
     match value {
         Some(value) => {
@@ -70,7 +73,8 @@ fn begin_return(value: &Option<Arc<Expr>>) -> Mem<Move>
 
 /// How an expression that is run for itself begins, or a write to a place.
 pub fn begin_simple(inner: &Arc<Simple>) -> Mem<Move>
-    ensures { IfOk result (λ m. (calls : Calls) → simple calls (simple_of inner.now.value) ≡ move_run calls m) }
+    ensures moves { IfOk result (λ m. (calls : Calls) → simple calls (simple_of inner.now.value) ≡ move_run calls m) }
+    ensures less { IfOk result (LeavesLess 1) }
 {
     match &inner.write {
         Write::Nothing => {

@@ -4,7 +4,9 @@ ghost use Rattle.do_tree.specs.Nodes.{option_expr_in};
 ghost use Rattle.do_tree.specs.Seen.{expr_of};
 ghost use Rattle.script_mean.specs.Calls.{Calls};
 ghost use Rattle.script_mean.specs.Meaning.{message, value};
+ghost use Rattle.script_steps.specs.Parts.{IsPlain};
 ghost use Rattle.script_steps.specs.Seen.{charged, move_run};
+ghost use Rattle.script_steps.specs.Weight.{LeavesLess};
 
 use crate::focus::{Focus, Move, Outcome};
 use crate::frame::Frame;
@@ -16,9 +18,12 @@ use do_value::{Mem, Value};
 use std::alloc::Global;
 use std::sync::Arc;
 
-/// How an expression begins. The flag tells that it is the operand of an await.
+/// How an expression begins. The flag tells that it is the operand of an await. Paths begin elsewhere, and [`crate::bare`] takes
+/// off what has nothing of its own.
 pub fn begin_value(alloc: Global, awaited: bool, expr: &Arc<Expr>) -> Mem<Move>
-    ensures { IfOk result (λ m. (calls : Calls) → value awaited calls (expr_of expr.now.value) ≡ move_run calls m) }
+    requires { IsPlain (expr_of expr.now.value) }
+    ensures moves { IfOk result (λ m. (calls : Calls) → value awaited calls (expr_of expr.now.value) ≡ move_run calls m) }
+    ensures less { IfOk result (LeavesLess 2) }
 {
     match &**expr {
         Expr::Choice { test, yes, no, .. } => {
@@ -46,32 +51,9 @@ pub fn begin_value(alloc: Global, awaited: bool, expr: &Arc<Expr>) -> Mem<Move>
             Ok(Move::Inside(1, Frame::Prefix(*op), Focus::Value(false, value)))
         }
         Expr::Await { value, .. } => Ok(Move::Then(1, Focus::Value(true, again(value)?))),
-        Expr::Group { inside, .. } => Ok(Move::Then(0, Focus::Value(false, again(inside)?))),
-        Expr::List { .. } => list_from(1, Vec::new(alloc), again(expr)?, 0),
-        Expr::Record { .. } => record_from(1, Vec::new(alloc), again(expr)?, 0),
+        Expr::List { .. } => list_from(alloc, 1, Vec::new(alloc), again(expr)?, 0),
+        Expr::Record { .. } => record_from(alloc, 1, Vec::new(alloc), again(expr)?, 0),
         Expr::NewError { message, .. } => begin_error(alloc, message),
-        _ => begin_plain(awaited, expr),
-    }
-}
-
-/// The message of an error begins, for which a step is charged.
-fn begin_error(alloc: Global, text: &Option<Arc<Expr>>) -> Mem<Move>
-    ensures { IfOk result (λ m. (calls : Calls) → charged 1 (message calls (option_expr_in text.now)) ≡ move_run calls m) }
-{
-    match text {
-        Some(text) => {
-            let text = again(text)?;
-            Ok(Move::Inside(1, Frame::Error, Focus::Value(false, text)))
-        }
-        None => Ok(Move::Then(1, Focus::Ended(error_of(alloc, &[])?))),
-    }
-}
-
-/// How an expression begins that has no other in it, or is a path.
-fn begin_plain(awaited: bool, expr: &Arc<Expr>) -> Mem<Move>
-    ensures { IfOk result (λ m. (calls : Calls) → value awaited calls (expr_of expr.now.value) ≡ move_run calls m) }
-{
-    match &**expr {
         Expr::Number { value, .. } => Ok(gives(Value::Num(*value))),
         Expr::Text { value, .. } => Ok(gives(Value::Text(value.copy()?))),
         Expr::Bool { value, .. } => Ok(gives(Value::Bool(*value))),
@@ -79,7 +61,21 @@ fn begin_plain(awaited: bool, expr: &Arc<Expr>) -> Mem<Move>
         Expr::Undefined { .. } => Ok(gives(Value::Undefined)),
         Expr::This { .. } => Ok(Move::Then(1, Focus::Ended(Outcome::Threw(Value::Undefined)))),
         Expr::Variable(_) => Ok(Move::Then(1, Focus::Variable(again(expr)?))),
-        _ => Ok(Move::Then(0, Focus::Path(awaited, again(expr)?))),
+        Expr::Path { .. } | Expr::Group { .. } => unreachable!(),
+    }
+}
+
+/// The message of an error begins, for which a step is charged.
+fn begin_error(alloc: Global, text: &Option<Arc<Expr>>) -> Mem<Move>
+    ensures moves { IfOk result (λ m. (calls : Calls) → charged 1 (message calls (option_expr_in text.now)) ≡ move_run calls m) }
+    ensures less { IfOk result (LeavesLess 2) }
+{
+    match text {
+        Some(text) => {
+            let text = again(text)?;
+            Ok(Move::Inside(1, Frame::Error, Focus::Value(false, text)))
+        }
+        None => Ok(Move::Then(1, Focus::Ended(error_of(alloc, &[])?))),
     }
 }
 

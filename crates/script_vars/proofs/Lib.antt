@@ -1,2 +1,3 @@
 mod Kept
 mod Found
+pub mod Again

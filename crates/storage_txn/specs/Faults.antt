@@ -26,6 +26,18 @@ IsWriteFault (Some ops) op (ValueLong size) = (most_stored_bytes < value_bytes o
 IsWriteFault (Some ops) op (BatchFull size limit) = (value_bytes op ≤ most_stored_bytes) × (most_batch_bytes < length (batch_bytes (ops ++ op ∷ []))) × (size ≡ length (batch_bytes (ops ++ op ∷ []))) × (limit ≡ most_batch_bytes)
 IsWriteFault (Some ops) op NoMemory = (value_bytes op ≤ most_stored_bytes) × (length (batch_bytes (ops ++ op ∷ [])) ≤ most_batch_bytes)
 
+-- It was rolled back; or the batch with these operations is too large and has this size; or none of both, and memory was
+-- wanting.
+abbrev pub IsExtendFault : Option (List Op) → List Op → TxnFault → Type 0
+IsExtendFault None more RolledBack = Unit {0}
+IsExtendFault None more (ValueLong size) = ⊥
+IsExtendFault None more (BatchFull size limit) = ⊥
+IsExtendFault None more NoMemory = ⊥
+IsExtendFault (Some ops) more RolledBack = ⊥
+IsExtendFault (Some ops) more (ValueLong size) = ⊥
+IsExtendFault (Some ops) more (BatchFull size limit) = (most_batch_bytes < length (batch_bytes (ops ++ more))) × (size ≡ length (batch_bytes (ops ++ more))) × (limit ≡ most_batch_bytes)
+IsExtendFault (Some ops) more NoMemory = length (batch_bytes (ops ++ more)) ≤ most_batch_bytes
+
 -- it was rolled back, or it wasn't and memory was wanting
 abbrev pub IsReadFault : Option (List Op) → TxnFault → Type 0
 IsReadFault None RolledBack = Unit {0}

@@ -7,4 +7,5 @@ mod overlay;
 mod txn;
 
 pub use fault::TxnFault;
+pub use overlay::overlaid;
 pub use txn::Txn;

@@ -41,8 +41,9 @@ pub(crate) fn asked_below(ask: &StoreAsk) -> Mem<StoreAsk>
     }
 }
 
-/// The answer to the ask through the operations, from the store's answer.
-pub(crate) fn overlaid(alloc: Global, ops: &[Op], ask: &StoreAsk, below: Reading) -> Mem<Reading>
+/// The answer to the ask through the operations, each of them on one key, from what the store answers to what is to be asked
+/// below them: the ask itself, and for a listing the same without its limit.
+pub fn overlaid(alloc: Global, ops: &[Op], ask: &StoreAsk, below: Reading) -> Mem<Reading>
     requires kind { IsAnswer ask.now below }
     requires keyed { All IsOnKey ops.now }
     ensures { IfOk result (λ answer. answer ≡ view ops.now ask.now below) }

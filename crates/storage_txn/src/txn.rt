@@ -1,10 +1,11 @@
 //! One transaction of an object.
-ghost use Rattle.std.specs.Prelude.{◌≡◌, ◌≢◌, ◌↔◌, Some, None, [], IfOk, OnOk, OnErr, IfErr, IfSome, IsNone, length};
+ghost use Rattle.std.specs.Prelude.{◌≡◌, ◌≢◌, ◌≤◌, ◌↔◌, Some, None, [], IfOk, OnOk, OnErr, IfErr, IfSome, IsNone, IsTrue, length};
 ghost use Rattle.do_value.specs.declared.value.Value.TheVariants.{Undefined};
-ghost use Rattle.storage_map.specs.Ops.{batch_bytes};
+ghost use Rattle.std.specs.List.{All};
+ghost use Rattle.storage_map.specs.Ops.{batch_bytes, IsOp};
 ghost use Rattle.storage_txn.specs.Overlay.{below, view, IsAnswer};
-ghost use Rattle.storage_txn.specs.Writes.{ops_of, added, IsOpen, IsTaken};
-ghost use Rattle.storage_txn.specs.Faults.{IsWriteFault, IsReadFault};
+ghost use Rattle.storage_txn.specs.Writes.{ops_of, added, extended, IsOnKey, IsOpen, IsTaken, AreTaken};
+ghost use Rattle.storage_txn.specs.Faults.{IsWriteFault, IsExtendFault, IsReadFault};
 
 use crate::fault::TxnFault;
 use crate::overlay::{asked_below, overlaid};
@@ -79,6 +80,42 @@ impl Txn {
         };
         batcher.add(Op::Delete { key })?;
         Ok(())
+    }
+
+    /// Adds the operations, each of them on one key, in order: all of them or none. `RolledBack` comes exactly after a rollback;
+    /// else `BatchFull` exactly where the batch would pass its limit. After a fault nothing is changed.
+    pub fn extend(&mut self, ops: Vec<Op>) -> Result<(), TxnFault>
+        requires within { All IsOp ops.items }
+        requires keyed { All IsOnKey ops.items }
+        requires few { length ops.items ≤ 4294967295 }
+        ensures extended { OnOk result (self.new ≡ extended self.old ops.items) }
+        ensures taken { OnOk result (AreTaken self.old ops.items) }
+        ensures fault { IfErr result (IsExtendFault self.old ops.items) }
+        ensures same { OnErr result (self.new ≡ self.old) }
+    {
+        let Some(batcher) = &mut self.batcher else {
+            return Err(TxnFault::RolledBack);
+        };
+        batcher.extend(ops)?;
+        Ok(())
+    }
+
+    /// Whether it was rolled back.
+    pub fn is_rolled_back(&self) -> bool
+        ensures { IsTrue result ↔ self.now ≡ None }
+    {
+        self.batcher.is_none()
+    }
+
+    /// The operations, in order, none of them after a rollback.
+    pub fn ops(&self) -> &[Op]
+        ensures ops { result.now ≡ ops_of self.now }
+        ensures keyed { All IsOnKey result.now }
+    {
+        match &self.batcher {
+            Some(batcher) => batcher.as_slice(),
+            None => &[],
+        }
     }
 
     /// What is to be asked of the store, so that `view` can answer this ask: the ask itself, and for a listing the same

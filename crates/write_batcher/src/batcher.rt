@@ -1,7 +1,8 @@
 //! Operations that are joined into one batch.
-ghost use Rattle.std.specs.Prelude.{◌≡◌, ◌≤◌, ◌↔◌, ◌++◌, ◌∷◌, [], IfSome, IsNone, IfErr, OnOk, OnErr, length};
+ghost use Rattle.std.specs.Prelude.{◌≡◌, ◌≤◌, ◌*◌, ◌↔◌, ◌++◌, ◌∷◌, [], IfSome, IsNone, IfErr, OnOk, OnErr, length};
+ghost use Rattle.std.specs.List.{All, flat_map};
 ghost use Rattle.storage_map.specs.Limits.{most_batch_bytes};
-ghost use Rattle.storage_map.specs.Ops.{IsOp, batch_bytes};
+ghost use Rattle.storage_map.specs.Ops.{IsOp, batch_bytes, op_bytes};
 ghost use Rattle.write_batcher.specs.Joined.{IsJoined, IsAddFault};
 
 use std::alloc::Global;
@@ -79,15 +80,33 @@ impl Batcher {
         laws::one_op_is_a_batch();
         let size = self.size + op.size();
         if size > MOST_BATCH_BYTES {
-            return Err(AddFault::BatchFull {
-                size,
-                limit: MOST_BATCH_BYTES,
-            });
+            return Err(full(size));
         }
         if self.ops.push(op).is_err() {
             return Err(AddFault::NoMemory);
         }
         self.size = size;
+        Ok(())
+    }
+
+    /// Joins the operations behind the others, in order: all of them or none. `BatchFull` comes exactly where the batch would
+    /// have more bytes than its limit. After a fault the operations are those that they were.
+    pub fn extend(&mut self, mut ops: Vec<Op>) -> Result<(), AddFault>
+        requires within { All IsOp ops.items }
+        requires few { length ops.items ≤ 4294967295 }
+        ensures joined { OnOk result (self.new ≡ self.old ++ ops.items) }
+        ensures fits { OnOk result (length (batch_bytes (self.old ++ ops.items)) ≤ most_batch_bytes) }
+        ensures fault { IfErr result (IsAddFault (self.old ++ ops.items)) }
+        ensures same { OnErr result (self.new ≡ self.old) }
+    {
+        let total = self.size + size_of_all(&ops);
+        if total > MOST_BATCH_BYTES {
+            return Err(full(total));
+        }
+        if self.ops.append(&mut ops).is_err() {
+            return Err(AddFault::NoMemory);
+        }
+        self.size = total;
         Ok(())
     }
 
@@ -120,4 +139,29 @@ impl Batcher {
     {
         self.size
     }
+}
+
+// The fault of a batch that would have so many bytes.
+fn full(size: u64) -> AddFault
+    ensures { result ≡ AddFault.BatchFull size most_batch_bytes }
+{
+    AddFault::BatchFull {
+        size,
+        limit: MOST_BATCH_BYTES,
+    }
+}
+
+// How many bytes the operations have together.
+fn size_of_all(ops: &[Op]) -> u64
+    requires within { All IsOp ops.now }
+    requires few { length ops.now ≤ 4294967295 }
+    ensures size { result ≡ length (flat_map op_bytes ops.now) }
+    ensures small { result ≤ 4294967295 * most_batch_bytes }
+{
+    laws::one_op_is_a_batch();
+    let mut size = 0;
+    for op in ops {
+        size += op.size();
+    }
+    size
 }

@@ -7,7 +7,7 @@ use Rattle.script_steps.proofs.Turns.{test_true}
 use Rattle.script_steps.specs.Seen.{between_of}
 use Rattle.script_steps.proofs.block.tested.Goals as goal
 
-pub returns-in_ok-inner : goal.returns-in_ok-inner
-returns-in_ok-inner c =
+pub returns-in_ok-inner-clause-moves : goal.returns-in_ok-inner-clause-moves
+returns-in_ok-inner-clause-moves c =
     let goes : is_true (tree_of c.args.value.now) ≡ true = grind (arith, common_steps) in
     λ calls. test_true calls (expr_of c.args.test.value) c.args.body c.in_ok-inner.inner (between_of c.args.between) (tree_of c.args.value.now) goes c.in_ok-inner.ensures

@@ -1,0 +1,20 @@
+use Rattle.std.proofs.Common.{◌≡◌, arith}
+use Rattle.std.proofs.lemmas.Grind.{common_steps}
+use Rattle.script_paths.specs.Ahead.{front, front_of}
+use Rattle.script_steps.specs.Parts.{links_in}
+use Rattle.do_tree.specs.Seen.{expr_of}
+use Rattle.script_mean.specs.Meaning.{links}
+use Rattle.script_mean.specs.Paths.{of_class, parts_behind_two_calls}
+use Rattle.script_paths.proofs.Onward.{leaves_at, unfolds_at, class_fronts, opened_fronts}
+use Rattle.script_paths.specs.Onward.{class_on, opened_parts_on}
+use Rattle.script_paths.proofs.classes.from_class.Goals as goal
+
+pub returns-clause-same : goal.returns-clause-same
+returns-clause-same c =
+    let h : front (links_in (expr_of c.args.node.value) c.args.place) ≡ front_of c.in_ok-ahead.ahead = grind (arith, common_steps) in
+    unfolds_at (λ calls. links c.args.awaited calls (of_class c.args.class)) (λ calls. class_on c.args.awaited calls c.args.class) (λ calls. class_fronts c.args.awaited calls c.args.class) (expr_of c.args.node.value) c.args.place _ h _ c.class_goes_on.ensures.same
+
+pub returns-clause-less : goal.returns-clause-less
+returns-clause-less c =
+    let h : front (links_in (expr_of c.args.node.value) c.args.place) ≡ front_of c.in_ok-ahead.ahead = grind (arith, common_steps) in
+    leaves_at parts_behind_two_calls opened_parts_on opened_fronts (expr_of c.args.node.value) c.args.place _ h 24 _ c.class_goes_on.ensures.less

@@ -1,0 +1,11 @@
+use Rattle.std.proofs.Common.{ap}
+use Rattle.do_value.specs.Seen.{trees_in}
+use Rattle.script_places.specs.Steps.{steps_in}
+use Rattle.script_steps.specs.Paths.{root_of}
+use Rattle.script_paths.proofs.Pushes.{call_begins}
+use Rattle.script_paths.proofs.pushed.push_call.Goals as goal
+
+pub returns-clause-same : goal.returns-clause-same
+returns-clause-same c =
+    λ calls. call_begins calls (root_of c.args.root) (steps_in c.args.steps.items) c.args.node.value c.in_ok-path.path.value c.args.link (trees_in c.new.result.items)
+    c.in_ok-path.ensures (ap trees_in c.new.ensures.items)

@@ -1,0 +1,64 @@
+-- How joins, helpers, transactions and blocks end.
+use Rattle.std.proofs.Common.{◌≡◌, ℕ, Bool, true, false, List, [], ◌∷◌, ◌++◌, Option, Some, Result, Ok, Err, IfOk, sym, ap, subst, ◌∙◌}
+use Rattle.do_value.specs.Seen.{tree_of}
+use Rattle.do_value.specs.Tree.{undefined}
+use Rattle.do_value.specs.declared.value.Value.{Value}
+use Rattle.storage_map.specs.declared.op.Op.{Op}
+use Rattle.script_mean.specs.Answers.{returned, threw}
+use Rattle.script_mean.specs.Calls.{transacting}
+use Rattle.script_mean.specs.Errors.{batch_full}
+use Rattle.script_mean.specs.Task as task
+use Rattle.script_mean.specs.Turn as turn
+use Rattle.script_mean.specs.Turn.{cut, cut_after, fits, join, join_where}
+use Rattle.script_steps.specs.Seen.{outcome_of, returned_to, unblocking}
+use Rattle.script_steps.specs.declared.focus.Outcome.{Outcome}
+use Rattle.script_steps.specs.declared.focus.Outcome.TheVariants as ending
+use Rattle.script_vars.specs.Seen.{env_of}
+use Rattle.script_vars.specs.declared.bound.Bound.{Bound}
+use Rattle.script_state.specs.Ends.{Becomes, Does, Goes}
+use Rattle.script_state.specs.Seen.{held_of, state_of}
+use Rattle.script_state.specs.declared.done.Done.TheVariants as done
+use Rattle.script_state.specs.declared.state.State.{State}
+
+-- Operations that have no room throw.
+pub full : {E : Type 0} (ops : List Op) (old : State) (r : Result Outcome E) → false ≡ fits (old.pending ++ ops)
+    → IfOk r (λ o. outcome_of o ≡ threw batch_full) → IfOk r (Goes (join ops) old old)
+full ops old (Ok o) room same = λ next rs.
+    ap (λ t. join_where t ops (env_of old.vars) next (state_of old rs)) (sym room) ∙ ap (λ x. next x (env_of old.vars) (state_of old rs)) (sym same)
+full ops old (Err e) room same = same
+
+-- A helper that gives no value returns `undefined`.
+pub helper_gave : {E : Type 0} (awaited : Bool) (caller : List (List (List ℕ × Bound))) (x : Outcome) (w : Value) (old new : State) (r : Result Outcome E)
+    → x ≡ ending.Gave w → IfOk r (Goes (returned_to awaited (env_of caller) (returned undefined)) (record old { vars = caller }) new)
+    → IfOk r (Goes (returned_to awaited (env_of caller) (outcome_of x)) old new)
+helper_gave awaited caller x w old new (Ok o) same goes = λ next rs.
+    ap (λ y. returned_to awaited (env_of caller) (outcome_of y) (env_of old.vars) next (state_of old rs)) same ∙ goes next rs
+helper_gave awaited caller x w old new (Err e) same goes = goes
+
+-- A helper returns its value.
+pub helper_returned : {E : Type 0} (awaited : Bool) (caller : List (List (List ℕ × Bound))) (x : Outcome) (w : Value) (old new : State) (r : Result Outcome E)
+    → x ≡ ending.Returned w → IfOk r (Goes (returned_to awaited (env_of caller) (returned (tree_of w))) (record old { vars = caller }) new)
+    → IfOk r (Goes (returned_to awaited (env_of caller) (outcome_of x)) old new)
+helper_returned awaited caller x w old new (Ok o) same goes = λ next rs.
+    ap (λ y. returned_to awaited (env_of caller) (outcome_of y) (env_of old.vars) next (state_of old rs)) same ∙ goes next rs
+helper_returned awaited caller x w old new (Err e) same goes = goes
+
+-- A transaction begins behind the open batch.
+pub transaction_begun : (old mid : State) (made : Option (List Op)) → made ≡ Some [] → Becomes cut old mid → Becomes transacting old (record mid { transaction = Some made })
+transaction_begun old mid made none closed = record {
+  state = λ rs.
+      ap (λ (st : turn.State). record st { held = record st.held { transaction = Some made } }) (closed.state rs)
+      ∙ ap (λ (m : Option (List Op)). record (cut (state_of old rs)) { held = record (held_of old) { transaction = Some m } }) none;
+  vars = closed.vars;
+}
+
+-- A block that threw ends the task.
+pub block_threw : (awaited : Bool) (x : Outcome) (v : Value) (old new : State) → x ≡ ending.Threw v → Becomes cut old new
+    → Does (unblocking awaited (outcome_of x)) old new (done.Reset v)
+block_threw awaited x v old new same made next rs =
+    ap (λ y. unblocking awaited (outcome_of y) (env_of old.vars) next (state_of old rs)) same
+    ∙ ap (λ (st : turn.State). task.threw st.closed st.fields (tree_of v) true ∷ []) (sym (made.state rs))
+
+-- The open batch is closed after a call that is awaited.
+pub awaited_cut : (awaited : Bool) (old new : State) → awaited ≡ true → Becomes cut old new → Becomes (cut_after awaited) old new
+awaited_cut awaited old new same closed = subst (λ b. Becomes (cut_after b) old new) (sym same) closed

@@ -1,0 +1,113 @@
+//! Batches and asks.
+ghost use Rattle.std.specs.Prelude.{◌≡◌, [], ◌∷◌, ◌++◌, IfOk, OnOk};
+ghost use Rattle.std.specs.List.{All};
+ghost use Rattle.storage_map.specs.Ops.{IsOp};
+ghost use Rattle.script_mean.specs.Turn as turn;
+ghost use Rattle.script_state.specs.Ends.{Becomes, Does, Goes, IsOpenFor, IsReady};
+ghost use Rattle.script_state.specs.Seen.{wait_of};
+
+use crate::done::Done;
+use crate::state::State;
+use crate::thrown::thrown;
+use crate::waiting::Waiting;
+use do_value::{Mem, NoMemory, Value};
+use script_mean::{Ask, MOST_OUTSIDE_CALLS, MOST_STORAGE_AWAITS};
+use script_steps::Outcome;
+use std::alloc::Global;
+use storage_map::{Batch, MOST_BATCH_BYTES, Op};
+use write_batcher::Batcher;
+
+impl State {
+    /// The open batch is closed. One without operations isn't made.
+    pub fn cut(&mut self) -> Mem<()>
+        ensures { OnOk result (Becomes turn.cut self.old self.new) }
+    {
+        match self.pending.close() {
+            Some(batch) => self.close(batch),
+            None => Ok(()),
+        }
+    }
+
+    /// The batch is closed behind the others of the turn.
+    pub(crate) fn close(&mut self, batch: Batch) -> Mem<()>
+        ensures { OnOk result (Becomes (λ st. record st { closed = st.closed ++ batch ∷ [] }) self.old self.new) }
+    {
+        if self.closed.push(batch).is_err() {
+            return Err(NoMemory);
+        }
+        Ok(())
+    }
+
+    /// The same after a call that is awaited.
+    pub(crate) fn cut_after(&mut self, awaited: bool) -> Mem<()>
+        ensures { OnOk result (Becomes (turn.cut_after awaited) self.old self.new) }
+    {
+        if awaited { self.cut() } else { Ok(()) }
+    }
+
+    /// The operations join the open batch, all of them or, where it would be too large, none.
+    pub fn join(&mut self, alloc: Global, ops: Vec<Op>) -> Mem<Outcome>
+        requires { All IsOp ops.items }
+        ensures { IfOk result (Goes (turn.join ops.items) self.old self.new) }
+    {
+        if !has_room(&self.pending, &ops) {
+            return thrown(alloc, "RangeError", "batch");
+        }
+        add_all(&mut self.pending, ops)?;
+        Ok(Outcome::Gave(Value::Undefined))
+    }
+
+    /// The turn ends with an ask that is an await of the storage, of which a task may make no more than its limit.
+    pub fn ask_storage(&mut self, ask: Ask, wait: Waiting) -> Mem<Done>
+        ensures same { IfOk result (Does (turn.ask_storage ask (wait_of wait self.old.transaction)) self.old self.new) }
+        ensures ready { IsOpenFor (wait_of wait self.old.transaction) self.old.transaction → IfOk result (IsReady self.new) }
+    {
+        if self.awaits >= MOST_STORAGE_AWAITS {
+            return Ok(Done::Exceeded);
+        }
+        self.awaits += 1;
+        self.cut()?;
+        Ok(Done::Asks(ask, wait))
+    }
+
+    /// The turn ends with an ask that is a call or a fetch, of which a task may make no more than its limit.
+    pub fn ask_outside(&mut self, ask: Ask) -> Mem<Done>
+        ensures same { IfOk result (Does (turn.ask_outside ask) self.old self.new) }
+        ensures ready { IfOk result (IsReady self.new) }
+    {
+        if self.calls >= MOST_OUTSIDE_CALLS {
+            return Ok(Done::Exceeded);
+        }
+        self.calls += 1;
+        self.cut()?;
+        Ok(Done::Asks(ask, Waiting::Outside))
+    }
+}
+
+/// Whether the operations can join the open batch.
+fn has_room(pending: &Batcher, ops: &[Op]) -> bool
+    ensures { result ≡ turn.fits (pending.now ++ ops.now) }
+{
+    let mut size = pending.size();
+    for op in ops {
+        let more = op.size();
+        if more > MOST_BATCH_BYTES - size {
+            return false;
+        }
+        size += more;
+    }
+    true
+}
+
+/// The operations join the open batch, in which they have room.
+fn add_all(pending: &mut Batcher, ops: Vec<Op>) -> Mem<()>
+    requires { All IsOp ops.items }
+    ensures { OnOk result (pending.new ≡ pending.old ++ ops.items) }
+{
+    for op in ops {
+        if pending.add(op).is_err() {
+            return Err(NoMemory);
+        }
+    }
+    Ok(())
+}
