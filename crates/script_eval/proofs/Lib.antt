@@ -1,0 +1,14 @@
+pub mod Charged
+pub mod Moved
+pub mod Doings
+pub mod Entered
+pub mod Called
+pub mod Nodes
+pub mod Led
+pub mod Applied
+pub mod Turned
+pub mod Helped
+pub mod Acted
+pub mod Stopped
+pub mod Started
+pub mod Looked

@@ -1,0 +1,5 @@
+-- What the evaluator has and does, as the definition of the meaning has it.
+pub mod Acts
+pub mod Waits
+pub mod Machines
+pub mod Tasks
