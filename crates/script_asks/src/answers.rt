@@ -17,7 +17,7 @@ use do_value::{BuildFault, MOST_LEVELS, Mem, NoMemory, Num, RangeNum, Text, Valu
 use script_ops::OpFault;
 use std::alloc::Global;
 use storage_map::{Alarm, Key, Reading, StoreAsk};
-use storage_txn::Txn;
+use storage_txn::{Txn, TxnFault};
 
 /// The value of a reading: the key's value, the list of the pairs, each a list of two, the alarm's time or `null`, or the
 /// count. A list that passes the limits throws (`RangeError` `depth`, or else `size`). A time or a count that is no safe
@@ -43,16 +43,6 @@ pub fn value_through(
     ensures { Answers (value_of_reading (view (ops_of txn.now) ask.now below)) result }
 {
     value_of_reading(alloc, viewed(txn, ask, below)?)
-}
-
-/// Whether the key is there, or how many of the keys are, of what a transaction's delete asks: through the operations,
-/// from what the storage answers below them. More keys than a safe integer counts are answered as want of memory.
-pub fn found_through(txn: &Txn, ask: &StoreAsk, below: Reading) -> Result<Value, OpFault>
-    requires kind { IsAnswer ask.now below }
-    requires open { txn.now ≢ None }
-    ensures { Answers (Ok (found (view (ops_of txn.now) ask.now below))) result }
-{
-    found(&viewed(txn, ask, below)?)
 }
 
 /// Whether the key is there, or how many of the keys are: what a delete in a transaction gives. More keys than a safe
@@ -97,7 +87,7 @@ fn small_number(count: u64) -> Value
 {
     match Num::new(count as i64) {
         Ok(n) => Value::Num(n),
-        Err(RangeNum) => Value::Undefined,
+        Err(RangeNum) => unreachable!(),
     }
 }
 
@@ -110,7 +100,8 @@ fn viewed(txn: &Txn, ask: &StoreAsk, below: Reading) -> Result<Reading, OpFault>
 {
     match txn.view(ask, below) {
         Ok(reading) => Ok(reading),
-        Err(_) => Err(OpFault::NoMemory),
+        Err(TxnFault::NoMemory) => Err(OpFault::NoMemory),
+        Err(_) => unreachable!(),
     }
 }
 
@@ -130,7 +121,7 @@ fn counted(count: u64) -> Result<Value, OpFault>
     }
     match Num::new(count as i64) {
         Ok(n) => Ok(Value::Num(n)),
-        Err(RangeNum) => Err(OpFault::NoMemory),
+        Err(RangeNum) => unreachable!(),
     }
 }
 

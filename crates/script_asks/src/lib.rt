@@ -11,7 +11,7 @@ mod refusal;
 mod words;
 mod work;
 
-pub use answers::{completed_by, found, found_through, value_of_reading, value_through};
+pub use answers::{completed_by, found, value_of_reading, value_through};
 pub use calls::{handle_wants, request};
 pub use words::{WordCall, handle_call, owner_call, storage_call, value_call, word_call};
 pub use work::{Completed, Request};

@@ -6,7 +6,7 @@ ghost use Rattle.script_mean.specs.Calls as calls;
 use do_value::{Mem, NoMemory};
 use script_asks::Completed;
 use std::alloc::Global;
-use storage_map::{Key, Keys, Op, StoreAsk};
+use storage_map::{Key, KeyFault, Keys, Op, StoreAsk};
 
 /// What is asked to learn which keys a delete takes out.
 pub(crate) fn keys_ask(alloc: Global, gives: Completed, ops: &[Op]) -> Mem<StoreAsk>
@@ -50,7 +50,8 @@ fn first_key(alloc: Global, keys: &[Key]) -> Mem<Key>
         Some(key) => key.copy(),
         None => match Key::new(alloc, "") {
             Ok(key) => Ok(key),
-            Err(_) => Err(NoMemory),
+            Err(KeyFault::NoMemory) => Err(NoMemory),
+            Err(KeyFault::Long { .. }) => unreachable!(),
         },
     }
 }

@@ -1,5 +1,5 @@
 -- A move that is applied to a machine, as its code does that.
-use Rattle.std.proofs.Common.{◌≡◌, ℕ, ◌-◌, ◌<◌, ◌≤◌, Bool, false, List, [], ◌∷◌, sym, ap, ◌∙◌, subst}
+use Rattle.std.proofs.Common.{◌≡◌, ℕ, ◌-◌, ◌≤◌, List, [], ◌∷◌, sym, ap, ◌∙◌, subst}
 use Rattle.do_tree.specs.Tree.{Class}
 use Rattle.script_state.specs.declared.state.State.{State}
 use Rattle.script_steps.specs.Weight.{move_cost}
@@ -8,9 +8,11 @@ use Rattle.script_steps.specs.declared.focus.Move.{Move}
 use Rattle.script_steps.specs.declared.focus.Move.TheVariants as move
 use Rattle.script_steps.specs.declared.frame.Frame.{Frame as Waiting}
 use Rattle.script_eval.proofs.Led.{inside_leads, then_leads}
-use Rattle.script_eval.specs.Machines.{Applies, IsDeep, is_caller}
+use Rattle.script_eval.specs.Machines.{Applies, IsDeep}
 use Rattle.script_eval.specs.declared.act.Act.{Act}
 use Rattle.script_eval.specs.declared.act.Act.TheVariants as act
+use Rattle.script_eval.specs.declared.frames.Layer.{Layer}
+use Rattle.script_eval.specs.declared.frames.Layer.TheVariants as layer
 use Rattle.script_eval.specs.declared.machine.Leads.{Leads}
 use Rattle.script_eval.specs.declared.machine.Leads.TheVariants as leads
 use Rattle.script_eval.specs.declared.machine.Machine.{Machine}
@@ -23,7 +25,7 @@ with_left s n = record s { left = n }
 abbrev with_state : Machine → State → Machine
 with_state m s = record m { state = s }
 
-abbrev pub with_frames : Machine → List Waiting → Machine
+abbrev pub with_frames : Machine → List Layer → Machine
 with_frames m fs = record m { frames = fs }
 
 -- A move without a frame, whose steps were charged.
@@ -40,19 +42,19 @@ then_moved old s m n cost f deep is_m is_n took class =
 
 -- A move with one.
 pub inside_moved : (old new : Machine) (s : State) (m : Move) (n cost : ℕ) (w : Waiting) (f : Focus) → IsDeep old → m ≡ move.Inside cost w f → n ≡ move_cost m
-    → (n ≤ old.state.left) × (s ≡ record old.state { left = old.state.left - n }) → is_caller w ≡ false
-    → new ≡ record old { state = s; frames = w ∷ old.frames }
+    → (n ≤ old.state.left) × (s ≡ record old.state { left = old.state.left - n })
+    → new ≡ record old { state = s; frames = layer.Inner w ∷ old.frames }
     → (class : Class) → Applies class (act.Moves m) old new (leads.On f)
-inside_moved old new s m n cost w f deep is_m is_n took inner pushed class =
+inside_moved old new s m n cost w f deep is_m is_n took pushed class =
     let same : n ≡ cost = is_n ∙ ap move_cost is_m in
     let enough : cost ≤ old.state.left = subst (λ k. k ≤ old.state.left) same took.0 in
-    let is : new ≡ record old { state = record old.state { left = old.state.left - cost }; frames = w ∷ old.frames } =
+    let is : new ≡ record old { state = record old.state { left = old.state.left - cost }; frames = layer.Inner w ∷ old.frames } =
     pushed
-    ∙ ap (with_state (with_frames old (w ∷ old.frames))) (took.1 ∙ ap (λ k. with_left old.state (old.state.left - k)) same) in
-    subst (λ x. Applies class (act.Moves x) old new (leads.On f)) (sym is_m) (inside_leads old new cost w f deep enough inner is class)
+    ∙ ap (with_state (with_frames old (layer.Inner w ∷ old.frames))) (took.1 ∙ ap (λ k. with_left old.state (old.state.left - k)) same) in
+    subst (λ x. Applies class (act.Moves x) old new (leads.On f)) (sym is_m) (inside_leads old new cost w f deep enough is class)
 
--- No frame was there to be taken out.
-pub none_popped : (old : Machine) (fs : List Waiting) → old.frames ≡ [] → fs ≡ [] → record old { frames = fs } ≡ old
+-- No layer was there to be taken out.
+pub none_popped : (old : Machine) (fs : List Layer) → old.frames ≡ [] → fs ≡ [] → record old { frames = fs } ≡ old
 none_popped old fs none left = ap (with_frames old) (left ∙ sym none)
 
 -- An act by another name.

@@ -1,6 +1,6 @@
 -- Calls.
-use Rattle.std.proofs.Common.{◌≡◌, ℕ, ◌+◌, ◌*◌, ◌<◌, ◌≤◌, Bool, false, List, [], ◌∷◌, refl, sym, ap, ◌∙◌, arith}
-use Rattle.std.specs.Prelude.{Option, Some, None}
+use Rattle.std.proofs.Common.{◌≡◌, ℕ, ◌≤◌, Bool, false, List, [], ◌∷◌, refl, sym, ap, ◌∙◌, arith}
+use Rattle.std.specs.Prelude.{Some, None}
 use Rattle.std.specs.declared.sync.Arc.{Arc}
 use Rattle.std.specs.declared.alloc.Global.{Global}
 use Rattle.std.specs.declared.vec.Vec.{Vec}
@@ -11,8 +11,7 @@ use Rattle.do_tree.specs.declared.stmt.Block.{Block}
 use Rattle.do_value.specs.Seen.{tree_of, trees_in}
 use Rattle.do_value.specs.declared.value.Value.{Value}
 use Rattle.script_mean.proofs.Calls.{block_keeps, push_to_keeps, reach_keeps}
-use Rattle.script_mean.proofs.Keeps.{PartKeeps, ends_keeps}
-use Rattle.script_mean.proofs.Loops.{same_turns}
+use Rattle.script_mean.proofs.Keeps.{ends_keeps}
 use Rattle.script_mean.proofs.Parts.{handle_named_keeps, owner_named_keeps, storage_named_keeps, value_named_keeps, word_named_keeps}
 use Rattle.script_mean.specs.Answers.{broke}
 use Rattle.script_mean.specs.Calls.{Calls, block, on_block, on_transaction, push_to, reach, transacting}
@@ -27,7 +26,7 @@ use Rattle.script_state.specs.declared.done.Done.{Done}
 use Rattle.script_state.specs.declared.done.Done.TheVariants as done
 use Rattle.script_state.specs.declared.state.State.{State}
 use Rattle.script_steps.specs.Paths.{body_of, parameter_of, root_of}
-use Rattle.script_steps.specs.Seen.{focus_run, outcome_of}
+use Rattle.script_steps.specs.Seen.{outcome_of}
 use Rattle.script_steps.specs.declared.focus.Focus.TheVariants as focus
 use Rattle.script_steps.specs.declared.focus.Outcome.{Outcome}
 use Rattle.script_steps.specs.declared.focus.Outcome.TheVariants as ending

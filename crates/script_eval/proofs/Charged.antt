@@ -1,10 +1,9 @@
 -- Steps that are charged, and steps that are left.
-use Rattle.std.proofs.Common.{◌≡◌, ℕ, zero, suc, ◌+◌, ◌-◌, ◌*◌, ◌<◌, ◌≤◌, nat_le, Bool, true, false, List, [], ◌∷◌, ◌++◌, length, refl, sym, ap, ◌∙◌, arith}
+use Rattle.std.proofs.Common.{◌≡◌, ℕ, zero, suc, ◌-◌, ◌<◌, ◌≤◌, nat_le, Bool, true, false, List, [], ◌∷◌, refl, sym, ap, ◌∙◌, arith}
 use Rattle.std.proofs.lemmas.Bool.{leb-true, le-leb, lt-leb}
 use Rattle.std.proofs.lemmas.List.{append-nil}
 use Rattle.script_mean.proofs.Keeps.{NextKeeps, PartKeeps, grow}
 use Rattle.script_mean.proofs.Loops.{same_turns}
-use Rattle.script_mean.specs.Answers.{Outcome}
 use Rattle.script_mean.specs.Task as task
 use Rattle.script_mean.specs.Task.{Env, Segment}
 use Rattle.script_mean.specs.Turn as turn

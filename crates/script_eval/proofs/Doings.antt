@@ -1,5 +1,5 @@
 -- Parts that are done at once.
-use Rattle.std.proofs.Common.{◌≡◌, ℕ, ◌+◌, ◌-◌, ◌*◌, ◌<◌, ◌≤◌, Bool, List, [], ◌∷◌, refl, sym, ap, ◌∙◌, arith}
+use Rattle.std.proofs.Common.{◌≡◌, ℕ, ◌-◌, ◌<◌, ◌≤◌, Bool, List, [], ◌∷◌, refl, sym, ap, ◌∙◌, arith}
 use Rattle.std.specs.declared.sync.Arc.{Arc}
 use Rattle.std.specs.declared.alloc.Global.{Global}
 use Rattle.std.specs.declared.vec.Vec.{Vec}
@@ -37,7 +37,7 @@ use Rattle.script_steps.specs.declared.path.Root.{Root}
 use Rattle.script_vars.specs.Seen.{env_of}
 use Rattle.script_vars.specs.declared.bound.Bound.{Bound}
 use Rattle.script_eval.proofs.Charged.{charged_exceeds, charged_takes, left_kept}
-use Rattle.script_eval.specs.Acts.{Acts, Changes, IsLess, Unfolds}
+use Rattle.script_eval.specs.Acts.{Changes, IsLess, Unfolds}
 use Rattle.script_eval.specs.declared.act.Act.TheVariants as act
 use Rattle.std.specs.Prelude.{Option, Some, None}
 

@@ -1,10 +1,9 @@
 -- Blocks are entered and left.
-use Rattle.std.proofs.Common.{◌≡◌, ℕ, ◌+◌, ◌*◌, ◌<◌, List, [], ◌∷◌, refl, sym, ap, ◌∙◌, arith}
+use Rattle.std.proofs.Common.{◌≡◌, ℕ, ◌+◌, ◌<◌, List, [], ◌∷◌, refl, sym, ap, ◌∙◌, arith}
 use Rattle.std.specs.declared.sync.Arc.{Arc}
 use Rattle.std.specs.declared.alloc.Global.{Global}
 use Rattle.do_tree.specs.Nodes.{block_in, simple_of}
 use Rattle.do_tree.specs.Seen.{expr_of, stmt_of}
-use Rattle.do_tree.specs.Tree as tree
 use Rattle.do_tree.specs.declared.expr.Expr.{Expr}
 use Rattle.do_tree.specs.declared.stmt.Block.{Block}
 use Rattle.do_tree.specs.declared.stmt.Simple.{Simple}
@@ -31,7 +30,7 @@ use Rattle.script_steps.specs.declared.frame.Between.TheVariants as standing
 use Rattle.script_steps.specs.declared.frame.Frame.TheVariants as frame
 use Rattle.script_vars.specs.Seen.{env_of}
 use Rattle.script_vars.specs.declared.bound.Bound.{Bound}
-use Rattle.script_eval.specs.Acts.{Acts, Changes}
+use Rattle.script_eval.specs.Acts.{Changes}
 use Rattle.script_eval.specs.declared.act.Act.TheVariants as act
 
 -- A part with names of its own is entered.

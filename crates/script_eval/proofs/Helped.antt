@@ -1,5 +1,5 @@
 -- Helpers, looked up and called as the code does that.
-use Rattle.std.proofs.Common.{◌≡◌, ℕ, ◌+◌, Bool, List, [], ◌∷◌, map, Option, Some, None, refl, sym, ap, ◌∙◌}
+use Rattle.std.proofs.Common.{◌≡◌, ℕ, ◌+◌, Bool, List, [], ◌∷◌, Option, Some, None, refl, sym, ap, ◌∙◌}
 use Rattle.std.specs.Prelude.{option_map}
 use Rattle.std.specs.List.{find}
 use Rattle.std.specs.declared.alloc.Global.{Global}
@@ -14,8 +14,8 @@ use Rattle.do_value.specs.Seen.{trees_in}
 use Rattle.do_value.specs.declared.value.Value.{Value}
 use Rattle.script_mean.specs.Meaning.{method_in, method_scope}
 use Rattle.script_steps.specs.declared.focus.Focus.TheVariants as focus
-use Rattle.script_steps.specs.declared.frame.Frame.{Frame as Waiting}
-use Rattle.script_steps.specs.declared.frame.Frame.TheVariants as frame
+use Rattle.script_eval.specs.declared.frames.Layer.{Layer}
+use Rattle.script_eval.specs.declared.frames.Layer.TheVariants as layer
 use Rattle.script_vars.specs.Seen.{env_of}
 use Rattle.script_vars.specs.declared.bound.Bound.{Bound}
 use Rattle.script_eval.proofs.Led.{find_seen}
@@ -42,12 +42,12 @@ one_named g r a class name text is_text found some =
     ∙ ap (λ x. option_map method_of (option_map g x)) some
 
 -- A machine inside one more helper call, with these variables and frames.
-abbrev deeper : Machine → List (List (List ℕ × Bound)) → List Waiting → Machine
+abbrev deeper : Machine → List (List (List ℕ × Bound)) → List Layer → Machine
 deeper m vars fs = record m { state = record m.state { vars = vars }; frames = fs; depth = m.depth + 1 }
 
 -- The body of a helper is next.
-pub called_body : (f : Method) (awaited : Bool) (args : Vec Value Global) (old : Machine) (vars after caller : List (List (List ℕ × Bound))) (b : Arc Block Global) (fs : List Waiting)
-    → after ≡ vars → caller ≡ old.state.vars → fs ≡ frame.Caller awaited caller ∷ old.frames → b.value ≡ f.body.value
+pub called_body : (f : Method) (awaited : Bool) (args : Vec Value Global) (old : Machine) (vars after caller : List (List (List ℕ × Bound))) (b : Arc Block Global) (fs : List Layer)
+    → after ≡ vars → caller ≡ old.state.vars → fs ≡ layer.Caller awaited caller ∷ old.frames → b.value ≡ f.body.value
     → env_of vars ≡ method_scope (method_of f) (trees_in args.items) ∷ []
     → Calls f awaited args old (record old { state = record old.state { vars = after }; frames = fs; depth = old.depth + 1 }) (leads.On (focus.Body b 0))
 called_body f awaited args old vars after caller b fs is_after is_caller is_fs bt scope = (
@@ -57,5 +57,5 @@ called_body f awaited args old vars after caller b fs is_after is_caller is_fs b
   bt,
   scope,
   ap (λ x. deeper old x fs) is_after
-      ∙ ap (deeper old vars) (is_fs ∙ ap (λ c. frame.Caller awaited c ∷ old.frames) is_caller),
+      ∙ ap (deeper old vars) (is_fs ∙ ap (λ c. layer.Caller awaited c ∷ old.frames) is_caller),
 )

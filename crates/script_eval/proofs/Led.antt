@@ -1,5 +1,5 @@
 -- What was done inside the frames of a machine leads on.
-use Rattle.std.proofs.Common.{◌≡◌, ℕ, suc, ◌+◌, ◌-◌, ◌*◌, ◌<◌, ◌≤◌, Bool, true, false, List, [], ◌∷◌, map, Option, Some, None, Result, Ok, Err, IfOk, refl, sym, ap, ◌∙◌, subst, zero, arith}
+use Rattle.std.proofs.Common.{◌≡◌, ℕ, suc, ◌+◌, ◌-◌, ◌<◌, ◌≤◌, Bool, true, false, List, [], ◌∷◌, map, Option, Some, None, refl, sym, ap, ◌∙◌, subst, zero, arith}
 use Rattle.std.specs.declared.alloc.Global.{Global}
 use Rattle.std.specs.declared.vec.Vec.{Vec}
 use Rattle.std.specs.Prelude.{cond, option_map}
@@ -10,26 +10,23 @@ use Rattle.do_tree.specs.Seen.{method_of}
 use Rattle.do_tree.specs.Tree as tree
 use Rattle.do_tree.specs.Tree.{Class}
 use Rattle.do_tree.specs.declared.script.Method.{Method}
-use Rattle.do_tree.specs.declared.stmt.Block.{Block}
 use Rattle.do_value.specs.Seen.{tree_of, trees_in}
-use Rattle.do_value.specs.Tree.{Tree, undefined}
 use Rattle.do_value.specs.declared.value.Value.{Value}
 use Rattle.do_value.specs.declared.value.Value.TheVariants.{Undefined}
 use Rattle.script_mean.specs.Answers.{threw}
 use Rattle.script_mean.specs.Calls as mean
 use Rattle.script_mean.specs.Errors.{nested_too_deep}
-use Rattle.script_mean.specs.Frames.{Frame, after, callers}
+use Rattle.script_mean.specs.Frames.{Frame, callers}
 use Rattle.script_mean.specs.Meaning.{body, calls_of, has_alarm_handler, helped, method_in, method_scope, most_helpers, to_caller}
 use Rattle.script_mean.specs.Task as task
 use Rattle.script_mean.specs.Task.{Env, Resume}
 use Rattle.script_mean.specs.Turn as turn
 use Rattle.script_state.specs.Seen.{state_of}
-use Rattle.script_state.specs.declared.done.Done.{Done}
 use Rattle.script_state.specs.declared.done.Done.TheVariants as done
 use Rattle.script_state.specs.declared.state.State.{State}
 use Rattle.script_steps.specs.Paths.{path_frame_of}
 use Rattle.script_steps.specs.Seen.{focus_run, frame_of, framed, handed, move_run, outcome_of}
-use Rattle.script_steps.specs.Weight.{LeavesLess, focus_weight, frame_weight, frames_weight, move_cost, move_weight}
+use Rattle.script_steps.specs.Weight.{LeavesLess, focus_weight, frame_weight, move_cost}
 use Rattle.script_steps.specs.declared.focus.Focus.{Focus}
 use Rattle.script_steps.specs.declared.focus.Focus.TheVariants as focus
 use Rattle.script_steps.specs.declared.focus.Move.{Move}
@@ -41,11 +38,14 @@ use Rattle.script_steps.specs.declared.frame.Frame.TheVariants as frame
 use Rattle.script_steps.specs.declared.path.PathFrame.{PathFrame}
 use Rattle.script_steps.specs.declared.path.PathFrame.TheVariants as path
 use Rattle.script_vars.specs.Seen.{env_of}
+use Rattle.script_vars.specs.declared.bound.Bound.{Bound}
 use Rattle.script_eval.proofs.Charged.{charged_exceeds, charged_takes}
 use Rattle.script_eval.specs.Acts.{Acts, IsLess, IsReadyAct, act_turns}
-use Rattle.script_eval.specs.Machines.{Applies, Calls, IsBelow, IsDeep, LeadsTo, Steps, calls_in, frames_of, is_caller, next_in, to_go, turns_of}
+use Rattle.script_eval.specs.Machines.{Applies, Calls, IsBelow, IsDeep, LeadsTo, Steps, calls_in, frames_of, frames_weight, next_in, to_go, turns_of}
 use Rattle.script_eval.specs.declared.act.Act.{Act}
 use Rattle.script_eval.specs.declared.act.Act.TheVariants as act
+use Rattle.script_eval.specs.declared.frames.Layer.{Layer}
+use Rattle.script_eval.specs.declared.frames.Layer.TheVariants as layer
 use Rattle.script_eval.specs.declared.machine.Leads.{Leads}
 use Rattle.script_eval.specs.declared.machine.Leads.TheVariants as leads
 use Rattle.script_eval.specs.declared.machine.Machine.{Machine}
@@ -56,23 +56,17 @@ path_inner : (f : PathFrame) (fs : List Frame) → callers (path_frame_of f ∷ 
 path_inner (path.Walk awaited e n) fs = refl
 path_inner f fs = refl
 
--- A frame that is no caller leaves the count.
-pub inner_count : (w : Waiting) (fs : List Frame) → is_caller w ≡ false → callers (frame_of w ∷ fs) ≡ callers fs
-inner_count (frame.Caller awaited vars) fs e = absurd (cc)
-inner_count (frame.Path f) fs e = path_inner f fs
-inner_count w fs e = refl
+-- A frame leaves the count.
+pub inner_count : (w : Waiting) (fs : List Frame) → callers (frame_of w ∷ fs) ≡ callers fs
+inner_count (frame.Path f) fs = path_inner f fs
+inner_count w fs = refl
 
--- A caller adds one.
-pub caller_count : (w : Waiting) (fs : List Frame) → is_caller w ≡ true → callers (frame_of w ∷ fs) ≡ suc (callers fs)
-caller_count (frame.Caller awaited vars) fs e = refl
-caller_count w fs e = absurd (cc)
-
--- A part inside a frame that is no caller.
-pushed_turns : (class : Class) (starts : Bool) (w : Waiting) (fs : List Waiting) (f : Focus) (env : Env) (st : turn.State) → is_caller w ≡ false
-    → framed (calls_in class fs) (frame_of w) (focus_run (calls_in class fs) f) env (next_in class starts fs) st
-    ≡ focus_run (calls_in class (w ∷ fs)) f env (next_in class starts (w ∷ fs)) st
-pushed_turns class starts w fs f env st inner =
-    ap (λ n. focus_run (calls_of class (most_helpers - n)) f env (next_in class starts (w ∷ fs)) st) (sym (inner_count w (frames_of fs) inner))
+-- A part inside a frame.
+pushed_turns : (class : Class) (starts : Bool) (w : Waiting) (ls : List Layer) (f : Focus) (env : Env) (st : turn.State)
+    → framed (calls_in class ls) (frame_of w) (focus_run (calls_in class ls) f) env (next_in class starts ls) st
+    ≡ focus_run (calls_in class (layer.Inner w ∷ ls)) f env (next_in class starts (layer.Inner w ∷ ls)) st
+pushed_turns class starts w ls f env st =
+    ap (λ n. focus_run (calls_of class (most_helpers - n)) f env (next_in class starts (layer.Inner w ∷ ls)) st) (sym (inner_count w (frames_of ls)))
 
 -- A part that was done at once.
 pub led_on : (m : Machine) (o : Outcome) → IsDeep m → (class : Class) → Applies class (act.Does (done.Ended o)) m m (leads.On (focus.Ended o))
@@ -95,18 +89,18 @@ then_leads old new cost f deep enough is class before below ready =
     }
 
 -- A move with one.
-pub inside_leads : (old new : Machine) (cost : ℕ) (w : Waiting) (f : Focus) → IsDeep old → cost ≤ old.state.left → is_caller w ≡ false
-    → new ≡ record old { state = record old.state { left = old.state.left - cost }; frames = w ∷ old.frames }
+pub inside_leads : (old new : Machine) (cost : ℕ) (w : Waiting) (f : Focus) → IsDeep old → cost ≤ old.state.left
+    → new ≡ record old { state = record old.state { left = old.state.left - cost }; frames = layer.Inner w ∷ old.frames }
     → (class : Class) → Applies class (act.Moves (move.Inside cost w f)) old new (leads.On f)
-inside_leads old new cost w f deep enough inner is class before below ready =
-    let next : Machine = record old { state = record old.state { left = old.state.left - cost }; frames = w ∷ old.frames } in
+inside_leads old new cost w f deep enough is class before below ready =
+    let next : Machine = record old { state = record old.state { left = old.state.left - cost }; frames = layer.Inner w ∷ old.frames } in
     let less : to_go f next < before = omega (arith, below, enough) in
     record {
       same = λ starts rs.
           charged_takes cost (framed (calls_in class old.frames) (frame_of w) (focus_run (calls_in class old.frames) f)) (env_of old.state.vars) (next_in class starts old.frames) (state_of old.state rs) enough
-          ∙ pushed_turns class starts w old.frames f (env_of old.state.vars) (record (state_of old.state rs) { left = old.state.left - cost }) inner
+          ∙ pushed_turns class starts w old.frames f (env_of old.state.vars) (record (state_of old.state rs) { left = old.state.left - cost })
           ∙ ap (λ m. turns_of class starts f m rs) (sym is);
-      deep = ap (λ (m : Machine). m.depth) is ∙ deep ∙ sym (inner_count w (frames_of old.frames) inner) ∙ ap (λ (m : Machine). callers (frames_of m.frames)) (sym is);
+      deep = ap (λ (m : Machine). m.depth) is ∙ deep ∙ sym (inner_count w (frames_of old.frames)) ∙ ap (λ (m : Machine). callers (frames_of m.frames)) (sym is);
       less = subst (λ m. to_go f m < before) (sym is) less;
       ready = tt;
     }
@@ -134,16 +128,16 @@ exceed_leads old new (move.Inside cost w f) deep none is class before below read
     }
 
 -- A block that was entered inside a frame.
-pub enter_leads : (old new : Machine) (w : Waiting) (f : Focus) → IsDeep old → is_caller w ≡ false → new ≡ record old { frames = frame.Leave ∷ w ∷ old.frames }
+pub enter_leads : (old new : Machine) (w : Waiting) (f : Focus) → IsDeep old → new ≡ record old { frames = layer.Inner frame.Leave ∷ layer.Inner w ∷ old.frames }
     → (class : Class) → Applies class (act.Enters w f) old new (leads.On f)
-enter_leads old new w f deep inner is class before below ready =
-    let next : Machine = record old { frames = frame.Leave ∷ w ∷ old.frames } in
+enter_leads old new w f deep is class before below ready =
+    let next : Machine = record old { frames = layer.Inner frame.Leave ∷ layer.Inner w ∷ old.frames } in
     let less : to_go f next < before = omega (arith, below) in
     record {
       same = λ starts rs.
-          ap (λ n. focus_run (calls_of class (most_helpers - n)) f (env_of old.state.vars) (next_in class starts (frame.Leave ∷ w ∷ old.frames)) (state_of old.state rs)) (sym (inner_count w (frames_of old.frames) inner))
+          ap (λ n. focus_run (calls_of class (most_helpers - n)) f (env_of old.state.vars) (next_in class starts (layer.Inner frame.Leave ∷ layer.Inner w ∷ old.frames)) (state_of old.state rs)) (sym (inner_count w (frames_of old.frames)))
           ∙ ap (λ m. turns_of class starts f m rs) (sym is);
-      deep = ap (λ (m : Machine). m.depth) is ∙ deep ∙ sym (inner_count w (frames_of old.frames) inner) ∙ ap (λ (m : Machine). callers (frames_of m.frames)) (sym is);
+      deep = ap (λ (m : Machine). m.depth) is ∙ deep ∙ sym (inner_count w (frames_of old.frames)) ∙ ap (λ (m : Machine). callers (frames_of m.frames)) (sym is);
       less = subst (λ m. to_go f m < before) (sym is) less;
       ready = tt;
     }
@@ -162,7 +156,7 @@ over_leads old new o deep none is class before below ready =
     }
 
 -- The innermost frame goes on, by a move of the machine without it.
-pub pop_leads : (old popped new : Machine) (w : Waiting) (o : Outcome) (m : Move) (n : Leads) → old.frames ≡ w ∷ popped.frames → popped.state ≡ old.state
+pub pop_leads : (old popped new : Machine) (w : Waiting) (o : Outcome) (m : Move) (n : Leads) → old.frames ≡ layer.Inner w ∷ popped.frames → popped.state ≡ old.state
     → ((calls : mean.Calls) → handed calls (frame_of w) (outcome_of o) ≡ move_run calls m) → LeavesLess (frame_weight w + 8) m
     → ((class : Class) → Applies class (act.Moves m) popped new n)
     → (class : Class) → Applies class (act.Ends o) old new n
@@ -173,7 +167,7 @@ pop_leads old popped new w o m n frames kept same less led class before below re
     record {
       same = λ starts rs.
           ap (λ fs. next_in class starts fs (outcome_of o) (env_of old.state.vars) (state_of old.state rs)) frames
-          ∙ ap (λ (s : State). next_in class starts (w ∷ popped.frames) (outcome_of o) (env_of s.vars) (state_of s rs)) (sym kept)
+          ∙ ap (λ (s : State). next_in class starts (layer.Inner w ∷ popped.frames) (outcome_of o) (env_of s.vars) (state_of s rs)) (sym kept)
           ∙ ap (λ r. r (env_of popped.state.vars) (next_in class starts popped.frames) (state_of popped.state rs)) (same (calls_in class popped.frames))
           ∙ inner.same starts rs;
       deep = inner.deep;
@@ -181,13 +175,32 @@ pop_leads old popped new w o m n frames kept same less led class before below re
       ready = inner.ready;
     }
 
--- The count without the innermost frame, a caller
-pub popped_caller : (w : Waiting) (depth : ℕ) (all fs : List Waiting) → depth ≡ callers (frames_of all) → all ≡ w ∷ fs → is_caller w ≡ true → depth ≡ suc (callers (frames_of fs))
-popped_caller w depth all fs deep is caller = deep ∙ ap (λ l. callers (frames_of l)) is ∙ caller_count w (frames_of fs) caller
+-- A helper's body has ended: its caller goes on with its own variables.
+pub return_leads : (old new : Machine) (awaited : Bool) (vars : List (List (List ℕ × Bound))) (fs : List Layer) (o : Outcome) → IsDeep old
+    → old.frames ≡ layer.Caller awaited vars ∷ fs → new ≡ record old { frames = fs; depth = old.depth - 1 }
+    → (class : Class) → Applies class (act.Ends o) old new (leads.On (focus.Return awaited vars o))
+return_leads old new awaited vars fs o deep frames is class before below ready =
+    let next : Machine = record old { frames = fs; depth = old.depth - 1 } in
+    let weighs : frames_weight old.frames ≡ 2 + frames_weight fs = ap frames_weight frames in
+    let less : to_go (focus.Return awaited vars o) next < before = omega (arith, below, weighs) in
+    let counted : old.depth ≡ suc (callers (frames_of fs)) = deep ∙ ap (λ ls. callers (frames_of ls)) frames in
+    let deeper : old.depth - 1 ≡ callers (frames_of fs) = omega (arith, counted) in
+    record {
+      same = λ starts rs.
+          ap (λ ls. next_in class starts ls (outcome_of o) (env_of old.state.vars) (state_of old.state rs)) frames
+          ∙ ap (λ m. turns_of class starts (focus.Return awaited vars o) m rs) (sym is);
+      deep = subst IsDeep (sym is) deeper;
+      less = subst (λ m. to_go (focus.Return awaited vars o) m < before) (sym is) less;
+      ready = tt;
+    }
+
+-- The count without the innermost layer, a caller
+pub popped_caller : (awaited : Bool) (vars : List (List (List ℕ × Bound))) (depth : ℕ) (all fs : List Layer) → depth ≡ callers (frames_of all) → all ≡ layer.Caller awaited vars ∷ fs → depth ≡ suc (callers (frames_of fs))
+popped_caller awaited vars depth all fs deep is = deep ∙ ap (λ ls. callers (frames_of ls)) is
 
 -- or none.
-pub popped_inner : (w : Waiting) (depth : ℕ) (all fs : List Waiting) → depth ≡ callers (frames_of all) → all ≡ w ∷ fs → is_caller w ≡ false → depth ≡ callers (frames_of fs)
-popped_inner w depth all fs deep is inner = deep ∙ ap (λ l. callers (frames_of l)) is ∙ inner_count w (frames_of fs) inner
+pub popped_inner : (w : Waiting) (depth : ℕ) (all fs : List Layer) → depth ≡ callers (frames_of all) → all ≡ layer.Inner w ∷ fs → depth ≡ callers (frames_of fs)
+popped_inner w depth all fs deep is = deep ∙ ap (λ ls. callers (frames_of ls)) is ∙ inner_count w (frames_of fs)
 
 -- Whether a class has an alarm handler, whatever the calls that are left.
 handler_is : (class : Class) (n : ℕ) → (calls_of class n).has_handler ≡ has_alarm_handler class
@@ -277,7 +290,7 @@ pub call_leads : (class : Class) (old new : Machine) (awaited : Bool) (name : Li
 call_leads class old new awaited name args f n deep limit is c before below ready =
     let vars = c.0 in
     let b = c.1 in
-    let next : Machine = record old { state = record old.state { vars = vars }; frames = frame.Caller awaited old.state.vars ∷ old.frames; depth = old.depth + 1 } in
+    let next : Machine = record old { state = record old.state { vars = vars }; frames = layer.Caller awaited old.state.vars ∷ old.frames; depth = old.depth + 1 } in
     let less : to_go (focus.Body b 0) next < before = omega (arith, below) in
     let left = calls_of class (most_helpers - suc (callers (frames_of old.frames))) in
     let led : LeadsTo class (λ starts rs. act_turns (calls_in class old.frames) (act.Helps awaited name args) old.state (next_in class starts old.frames) rs) before next (leads.On (focus.Body b 0)) = record {

@@ -12,3 +12,6 @@ pub mod Acted
 pub mod Stopped
 pub mod Started
 pub mod Looked
+pub mod SentNodes
+pub mod SentFrames
+pub mod SentTask

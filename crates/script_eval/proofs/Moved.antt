@@ -1,5 +1,5 @@
 -- Parts that unfold.
-use Rattle.std.proofs.Common.{◌≡◌, ℕ, ◌+◌, ◌*◌, ◌<◌, Bool, false, refl, sym, ap, ◌∙◌, subst, arith}
+use Rattle.std.proofs.Common.{◌≡◌, Bool, false, refl, sym, ap, ◌∙◌, subst, arith}
 use Rattle.std.specs.declared.sync.Arc.{Arc}
 use Rattle.std.specs.declared.alloc.Global.{Global}
 use Rattle.do_tree.specs.Seen.{expr_of, stmt_of}
@@ -13,7 +13,7 @@ use Rattle.script_mean.specs.Meaning.{run, value}
 use Rattle.script_mean.specs.Task.{Env}
 use Rattle.script_mean.specs.Turn as turn
 use Rattle.script_mean.specs.Turn.{Next}
-use Rattle.script_paths.specs.Reading.{UnfoldsWith}
+use Rattle.script_paths.specs.Reading.{UnfoldsIn, UnfoldsWith}
 use Rattle.script_state.specs.Seen.{state_of}
 use Rattle.script_state.specs.declared.state.State.{State}
 use Rattle.script_steps.specs.Seen.{between_of, focus_run, move_run}
@@ -23,7 +23,7 @@ use Rattle.script_steps.specs.declared.focus.Focus.TheVariants as focus
 use Rattle.script_steps.specs.declared.focus.Move.{Move}
 use Rattle.script_steps.specs.declared.frame.Between.{Between as Standing}
 use Rattle.script_vars.specs.Seen.{env_of}
-use Rattle.script_eval.specs.Acts.{AreCalls, Acts, Unfolds}
+use Rattle.script_eval.specs.Acts.{AreCalls, Unfolds}
 use Rattle.script_eval.specs.declared.act.Act.TheVariants as act
 
 -- A part that unfolds whatever the task has.
@@ -44,10 +44,10 @@ with_acts f s m same less = λ has_handler. record {
   ready = tt;
 }
 
--- A path, which reads no variable.
-pub walk_acts : (f : Focus) (s : State) (m : Move) → ((env : Env) → UnfoldsWith env s.fields (λ calls. focus_run calls f) m) → LeavesLess (focus_weight f) m
+-- A part that unfolds with the variables alone.
+pub in_acts : (f : Focus) (s : State) (m : Move) → UnfoldsIn (env_of s.vars) (λ calls. focus_run calls f) m → LeavesLess (focus_weight f) m
     → Unfolds f s (act.Moves m)
-walk_acts f s m same less = with_acts f s m (same (env_of s.vars)) less
+in_acts f s m same less = with_acts f s m (λ calls next st here. same calls next st) less
 
 -- A loop is its test, and its body and itself again.
 again_unfolds : LoopsUnfold → (has_handler : Bool) (calls : Calls) → AreCalls has_handler calls

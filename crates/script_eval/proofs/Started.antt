@@ -1,5 +1,5 @@
 -- How tasks start and go on.
-use Rattle.std.proofs.Common.{◌≡◌, ℕ, ◌+◌, ◌-◌, ℤ, Bool, List, [], ◌∷◌, map, Option, Some, None, refl, sym, ap, ◌∙◌, arith}
+use Rattle.std.proofs.Common.{◌≡◌, ℕ, ◌-◌, ℤ, Bool, List, [], ◌∷◌, Some, sym, ap, ◌∙◌, arith}
 use Rattle.std.specs.declared.sync.Arc.{Arc}
 use Rattle.std.specs.declared.alloc.Global.{Global}
 use Rattle.std.specs.Prelude.{slice_get}
@@ -11,7 +11,6 @@ use Rattle.do_tree.specs.declared.script.Method.{Method}
 use Rattle.do_tree.specs.declared.stmt.Block.{Block}
 use Rattle.do_value.specs.Tree.{Tree}
 use Rattle.script_mean.specs.Answers as answers
-use Rattle.script_mean.specs.Frames.{rest}
 use Rattle.script_mean.specs.Meaning.{First, body, calls_of, class_task, finish, meaning, method_scope, most_helpers, started, task_of}
 use Rattle.script_mean.specs.Task.{Fields, Resume, untouched}
 use Rattle.script_mean.specs.Turn.{State, begun}

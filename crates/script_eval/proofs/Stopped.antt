@@ -1,23 +1,20 @@
 -- What a turn gave that stopped.
-use Rattle.std.proofs.Common.{◌≡◌, ℕ, Bool, true, List, [], ◌∷◌, Some, slice_get, refl, sym, ap, ◌∙◌, subst}
-use Rattle.std.specs.declared.alloc.Global.{Global}
-use Rattle.std.specs.declared.vec.Vec.{Vec}
+use Rattle.std.proofs.Common.{◌≡◌, ℕ, Bool, true, List, [], ◌∷◌, slice_get, refl, sym, ap, ◌∙◌, subst}
 use Rattle.do_value.specs.Seen.{tree_of}
 use Rattle.do_value.specs.declared.value.Value.{Value}
 use Rattle.do_value.specs.declared.value.Value.TheVariants.{Undefined}
-use Rattle.script_mean.specs.Frames.{rest}
 use Rattle.script_mean.specs.Task as task
 use Rattle.script_mean.specs.Task.{Held, Segment}
 use Rattle.script_mean.specs.Turn as turn
 use Rattle.script_mean.specs.declared.ask.Ask.{Ask}
 use Rattle.script_state.specs.Ends.{Becomes}
-use Rattle.script_state.specs.Seen.{held_of, state_of, wait_of}
+use Rattle.script_state.specs.Seen.{held_of, wait_of}
 use Rattle.script_state.specs.declared.state.State.{State}
 use Rattle.script_state.specs.declared.waiting.Waiting.{Waiting}
 use Rattle.script_steps.specs.declared.focus.Outcome.{Outcome}
 use Rattle.script_steps.specs.declared.focus.Outcome.TheVariants as ending
 use Rattle.script_vars.specs.Seen.{env_of}
-use Rattle.script_eval.specs.Machines.{next_in, stop_turns}
+use Rattle.script_eval.specs.Machines.{next_in}
 use Rattle.script_eval.specs.Tasks.{Gives, rest_with, suspended_of}
 use Rattle.script_eval.specs.declared.machine.Machine.{Machine}
 use Rattle.script_eval.specs.declared.machine.Stop.TheVariants as stop

@@ -4,12 +4,11 @@ use Rattle.do_value.specs.Seen.{trees_in}
 use Rattle.do_tree.specs.Tree.{Class}
 use Rattle.script_mean.specs.Calls.{Calls}
 use Rattle.script_mean.specs.Frames.{to_leave}
-use Rattle.script_mean.specs.Meaning.{calls_of, has_alarm_handler}
+use Rattle.script_mean.specs.Meaning.{calls_of}
 use Rattle.script_mean.specs.Task.{Resume, Segment}
-use Rattle.script_mean.specs.Turn.{Next, Run, ends}
+use Rattle.script_mean.specs.Turn.{Next, ends}
 use Rattle.script_state.specs.Ends.{IsReady, turns_after}
 use Rattle.script_state.specs.Seen.{state_of}
-use Rattle.script_state.specs.declared.done.Done.{Done}
 use Rattle.script_state.specs.declared.done.Done.TheVariants as done
 use Rattle.script_state.specs.declared.state.State.{State}
 use Rattle.script_steps.specs.Seen.{focus_run, frame_of, framed, move_run, outcome_of}

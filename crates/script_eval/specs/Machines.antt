@@ -1,5 +1,5 @@
 -- A machine that runs a turn, as the definition of the meaning has it.
-use Rattle.std.specs.Prelude.{◌≡◌, ◌<◌, ℕ, ◌+◌, ◌-◌, ◌*◌, Bool, true, false, List, [], ◌∷◌, map}
+use Rattle.std.specs.Prelude.{◌≡◌, ◌<◌, ℕ, ◌+◌, ◌-◌, ◌*◌, Bool, List, [], ◌∷◌, map}
 use Rattle.std.specs.declared.alloc.Global.{Global}
 use Rattle.std.specs.declared.sync.Arc.{Arc}
 use Rattle.std.specs.declared.vec.Vec.{Vec}
@@ -10,41 +10,54 @@ use Rattle.do_tree.specs.Tree.{Class}
 use Rattle.do_tree.specs.declared.script.Method.{Method}
 use Rattle.do_tree.specs.declared.stmt.Block.{Block}
 use Rattle.script_mean.specs.Calls as calls
-use Rattle.script_mean.specs.Frames.{Frame, after, callers}
+use Rattle.script_mean.specs.Frames.{Frame, after, callers, to_caller_of}
 use Rattle.script_mean.specs.Meaning.{calls_of, finish, method_scope, most_helpers}
-use Rattle.script_mean.specs.Task as task
 use Rattle.script_mean.specs.Task.{Resume, Segment}
 use Rattle.script_mean.specs.Turn.{Next}
 use Rattle.script_state.specs.Ends.{IsOpenFor, turns_after}
 use Rattle.script_state.specs.Seen.{state_of, wait_of}
 use Rattle.script_state.specs.declared.done.Done.TheVariants as done
 use Rattle.script_steps.specs.Seen.{focus_run, frame_of, outcome_of}
-use Rattle.script_steps.specs.Weight.{step_pays, focus_weight, frames_weight}
+use Rattle.script_steps.specs.Weight.{step_pays, focus_weight, frame_weight}
 use Rattle.script_steps.specs.declared.focus.Focus.{Focus}
 use Rattle.script_steps.specs.declared.focus.Focus.TheVariants as focus
-use Rattle.script_steps.specs.declared.frame.Frame.{Frame as Waiting}
-use Rattle.script_steps.specs.declared.frame.Frame.TheVariants as frame
 use Rattle.script_vars.specs.Seen.{env_of}
 use Rattle.script_vars.specs.declared.bound.Bound.{Bound}
 use Rattle.script_eval.specs.Acts.{IsReadyAct, act_cost, act_turns, act_weight}
 use Rattle.script_eval.specs.declared.act.Act.{Act}
 use Rattle.script_eval.specs.declared.act.Act.TheVariants as act
+use Rattle.script_eval.specs.declared.frames.Layer.{Layer}
+use Rattle.script_eval.specs.declared.frames.Layer.TheVariants as layer
 use Rattle.script_eval.specs.declared.machine.Machine.{Machine}
 use Rattle.script_eval.specs.declared.machine.Stop.{Stop}
 use Rattle.script_eval.specs.declared.machine.Stop.TheVariants as stop
 use Rattle.script_eval.specs.declared.machine.Leads.{Leads}
 use Rattle.script_eval.specs.declared.machine.Leads.TheVariants as leads
 
--- Frames as the definition has them, innermost first.
-abbrev pub frames_of : List Waiting → List Frame
-frames_of fs = map frame_of fs
+-- What is around the part that runs, as the definition has it,
+abbrev pub layer_of : Layer → Frame
+layer_of (layer.Inner w) = frame_of w
+layer_of (layer.Caller awaited vars) = to_caller_of awaited (env_of vars)
+
+-- innermost first.
+abbrev pub frames_of : List Layer → List Frame
+frames_of ls = map layer_of ls
+
+-- How much it leaves to do.
+abbrev pub layer_weight : Layer → ℕ
+layer_weight (layer.Inner w) = frame_weight w
+layer_weight (layer.Caller awaited vars) = 2
+
+abbrev pub frames_weight : List Layer → ℕ
+frames_weight [] = 0
+frames_weight (l ∷ ls) = layer_weight l + frames_weight ls
 
 -- What the class gives to a part inside these frames.
-abbrev pub calls_in : Class → List Waiting → calls.Calls
+abbrev pub calls_in : Class → List Layer → calls.Calls
 calls_in class fs = calls_of class (most_helpers - callers (frames_of fs))
 
 -- What comes after a part inside these frames.
-abbrev pub next_in : Class → Bool → List Waiting → Next
+abbrev pub next_in : Class → Bool → List Layer → Next
 next_in class starts fs = after class starts (frames_of fs)
 
 -- The turns from what is to be done next on.
@@ -91,15 +104,6 @@ pub record LeadsTo (class : Class) (turns : Bool → List Resume → List Segmen
   pub less : GoesOnBelow before m n
   pub ready : IsReadyLead m n
 
--- Whether a frame is the caller of a helper.
-abbrev pub is_caller : Waiting → Bool
-is_caller (frame.Caller awaited vars) = true
-is_caller w = false
-
--- This frame was taken out of the machine.
-abbrev pub IsPopped : Waiting → Machine → Machine → Type 0
-IsPopped w old new = (old.frames ≡ w ∷ new.frames) × (new.state ≡ old.state) × IsDeep new
-
 -- Less is left than this, but for the steps that are still to be charged, where the turn goes on.
 abbrev pub IsBelow : ℕ → Machine → Act → Type 0
 IsBelow before m (act.Does (done.Asks a w)) = Unit {0}
@@ -126,4 +130,4 @@ pub record Runs (class : Class) (f : Focus) (old new : Machine) (s : Stop) : Typ
 abbrev pub Calls : Method → Bool → Vec Value Global → Machine → Machine → Leads → Type 0
 Calls method awaited args old new n = (vars : List (List (List ℕ × Bound))) × (b : Arc Block Global)
     × (n ≡ leads.On (focus.Body b 0)) × (b.value ≡ method.body.value) × (env_of vars ≡ method_scope (method_of method) (trees_in args.items) ∷ [])
-    × (new ≡ record old { state = record old.state { vars = vars }; frames = frame.Caller awaited old.state.vars ∷ old.frames; depth = old.depth + 1 })
+    × (new ≡ record old { state = record old.state { vars = vars }; frames = layer.Caller awaited old.state.vars ∷ old.frames; depth = old.depth + 1 })

@@ -49,7 +49,7 @@ pub(crate) fn handle(alloc: Global, state: &mut State, node: Arc<Stmt>, value: V
     ensures { IfOk result (Changes (Focus.Handle node value) state.old state.new) }
 {
     let handler = handler_of(alloc, &node)?;
-    enter_handler(alloc, &mut state.vars, &node, value)?;
+    enter_handler(&mut state.vars, &node, value)?;
     Ok(Act::Moves(Move::Inside(0, Frame::Leave, Focus::Body(handler, 0))))
 }
 

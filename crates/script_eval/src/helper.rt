@@ -11,13 +11,14 @@ ghost use Rattle.script_vars.specs.Seen.{env_of};
 ghost use Rattle.script_eval.specs.Machines.{Applies, Calls, IsDeep};
 
 use crate::act::Act;
+use crate::frames::Layer;
 use crate::machine::{Leads, Machine};
 use crate::node::again;
 use do_tree::{Class, Method, MethodKind};
 use do_value::{Mem, NoMemory, Text, Value};
 use script_mean::MOST_HELPERS;
 use script_ops::{OpFault, throw};
-use script_steps::{Focus, Frame, Outcome};
+use script_steps::{Focus, Outcome};
 use script_vars::Vars;
 use std::alloc::Global;
 use std::mem;
@@ -89,7 +90,7 @@ impl Machine {
         let vars = method_vars(alloc, method, args)?;
         let body = again(&method.body)?;
         let caller = mem::replace(&mut self.state.vars, vars);
-        self.frames.push(Frame::Caller(awaited, caller))?;
+        self.frames.push(Layer::Caller(awaited, caller))?;
         self.depth += 1;
         Ok(Leads::On(Focus::Body(body, 0)))
     }

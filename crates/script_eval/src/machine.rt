@@ -1,15 +1,15 @@
 //! A machine that runs a turn.
-ghost use Rattle.std.specs.Prelude.{◌≡◌, [], ◌∷◌, false, IfOk, MatchOption, OnOk};
+ghost use Rattle.std.specs.Prelude.{◌≡◌, ◌∷◌, IfOk, OnOk};
 ghost use Rattle.do_tree.specs.Seen.{class_of};
 ghost use Rattle.do_tree.specs.Tree.{Class as SeenClass};
 ghost use Rattle.script_mean.specs.Meaning.{has_alarm_handler};
 ghost use Rattle.script_steps.specs.Weight.{move_cost};
-ghost use Rattle.script_eval.specs.Machines.{Applies, IsDeep, IsPopped, Runs, Steps, is_caller};
+ghost use Rattle.script_eval.specs.Machines.{Applies, IsDeep, Runs, Steps};
 
 use crate::act::{Act, act_on};
-use crate::frames::Frames;
+use crate::frames::{Frames, Layer};
 use do_tree::Class;
-use do_value::{Mem, NoMemory, Value};
+use do_value::{Mem, Value};
 use script_mean::Ask;
 use script_state::{Done, State, Waiting};
 use script_steps::{Focus, Frame, Move, Outcome, hand_on};
@@ -69,23 +69,12 @@ fn cost_of(m: &Move) -> usize
     }
 }
 
-/// Whether a frame is the caller of a helper.
-fn is_caller(frame: &Frame) -> bool
-    ensures { result ≡ is_caller frame.now }
-{
-    matches!(frame, Frame::Caller(..))
-}
-
 impl Machine {
-    /// The frame is the innermost from here on. It is no caller: those are pushed by calls alone.
+    /// The frame is the innermost from here on.
     fn push(&mut self, frame: Frame) -> Mem<()>
-        ensures pushed { OnOk result (self.new ≡ record self.old { frames = frame ∷ self.old.frames }) }
-        ensures inner { OnOk result (is_caller frame ≡ false) }
+        ensures { OnOk result (self.new ≡ record self.old { frames = Layer.Inner frame ∷ self.old.frames }) }
     {
-        if is_caller(&frame) {
-            return Err(NoMemory);
-        }
-        self.frames.push(frame)
+        self.frames.push(Layer::Inner(frame))
     }
 
     /// The steps of a move are charged, and its frame, if it has one, is pushed.
@@ -117,36 +106,21 @@ impl Machine {
         Ok(Leads::On(focus))
     }
 
-    /// The innermost frame is taken out. A caller of a helper is no longer counted.
-    #[tactic(auto, using(crate::proofs::Led::popped_caller, crate::proofs::Led::popped_inner, crate::proofs::Applied::none_popped))]
-    fn popped(&mut self) -> Option<Frame>
-        requires { IsDeep self.old }
-        ensures { MatchOption result ((self.old.frames ≡ []) × (self.new ≡ self.old)) (λ frame. IsPopped frame self.old self.new) }
-    {
-        match self.frames.pop() {
-            None => None,
-            Some(frame) => {
-                if is_caller(&frame) {
-                    self.depth -= 1;
-                    Some(frame)
-                } else {
-                    Some(frame)
-                }
-            }
-        }
-    }
-
-    /// The innermost frame goes on, or, where none is left, the task is at its end.
-    #[tactic(auto, using(crate::proofs::Led::over_leads, crate::proofs::Led::pop_leads))]
+    /// The innermost layer goes on, or, where none is left, the task is at its end. A caller of a helper is no longer counted.
+    #[tactic(auto, using(crate::proofs::Led::popped_caller, crate::proofs::Led::popped_inner))]
     fn ended(&mut self, alloc: Global, outcome: Outcome) -> Mem<Leads>
         requires { IsDeep self.old }
         ensures { IfOk result (λ n. (class : SeenClass) → Applies class (Act.Ends outcome) self.old self.new n) }
     {
-        match self.popped() {
+        match self.frames.pop() {
             None => Ok(Leads::To(Stop::Over(outcome))),
-            Some(frame) => {
+            Some(Layer::Inner(frame)) => {
                 let m = hand_on(alloc, frame, outcome)?;
                 self.moved(m)
+            }
+            Some(Layer::Caller(awaited, vars)) => {
+                self.depth -= 1;
+                Ok(Leads::On(Focus::Return(awaited, vars, outcome)))
             }
         }
     }

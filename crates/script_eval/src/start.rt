@@ -105,7 +105,7 @@ fn run(
 impl Task {
     /// A task runs the method of this number of the class of this number, on an object with these fields, at this moment
     /// in milliseconds, to its end or its first ask. A constructor is a method here, and is given its context and its
-    /// environment in place of arguments.
+    /// environment in place of arguments. After want of memory nothing of the turn is left.
     pub fn start(
         alloc: Global,
         checked: &Checked,
@@ -146,7 +146,8 @@ impl Task {
     }
 
     /// The task goes on with the answer to its ask, on its object with these fields, at this moment in milliseconds, to its
-    /// end or its next ask.
+    /// end or its next ask. An answer of another kind than the ask wants gives `undefined`. The task knows its class by its
+    /// number in the script that it was started with, so `checked` is that script. After want of memory the task is gone.
     #[tactic(auto, using(crate::proofs::Started::resumed_turns))]
     pub fn resume(
         self,

@@ -18,11 +18,11 @@ use std::alloc::Global;
 use std::sync::Arc;
 
 /// An expression.
-#[tactic(auto, using(crate::proofs::Moved::with_acts))]
+#[tactic(auto, using(crate::proofs::Moved::in_acts))]
 pub(crate) fn value(alloc: Global, state: &State, awaited: bool, expr: Arc<Expr>) -> Mem<Act>
     ensures { IfOk result (Unfolds (focus.Value awaited expr) state.now) }
 {
-    Ok(Act::Moves(begin(alloc, awaited, expr, &state.vars, &state.fields)?))
+    Ok(Act::Moves(begin(alloc, awaited, expr, &state.vars)?))
 }
 
 /// A statement.
@@ -75,7 +75,7 @@ pub(crate) fn handed(alloc: Global, state: &State, frame: PathFrame, value: Valu
 }
 
 /// A path from this point and this link on.
-#[tactic(auto, using(crate::proofs::Moved::walk_acts))]
+#[tactic(auto, using(crate::proofs::Moved::with_acts))]
 pub(crate) fn walk_on(
     alloc: Global,
     state: &State,
@@ -86,7 +86,8 @@ pub(crate) fn walk_on(
 ) -> Mem<Act>
     ensures { IfOk result (Unfolds (focus.Walk awaited point node place) state.now) }
 {
-    Ok(Act::Moves(walk(alloc, awaited, point, node, place, &state.fields)?))
+    let (vars, fields) = (&state.vars, &state.fields);
+    Ok(Act::Moves(walk(alloc, awaited, point, node, place, vars, fields)?))
 }
 
 /// The arguments of a call from this one on.

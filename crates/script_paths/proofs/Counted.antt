@@ -1,7 +1,6 @@
 -- How many expressions links are, one link after another.
-use Rattle.std.proofs.Common.{◌≡◌, ℕ, ◌+◌, true, false, refl, arith}
+use Rattle.std.proofs.Common.{◌≡◌, ◌+◌, true, false, refl}
 use Rattle.do_tree.specs.Nodes.{with_link}
-use Rattle.do_tree.specs.Tree as tree
 use Rattle.do_tree.specs.Tree.{Links}
 use Rattle.do_tree.specs.declared.expr.Arg.TheBlock as kept
 use Rattle.do_tree.specs.declared.expr.Link.{Link}

@@ -1,4 +1,5 @@
 mod Args
+mod Charges
 pub mod Counted
 mod Found
 mod Handed

@@ -1,10 +1,11 @@
 -- How paths begin.
-use Rattle.std.proofs.Common.{◌≡◌, ℕ, ◌+◌, ◌*◌, ◌<◌, ◌≤◌, Bool, true, false, List, [], Option, Some, None, refl, sym, ap, ◌∙◌, codes, if◌then◌else◌, arith}
+use Rattle.std.proofs.Common.{◌≡◌, ℕ, ◌+◌, ◌*◌, ◌<◌, ◌≤◌, Bool, true, false, List, [], Option, refl, sym, ap, ◌∙◌, codes, if◌then◌else◌, arith}
 use Rattle.std.specs.Str.{bytes_eq}
 use Rattle.std.specs.declared.sync.Arc.{Arc}
 use Rattle.std.specs.declared.alloc.Global.{Global}
 use Rattle.std.specs.declared.vec.Vec.{Vec}
 use Rattle.do_tree.proofs.Rows.{hidden_links}
+use Rattle.do_value.specs.Tree.{Tree}
 use Rattle.do_tree.specs.Nodes.{links_in as list_in}
 use Rattle.do_tree.specs.Seen.{expr_of}
 use Rattle.do_tree.specs.Tree as tree
@@ -20,14 +21,13 @@ use Rattle.script_mean.specs.Meaning.{value, links, to_push}
 use Rattle.script_mean.specs.Paths as point
 use Rattle.script_mean.specs.Paths.{itself, holds, begun_by, pushes, parts, parts_behind_call, parts_behind_two_calls, parts_from, parts_of_itself, parts_of_own, parts_of_push, parts_of_value}
 use Rattle.script_mean.specs.Places.{variable}
-use Rattle.script_mean.specs.Turn.{Run, Next, State, bound, either, steps, ◌>>=◌, ◌>>◌}
-use Rattle.script_mean.specs.Task.{Env}
+use Rattle.script_mean.specs.Turn.{Run, Next, State, bound, either}
+use Rattle.script_mean.specs.Task.{Bound, Env}
 use Rattle.script_steps.proofs.Begun.{charged_steps}
 use Rattle.script_steps.specs.Parts.{IsBare, IsPlain, links_in, links_of}
 use Rattle.script_steps.specs.Paths.{point_of}
 use Rattle.script_steps.specs.Seen.{charged, framed}
 use Rattle.script_steps.specs.Weight.{LeavesLess}
-use Rattle.script_steps.specs.declared.path.Root.{Root}
 use Rattle.script_steps.specs.declared.path.Point.{Point}
 use Rattle.script_steps.specs.declared.path.Point.TheVariants as come
 use Rattle.script_steps.specs.declared.path.PathFrame.TheVariants as waiting
@@ -36,7 +36,8 @@ use Rattle.script_steps.specs.declared.focus.Focus.TheVariants as focus
 use Rattle.script_steps.specs.declared.focus.Move.TheVariants as move
 use Rattle.script_places.specs.Steps.{steps_in}
 use Rattle.script_places.specs.declared.step.Step.{Step}
-use Rattle.script_paths.specs.Onward.{is_path, itself_path, value_path, push_path, path_value, named_path}
+use Rattle.script_paths.proofs.Charges.{charged_by}
+use Rattle.script_paths.specs.Onward.{is_path, point_path, value_path, push_path, path_value, named_path}
 
 -- A path from a field of the object itself takes one step at least.
 some_if : (b : Bool) (x y : ℕ) → 1 ≤ x → 1 ≤ y → 1 ≤ (if b then x else y)
@@ -108,13 +109,13 @@ module _ (awaited : Bool) (calls : Calls) where
   path_is at (tree.rec p ps) ls = refl
   path_is at (tree.new_error p m) ls = refl
 
-  -- From the object itself.
-  pub this_begins : (nd : Arc Expr Global) (ls : Links) (n : ℕ) → links_of (expr_of nd.value) ≡ ls → n ≡ parts_from itself ls
-      → itself_path awaited calls ls ≡ charged n (links awaited calls itself (links_in (expr_of nd.value) 0))
-  this_begins nd ls n same many =
-      charged_steps (parts_from itself ls) (links awaited calls itself ls)
-      ∙ ap (λ k. charged k (links awaited calls itself ls)) (sym many)
-      ∙ ap (λ l. charged n (links awaited calls itself l)) (sym same)
+  -- From a point.
+  pub from_point : (p : point.Point) (nd : Arc Expr Global) (ls : Links) (n : ℕ) → links_of (expr_of nd.value) ≡ ls → n ≡ parts_from p ls
+      → point_path awaited calls p ls ≡ charged n (links awaited calls p (links_in (expr_of nd.value) 0))
+  from_point p nd ls n same many =
+      charged_steps (parts_from p ls) (links awaited calls p ls)
+      ∙ ap (λ k. charged k (links awaited calls p ls)) (sym many)
+      ∙ ap (λ l. charged n (links awaited calls p l)) (sym same)
 
   -- From another expression.
   pub other_value : (x : Expr) (ls : Links) → ((at : ℕ) → x ≡ node.This at → ⊥) → ((name : Name) → x ≡ node.Variable name → ⊥)
@@ -148,20 +149,23 @@ module _ (awaited : Bool) (calls : Calls) where
   -- A name that begins a push to a place.
   pub name_pushes : (name : List ℕ) (ls : Links) (env : Env) (next : Next) (st : State) → pushes ls ≡ true → named_path awaited calls name ls env next st ≡ push_path calls name ls env next st
   name_pushes name ls env next st pushed =
-      ap (λ b. either b (push_path calls name ls) (steps (parts_from (begun_by name (bound name env)) ls) >> links awaited calls (begun_by name (bound name env)) ls) env next st) pushed
+      ap (λ b. either b (push_path calls name ls) (point_path awaited calls (begun_by name (bound name env)) ls) env next st) pushed
 
   -- A name that begins with what it stands for.
-  pub point_begins : (name : List ℕ) (nd : Arc Expr Global) (ls : Links) (p : point.Point) (n : ℕ) (env : Env) (next : Next) (st : State)
-      → pushes ls ≡ false → p ≡ begun_by name (bound name env) → links_of (expr_of nd.value) ≡ ls → n ≡ parts_from p ls
-      → named_path awaited calls name ls env next st ≡ charged n (links awaited calls p (links_in (expr_of nd.value) 0)) env next st
-  point_begins name nd ls p n env next st plain is same many =
-      let part : point.Point → Run = λ q. steps (parts_from q ls) >> links awaited calls q ls in
-      let push : Run = push_path calls name ls in
-      ap (λ b. either b push (part (begun_by name (bound name env))) env next st) plain
-      ∙ ap (λ q. part q env next st) (sym is)
-      ∙ ap (λ r. r env next st) (charged_steps (parts_from p ls) (links awaited calls p ls))
-      ∙ ap (λ k. charged k (links awaited calls p ls) env next st) (sym many)
-      ∙ ap (λ l. charged n (links awaited calls p l) env next st) (sym same)
+  pub name_begins : (name : List ℕ) (ls : Links) (o : Option Bound) (env : Env) (next : Next) (st : State) → pushes ls ≡ false → bound name env ≡ o
+      → named_path awaited calls name ls env next st ≡ point_path awaited calls (begun_by name o) ls env next st
+  name_begins name ls o env next st plain is =
+      ap (λ b. either b (push_path calls name ls) (point_path awaited calls (begun_by name (bound name env)) ls) env next st) plain
+      ∙ ap (λ b. point_path awaited calls (begun_by name b) ls env next st) is
+
+  -- A variable's value, with a move that does the rest.
+  pub value_begins : (v : Tree) (nd : Arc Expr Global) (ls : Links) (n : ℕ) (part : Run) (env : Env) (next : Next) (st : State)
+      → links_of (expr_of nd.value) ≡ ls → n ≡ 1 + parts ls
+      → ((after : Next) (now : State) → links awaited calls (holds v) (links_in (expr_of nd.value) 0) env after now ≡ part env after now)
+      → point_path awaited calls (holds v) ls env next st ≡ charged n part env next st
+  value_begins v nd ls n part env next st same many goes =
+      ap (λ (r : Run). r env next st) (from_point (holds v) nd ls n same many)
+      ∙ charged_by n (links awaited calls (holds v) (links_in (expr_of nd.value) 0)) part env next (goes next) st
 
 -- What a path leaves where it begins, but for what its steps pay.
 pub point_less : (p : Point) (nd : Arc Expr Global) (ls : Links) (n : ℕ) (awaited : Bool)

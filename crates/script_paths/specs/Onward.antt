@@ -7,7 +7,7 @@ use Rattle.do_tree.specs.Tree.{Named, Expr, Links, Args, Items}
 use Rattle.script_mean.specs.Calls.{Calls, reach, transaction, block}
 use Rattle.script_mean.specs.Frames.{to_index, to_walk}
 use Rattle.script_mean.specs.Meaning.{value, with_point, arguments, links, identified, object_links, to_push, body, storage_named, handle_named, value_named, word_named, owner_named, handle_scope, first, blocked, stored}
-use Rattle.script_mean.specs.Paths.{itself, holds, parts_from, parts_of_push, parts_of_value, context, storage, environment, of_class, parts, parts_behind_call, parts_behind_two_calls, parts_of_own, pushes}
+use Rattle.script_mean.specs.Paths.{Point, itself, holds, parts_from, parts_of_push, parts_of_value, context, storage, environment, of_class, parts, parts_behind_call, parts_behind_two_calls, parts_of_own, pushes}
 use Rattle.script_mean.specs.Places.{variable, own, own_value, property}
 use Rattle.script_mean.specs.Turn.{Run, give, nowhere, of, either, within, steps, ◌>>=◌, ◌>>◌}
 use Rattle.script_steps.specs.Parts.{args_of, args_from, args_in}
@@ -103,9 +103,9 @@ abbrev pub is_path : Expr → Bool
 is_path (tree.path at e ls) = true
 is_path _ = false
 
--- A path that the object itself begins, one that another expression begins, and a push to a place that a name begins.
-abbrev pub itself_path : Bool → Calls → Links → Run
-itself_path awaited calls ls = steps (parts_from itself ls) >> links awaited calls itself ls
+-- A path from a point on, one that another expression begins, and a push to a place that a name begins.
+abbrev pub point_path : Bool → Calls → Point → Links → Run
+point_path awaited calls p ls = steps (parts_from p ls) >> links awaited calls p ls
 
 abbrev pub value_path : Bool → Calls → Expr → Links → Run
 value_path awaited calls e ls = steps (parts_of_value ls) >> (value false calls e >>= (λ v. links awaited calls (holds v) ls))
@@ -115,11 +115,11 @@ push_path calls name ls = steps (parts_of_push ls) >> to_push calls (variable na
 
 -- A path that a name begins: a push to a place, or what the name stands for and the links.
 abbrev pub named_path : Bool → Calls → List ℕ → Links → Run
-named_path awaited calls name ls = with_point name (λ p. either (pushes ls) (push_path calls name ls) (steps (parts_from p ls) >> links awaited calls p ls))
+named_path awaited calls name ls = with_point name (λ p. either (pushes ls) (push_path calls name ls) (point_path awaited calls p ls))
 
 -- A path, by what it begins with.
 abbrev pub path_value : Bool → Calls → Expr → Links → Run
-path_value awaited calls (tree.this at) ls = itself_path awaited calls ls
+path_value awaited calls (tree.this at) ls = point_path awaited calls itself ls
 path_value awaited calls (tree.variable n) ls = named_path awaited calls n.text ls
 path_value awaited calls e ls = value_path awaited calls e ls
 

@@ -6,6 +6,10 @@ use Rattle.script_mean.specs.Turn.{Run, Next, State}
 use Rattle.script_steps.specs.Seen.{move_run}
 use Rattle.script_steps.specs.declared.focus.Move.{Move}
 
+-- With these variables the part is the move.
+abbrev pub UnfoldsIn : Env → (Calls → Run) → Move → Type 0
+UnfoldsIn env part m = (calls : Calls) (next : Next) (st : State) → part calls env next st ≡ move_run calls m env next st
+
 -- With these variables and these fields the part is the move.
 abbrev pub UnfoldsWith : Env → Fields → (Calls → Run) → Move → Type 0
 UnfoldsWith env fields part m = (calls : Calls) (next : Next) (st : State) → st.fields ≡ fields → part calls env next st ≡ move_run calls m env next st

@@ -1,40 +1,33 @@
 //! How an expression begins, paths included.
-ghost use Rattle.std.specs.Prelude.{◌≡◌, ℕ, List, Some, false, IfOk};
+ghost use Rattle.std.specs.Prelude.{◌≡◌, List, ℕ, Some, false, IfOk};
 ghost use Rattle.do_tree.specs.Nodes.{links_in as list_in};
 ghost use Rattle.do_tree.specs.Seen.{expr_of};
+ghost use Rattle.do_value.specs.Seen.{tree_of};
 ghost use Rattle.script_mean.specs.Calls.{Calls};
 ghost use Rattle.script_mean.specs.Meaning.{value};
-ghost use Rattle.script_mean.specs.Paths.{begun_by};
-ghost use Rattle.script_mean.specs.Turn.{State, Next, bound};
-ghost use Rattle.script_paths.specs.Onward.{is_path, itself_path, named_path, path_value, push_path, value_path};
-ghost use Rattle.script_paths.specs.Reading.{UnfoldsWith};
+ghost use Rattle.script_mean.specs.Paths.{begun_by, holds};
+ghost use Rattle.script_paths.specs.Onward.{is_path, named_path, path_value, point_path, push_path, value_path};
+ghost use Rattle.script_paths.specs.Reading.{UnfoldsIn};
 ghost use Rattle.script_steps.specs.Parts.{IsBare, links_of};
 ghost use Rattle.script_steps.specs.Paths.{point_of};
 ghost use Rattle.script_steps.specs.Seen.{move_run};
 ghost use Rattle.script_steps.specs.Weight.{LeavesLess};
 ghost use Rattle.script_vars.specs.Seen.{bound_of, env_of};
 
-use crate::counts::{parts_from, parts_of_push, parts_of_value, pushes};
+use crate::counts::{parts, parts_from, parts_of_push, parts_of_value, pushes};
+use crate::lent::{charging, from_lent};
 use do_tree::{Expr, Link};
-use do_value::{Fields, Mem, NoMemory, Text};
+use do_value::{Mem, Text, Value};
 use script_steps::{Focus, Frame, Move, PathFrame, Point, Root, again, bare, begin_value};
 use script_vars::{Bound, Vars};
 use std::alloc::Global;
 use std::sync::Arc;
 
-/// How an expression begins, with these variables and these fields of the object. The flag tells that it is the operand of
-/// an await.
-pub fn begin(
-    alloc: Global,
-    awaited: bool,
-    expr: Arc<Expr>,
-    vars: &Vars,
-    fields: &Fields,
-) -> Mem<Move>
-    ensures same { IfOk result (UnfoldsWith (env_of vars.now) fields.now (λ calls. value awaited calls (expr_of expr.value))) }
+/// How an expression begins, with these variables. The flag tells that it is the operand of an await.
+pub fn begin(alloc: Global, awaited: bool, expr: Arc<Expr>, vars: &Vars) -> Mem<Move>
+    ensures same { IfOk result (UnfoldsIn (env_of vars.now) (λ calls. value awaited calls (expr_of expr.value))) }
     ensures less { IfOk result (LeavesLess 2) }
 {
-    let _ = fields;
     let (awaited, expr) = bare(awaited, expr)?;
     begin_bare(alloc, awaited, expr, vars)
 }
@@ -43,8 +36,7 @@ pub fn begin(
 #[tactic(auto, using(crate::proofs::Links::path_links))]
 fn begin_bare(alloc: Global, awaited: bool, expr: Arc<Expr>, vars: &Vars) -> Mem<Move>
     requires { IsBare (expr_of expr.value) }
-    ensures same { IfOk result (λ m. (calls : Calls) (next : Next) (st : State)
-        → value awaited calls (expr_of expr.value) (env_of vars.now) next st ≡ move_run calls m (env_of vars.now) next st) }
+    ensures same { IfOk result (UnfoldsIn (env_of vars.now) (λ calls. value awaited calls (expr_of expr.value))) }
     ensures less { IfOk result (LeavesLess 2) }
 {
     match &*expr {
@@ -73,26 +65,14 @@ fn begin_path(
     vars: &Vars,
 ) -> Mem<Move>
     requires { links_of (expr_of node.now.value) ≡ list_in links.now }
-    ensures same { IfOk result (λ m. (calls : Calls) (next : Next) (st : State)
-        → path_value awaited calls (expr_of base.now.value) (list_in links.now) (env_of vars.now) next st ≡ move_run calls m (env_of vars.now) next st) }
+    ensures same { IfOk result (UnfoldsIn (env_of vars.now) (λ calls. path_value awaited calls (expr_of base.now.value) (list_in links.now))) }
     ensures less { IfOk result (LeavesLess 2) }
 {
     match &**base {
-        Expr::This { .. } => begin_itself(awaited, node, links),
+        Expr::This { .. } => begin_at(awaited, node, Point::Itself, links),
         Expr::Variable(name) => begin_named(alloc, awaited, node, &name.text, links, vars),
         _ => begin_value_path(awaited, node, base, links),
     }
-}
-
-/// How a path begins that the object itself begins.
-fn begin_itself(awaited: bool, node: &Arc<Expr>, links: &[Link]) -> Mem<Move>
-    requires { links_of (expr_of node.now.value) ≡ list_in links.now }
-    ensures same { IfOk result (λ m. (calls : Calls) → itself_path awaited calls (list_in links.now) ≡ move_run calls m) }
-    ensures less { IfOk result (LeavesLess 2) }
-{
-    let node = again(node)?;
-    let cost = parts_from(&Point::Itself, links);
-    Ok(Move::Then(cost, Focus::Walk(awaited, Point::Itself, node, 0)))
 }
 
 /// How a path begins that another expression begins.
@@ -108,7 +88,8 @@ fn begin_value_path(awaited: bool, node: &Arc<Expr>, base: &Arc<Expr>, links: &[
     Ok(Move::Inside(cost, frame, Focus::Value(false, base)))
 }
 
-/// How a path begins that a name begins: with a push to a place, or with what the name stands for.
+/// How a path begins that a name begins: with a push to a place, or with what the name stands for. One that isn't in sight is
+/// a word of the language.
 fn begin_named(
     alloc: Global,
     awaited: bool,
@@ -118,17 +99,16 @@ fn begin_named(
     vars: &Vars,
 ) -> Mem<Move>
     requires { links_of (expr_of node.now.value) ≡ list_in links.now }
-    ensures same { IfOk result (λ m. (calls : Calls) (next : Next) (st : State)
-        → named_path awaited calls name.now (list_in links.now) (env_of vars.now) next st ≡ move_run calls m (env_of vars.now) next st) }
+    ensures same { IfOk result (UnfoldsIn (env_of vars.now) (λ calls. named_path awaited calls name.now (list_in links.now))) }
     ensures less { IfOk result (LeavesLess 2) }
 {
     if pushes(links) {
         return begin_push(alloc, node, name, links);
     }
-    let node = again(node)?;
-    let point = named_point(name, vars)?;
-    let cost = parts_from(&point, links);
-    Ok(Move::Then(cost, Focus::Walk(awaited, point, node, 0)))
+    match vars.get(name.as_str()) {
+        Some(bound) => begin_bound(alloc, awaited, node, bound, links, vars),
+        None => begin_at(awaited, node, Point::Word(name.copy()?), links),
+    }
 }
 
 /// How a push to a place begins that this name begins.
@@ -144,24 +124,54 @@ fn begin_push(alloc: Global, node: &Arc<Expr>, name: &Text, links: &[Link]) -> M
     Ok(Move::Then(cost, focus))
 }
 
-/// What the name begins.
-fn named_point(name: &Text, vars: &Vars) -> Mem<Point>
-    ensures { IfOk result (λ p. point_of p ≡ begun_by name.now (bound name.now (env_of vars.now))) }
+/// How a path begins with what its name stands for.
+fn begin_bound(
+    alloc: Global,
+    awaited: bool,
+    node: &Arc<Expr>,
+    bound: &Bound,
+    links: &[Link],
+    vars: &Vars,
+) -> Mem<Move>
+    requires { links_of (expr_of node.now.value) ≡ list_in links.now }
+    ensures same { IfOk result (λ m. (name : List ℕ)
+        → UnfoldsIn (env_of vars.now) (λ calls. point_path awaited calls (begun_by name (Some (bound_of bound.now))) (list_in links.now)) m) }
+    ensures less { IfOk result (LeavesLess 2) }
 {
-    match vars.get(name.as_str()) {
-        None => Ok(Point::Word(name.copy()?)),
-        Some(bound) => bound_point(bound),
+    match bound {
+        Bound::Value(whole) => begin_lent(alloc, awaited, node, whole, links, vars),
+        Bound::Handle => begin_at(awaited, node, Point::Handle, links),
+        Bound::Context => begin_at(awaited, node, Point::Context, links),
+        Bound::Environment => begin_at(awaited, node, Point::Environment, links),
     }
 }
 
-/// What a name that is in sight begins.
-fn bound_point(bound: &Bound) -> Mem<Point>
-    ensures { IfOk result (λ p. (name : List ℕ) → point_of p ≡ begun_by name (Some (bound_of bound.now))) }
+/// How a path begins with a variable's value, which stays where it is.
+fn begin_lent(
+    alloc: Global,
+    awaited: bool,
+    node: &Arc<Expr>,
+    whole: &Value,
+    links: &[Link],
+    vars: &Vars,
+) -> Mem<Move>
+    requires { links_of (expr_of node.now.value) ≡ list_in links.now }
+    ensures same { IfOk result (UnfoldsIn (env_of vars.now) (λ calls. point_path awaited calls (holds (tree_of whole.now)) (list_in links.now))) }
+    ensures less { IfOk result (LeavesLess 2) }
 {
-    match bound {
-        Bound::Value(value) => Ok(Point::Holds(value.copy()?)),
-        Bound::Handle => Ok(Point::Handle),
-        Bound::Context => Ok(Point::Context),
-        Bound::Environment => Ok(Point::Environment),
-    }
+    let cost = 1 + parts(links);
+    let node = again(node)?;
+    let part = from_lent(alloc, awaited, whole, node, 0, vars)?;
+    Ok(charging(cost, part))
+}
+
+/// How a path begins from this point on.
+fn begin_at(awaited: bool, node: &Arc<Expr>, point: Point, links: &[Link]) -> Mem<Move>
+    requires { links_of (expr_of node.now.value) ≡ list_in links.now }
+    ensures same { IfOk result (λ m. (calls : Calls) → point_path awaited calls (point_of point) (list_in links.now) ≡ move_run calls m) }
+    ensures less { IfOk result (LeavesLess 2) }
+{
+    let node = again(node)?;
+    let cost = parts_from(&point, links);
+    Ok(Move::Then(cost, Focus::Walk(awaited, point, node, 0)))
 }

@@ -21,6 +21,7 @@ ghost use Rattle.script_steps.specs.Weight.{LeavesLess};
 ghost use Rattle.script_vars.specs.Seen.{env_of, value_of};
 
 use crate::resumed::add_step;
+use crate::walked::nowhere;
 use do_tree::{Expr, Link, Simple, Write};
 use do_value::{BinOp, Fields, Mem, NoMemory, Value};
 use script_ops::OpFault;
@@ -107,13 +108,6 @@ fn begin_own(alloc: Global, writing: Writing, node: &Arc<Expr>) -> Mem<Move>
         }
         Some(Link::Index { .. }) | Some(Link::Call { .. }) | None => Ok(nowhere()),
     }
-}
-
-/// What a checked script doesn't have.
-pub(crate) fn nowhere() -> Move
-    ensures { result ≡ Move.Then 0 (Focus.Ended (Outcome.Threw Value.Undefined)) }
-{
-    Move::Then(0, Focus::Ended(Outcome::Threw(Value::Undefined)))
 }
 
 /// The rest of the place of a write from that link on, whose indexes are evaluated, and then the write.

@@ -11,8 +11,9 @@ ghost use Rattle.script_steps.specs.Paths.{root_of};
 ghost use Rattle.script_steps.specs.Seen.{move_run};
 ghost use Rattle.script_steps.specs.Weight.{LeavesLess};
 
-use crate::places::nowhere;
+use crate::link::{begins_with_call, links_after};
 use crate::resumed::add_step;
+use crate::walked::nowhere;
 use do_tree::{Expr, Link};
 use do_value::Mem;
 use script_places::Step;
@@ -32,7 +33,7 @@ pub fn push(alloc: Global, root: Root, steps: Vec<Step>, node: Arc<Expr>, place:
         match link_at(&node, place) {
             Some(Link::Field(name)) => {
                 let next = place + 1;
-                if is_call(&node, next) {
+                if begins_with_call(links_after(&node, next)) {
                     return push_call(alloc, root, steps, node, next);
                 }
                 add_step(&mut steps, Step::Named(name.text.copy()?))?;
@@ -65,15 +66,4 @@ fn push_call(alloc: Global, root: Root, steps: Vec<Step>, node: Arc<Expr>, link:
         Frame::Path(PathFrame::Walk(false, path, link + 1)),
         Focus::Arguments(Callee::Place(root, steps), Vec::new(alloc), node, link, 0),
     ))
-}
-
-/// Whether the link at that place of a path is a call.
-fn is_call(node: &Expr, place: usize) -> bool
-    ensures called { result ≡ is_called (links_in (expr_of node.now) place) }
-    ensures room { result ≡ true → place + 1 < 2 ^ 64 }
-{
-    match link_at(node, place) {
-        Some(Link::Call { .. }) => true,
-        Some(Link::Field(_)) | Some(Link::Index { .. }) | None => false,
-    }
 }

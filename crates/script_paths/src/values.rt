@@ -10,7 +10,7 @@ ghost use Rattle.script_paths.specs.Ahead.{front_of, links_seen};
 ghost use Rattle.script_paths.specs.Onward.{called_parts_on, part_on, parts_on, value_on, word_from};
 ghost use Rattle.script_steps.specs.Parts.{links_in};
 ghost use Rattle.script_steps.specs.Seen.{move_run};
-ghost use Rattle.script_steps.specs.Weight.{LeavesLess};
+ghost use Rattle.script_steps.specs.Weight.{LeavesLess, move_cost};
 
 use crate::link::{Ahead, ahead_at};
 use crate::walked::{call_at, call_from, nowhere};
@@ -39,7 +39,7 @@ pub(crate) fn from_value(
 }
 
 /// The same, by what is next.
-fn value_goes_on(
+pub(crate) fn value_goes_on(
     alloc: Global,
     awaited: bool,
     value: Value,
@@ -51,6 +51,7 @@ fn value_goes_on(
     ensures same { IfOk result (λ m. (calls : Calls)
         → value_on awaited calls (tree_of value) (front_of ahead) (links_in (expr_of node.value) (place + 1)) (links_in (expr_of node.value) (place + 1 + 1)) ≡ move_run calls m) }
     ensures less { IfOk result (LeavesLess (10 + 10 * parts_on (front_of ahead) (links_in (expr_of node.value) (place + 1)) (links_in (expr_of node.value) (place + 1 + 1)))) }
+    ensures cost { IfOk result (λ m. move_cost m ≡ 0) }
 {
     match ahead {
         Ahead::End => Ok(Move::Then(0, Focus::Ended(Outcome::Gave(value)))),
@@ -70,7 +71,7 @@ fn value_goes_on(
 
 /// A path from the field of this name of a value on.
 #[tactic(auto, using(crate::proofs::Properties::part_is, crate::proofs::Properties::part_throws))]
-fn part_of(
+pub(crate) fn part_of(
     alloc: Global,
     awaited: bool,
     value: &Value,
@@ -81,6 +82,7 @@ fn part_of(
     ensures same { IfOk result (λ m. (calls : Calls)
         → part_on awaited calls (property (tree_of value.now) name.now) (links_in (expr_of node.value) next) ≡ move_run calls m) }
     ensures less { IfOk result (LeavesLess (20 + 10 * parts (links_in (expr_of node.value) next))) }
+    ensures cost { IfOk result (λ m. move_cost m ≡ 0) }
 {
     match property(alloc, value, name.as_str()) {
         Ok(part) => Ok(Move::Then(0, Focus::Walk(awaited, Point::Holds(part), node, next))),

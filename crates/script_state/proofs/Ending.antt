@@ -1,15 +1,20 @@
 -- How joins, helpers, transactions and blocks end.
-use Rattle.std.proofs.Common.{◌≡◌, ℕ, Bool, true, false, List, [], ◌∷◌, ◌++◌, Option, Some, Result, Ok, Err, IfOk, sym, ap, subst, ◌∙◌}
+use Rattle.std.proofs.Common.{◌≡◌, ℕ, ◌<◌, ◌≤◌, Bool, true, List, [], ◌∷◌, ◌++◌, length, Option, Some, Result, Ok, Err, IfOk, sym, ap, subst, ◌∙◌}
+use Rattle.std.proofs.lemmas.Bool.{le-leb, lt-leb}
 use Rattle.do_value.specs.Seen.{tree_of}
 use Rattle.do_value.specs.Tree.{undefined}
 use Rattle.do_value.specs.declared.value.Value.{Value}
+use Rattle.do_value.specs.declared.value.Value.TheVariants.{Undefined}
+use Rattle.storage_map.specs.Limits.{most_batch_bytes}
+use Rattle.storage_map.specs.Ops.{batch_bytes}
 use Rattle.storage_map.specs.declared.op.Op.{Op}
-use Rattle.script_mean.specs.Answers.{returned, threw}
+use Rattle.script_mean.specs.Answers.{gave, returned, threw}
 use Rattle.script_mean.specs.Calls.{transacting}
 use Rattle.script_mean.specs.Errors.{batch_full}
 use Rattle.script_mean.specs.Task as task
 use Rattle.script_mean.specs.Turn as turn
-use Rattle.script_mean.specs.Turn.{cut, cut_after, fits, join, join_where}
+use Rattle.script_mean.specs.Turn.{cut, cut_after, join, join_where}
+use Rattle.script_steps.proofs.Begun.{if_ok}
 use Rattle.script_steps.specs.Seen.{outcome_of, returned_to, unblocking}
 use Rattle.script_steps.specs.declared.focus.Outcome.{Outcome}
 use Rattle.script_steps.specs.declared.focus.Outcome.TheVariants as ending
@@ -20,12 +25,22 @@ use Rattle.script_state.specs.Seen.{held_of, state_of}
 use Rattle.script_state.specs.declared.done.Done.TheVariants as done
 use Rattle.script_state.specs.declared.state.State.{State}
 
--- Operations that have no room throw.
-pub full : {E : Type 0} (ops : List Op) (old : State) (r : Result Outcome E) → false ≡ fits (old.pending ++ ops)
-    → IfOk r (λ o. outcome_of o ≡ threw batch_full) → IfOk r (Goes (join ops) old old)
-full ops old (Ok o) room same = λ next rs.
-    ap (λ t. join_where t ops (env_of old.vars) next (state_of old rs)) (sym room) ∙ ap (λ x. next x (env_of old.vars) (state_of old rs)) (sym same)
-full ops old (Err e) room same = same
+-- Operations that fit join the open batch.
+pub joined : (ops pending : List Op) (old : State) → length (batch_bytes (old.pending ++ ops)) ≤ most_batch_bytes → pending ≡ old.pending ++ ops
+    → Goes (join ops) old (record old { pending = pending }) (ending.Gave Undefined)
+joined ops pending old small more = λ next rs.
+    ap (λ t. join_where t ops (env_of old.vars) next (state_of old rs)) (le-leb (length (batch_bytes (old.pending ++ ops))) most_batch_bytes small)
+    ∙ ap (λ ps. next (gave undefined) (env_of old.vars) (state_of (record old { pending = ps }) rs)) (sym more)
+
+-- Operations that don't fit throw.
+pub full : {E : Type 0} (ops pending : List Op) (old : State) (r : Result Outcome E) → most_batch_bytes < length (batch_bytes (old.pending ++ ops)) → pending ≡ old.pending
+    → IfOk r (λ o. outcome_of o ≡ threw batch_full) → IfOk r (Goes (join ops) old (record old { pending = pending }))
+full ops pending old r large same end = if_ok r
+    (λ o throws. λ next rs.
+    ap (λ t. join_where t ops (env_of old.vars) next (state_of old rs)) (lt-leb (length (batch_bytes (old.pending ++ ops))) most_batch_bytes large)
+    ∙ ap (λ x. next x (env_of old.vars) (state_of old rs)) (sym throws)
+    ∙ ap (λ ps. next (outcome_of o) (env_of old.vars) (state_of (record old { pending = ps }) rs)) (sym same))
+    end
 
 -- A helper that gives no value returns `undefined`.
 pub helper_gave : {E : Type 0} (awaited : Bool) (caller : List (List (List ℕ × Bound))) (x : Outcome) (w : Value) (old new : State) (r : Result Outcome E)

@@ -1,15 +1,12 @@
 -- How parts that a running task does at once end, as the definition of the meaning has it.
 use Rattle.std.specs.Prelude.{◌≡◌, Bool, true, List, [], ◌∷◌, Option, Some, None}
 use Rattle.storage_map.specs.declared.op.Op as op
-use Rattle.storage_txn.specs.Overlay.{IsAnswer}
 use Rattle.do_value.specs.Seen.{tree_of}
 use Rattle.script_mean.specs.Calls.{block, on_block}
 use Rattle.script_mean.specs.Task as task
 use Rattle.script_mean.specs.Task.{Resume, Segment, Wait}
 use Rattle.script_mean.specs.Turn as turn
 use Rattle.script_mean.specs.Turn.{Next, Run, resumed}
-use Rattle.script_mean.specs.declared.answer.Answer.{Answer}
-use Rattle.script_mean.specs.declared.answer.Answer.TheVariants as answer
 use Rattle.script_steps.specs.Seen.{outcome_of}
 use Rattle.script_steps.specs.declared.focus.Outcome.{Outcome}
 use Rattle.script_vars.specs.Seen.{env_of}
@@ -46,12 +43,6 @@ Opens old new None = (awaited : Bool) (body : Run) (next : Next) (rs : List Resu
     → block awaited body (env_of old.vars) next (state_of old rs) ≡ body (env_of new.vars) (on_block awaited next) (state_of new rs)
 Opens old new (Some o) = (awaited : Bool) (body : Run) (next : Next) (rs : List Resume)
     → block awaited body (env_of old.vars) next (state_of old rs) ≡ turns_after (done.Ended o) new next rs
-
--- The answer is of the kind that is waited for: a read that is seen through a transaction has the kind of its ask.
-abbrev pub FitsWait : Wait → Answer → Type 0
-FitsWait (task.views ops a) (answer.Read reading) = IsAnswer a reading
-FitsWait (task.finds ops a) (answer.Read reading) = IsAnswer a reading
-FitsWait w answer = Unit {0}
 
 -- There is a transaction that wasn't rolled back.
 abbrev pub IsMade : Option (Option (List op.Op)) → Type 0

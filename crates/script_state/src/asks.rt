@@ -1,5 +1,5 @@
 //! Batches and asks.
-ghost use Rattle.std.specs.Prelude.{◌≡◌, [], ◌∷◌, ◌++◌, IfOk, OnOk};
+ghost use Rattle.std.specs.Prelude.{◌≤◌, [], ◌∷◌, ◌++◌, IfOk, OnOk, length};
 ghost use Rattle.std.specs.List.{All};
 ghost use Rattle.storage_map.specs.Ops.{IsOp};
 ghost use Rattle.script_mean.specs.Turn as turn;
@@ -14,8 +14,8 @@ use do_value::{Mem, NoMemory, Value};
 use script_mean::{Ask, MOST_OUTSIDE_CALLS, MOST_STORAGE_AWAITS};
 use script_steps::Outcome;
 use std::alloc::Global;
-use storage_map::{Batch, MOST_BATCH_BYTES, Op};
-use write_batcher::Batcher;
+use storage_map::{Batch, Op};
+use write_batcher::AddFault;
 
 impl State {
     /// The open batch is closed. One without operations isn't made.
@@ -46,15 +46,17 @@ impl State {
     }
 
     /// The operations join the open batch, all of them or, where it would be too large, none.
+    #[tactic(auto, using(crate::proofs::Ending::joined, crate::proofs::Ending::full))]
     pub fn join(&mut self, alloc: Global, ops: Vec<Op>) -> Mem<Outcome>
-        requires { All IsOp ops.items }
+        requires within { All IsOp ops.items }
+        requires few { length ops.items ≤ 4294967295 }
         ensures { IfOk result (Goes (turn.join ops.items) self.old self.new) }
     {
-        if !has_room(&self.pending, &ops) {
-            return thrown(alloc, "RangeError", "batch");
+        match self.pending.extend(ops) {
+            Ok(()) => Ok(Outcome::Gave(Value::Undefined)),
+            Err(AddFault::BatchFull { .. }) => thrown(alloc, "RangeError", "batch"),
+            Err(AddFault::NoMemory) => Err(NoMemory),
         }
-        add_all(&mut self.pending, ops)?;
-        Ok(Outcome::Gave(Value::Undefined))
     }
 
     /// The turn ends with an ask that is an await of the storage, of which a task may make no more than its limit.
@@ -82,32 +84,4 @@ impl State {
         self.cut()?;
         Ok(Done::Asks(ask, Waiting::Outside))
     }
-}
-
-/// Whether the operations can join the open batch.
-fn has_room(pending: &Batcher, ops: &[Op]) -> bool
-    ensures { result ≡ turn.fits (pending.now ++ ops.now) }
-{
-    let mut size = pending.size();
-    for op in ops {
-        let more = op.size();
-        if more > MOST_BATCH_BYTES - size {
-            return false;
-        }
-        size += more;
-    }
-    true
-}
-
-/// The operations join the open batch, in which they have room.
-fn add_all(pending: &mut Batcher, ops: Vec<Op>) -> Mem<()>
-    requires { All IsOp ops.items }
-    ensures { OnOk result (pending.new ≡ pending.old ++ ops.items) }
-{
-    for op in ops {
-        if pending.add(op).is_err() {
-            return Err(NoMemory);
-        }
-    }
-    Ok(())
 }

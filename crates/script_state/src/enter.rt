@@ -19,7 +19,8 @@ pub(crate) fn no_name(alloc: Global) -> Mem<Text>
 {
     match Text::new(alloc, "") {
         Ok(name) => Ok(name),
-        Err(_) => Err(NoMemory),
+        Err(BuildFault::NoMemory) => Err(NoMemory),
+        Err(_) => unreachable!(),
     }
 }
 
@@ -35,7 +36,7 @@ pub fn enter_loop(alloc: Global, vars: &mut Vars, node: &Stmt, value: Value) -> 
 }
 
 /// A block begins with the name, if there is one, of what a `try` catches.
-pub fn enter_handler(alloc: Global, vars: &mut Vars, node: &Stmt, value: Value) -> Mem<()>
+pub fn enter_handler(vars: &mut Vars, node: &Stmt, value: Value) -> Mem<()>
     ensures { OnOk result (env_of vars.new ≡ caught_as (caught_in (stmt_of node.now)) (tree_of value) ∷ env_of vars.old) }
 {
     match node {

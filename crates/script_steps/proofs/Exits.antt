@@ -13,156 +13,151 @@ use Rattle.script_steps.specs.declared.frame.Between.{Between as Standing}
 use Rattle.script_steps.specs.declared.frame.Frame.{Frame}
 use Rattle.script_steps.specs.declared.frame.Frame.TheVariants as waiting
 use Rattle.script_steps.specs.declared.path.PathFrame.TheVariants as path
-use Rattle.script_vars.specs.declared.bound.Bound.{Bound}
 
 module _ (calls : Calls) where
   -- A throw passes by what catches none.
   pub throw_passes : (f : Frame) (v : Tree) → ((a : Arc Stmt Global) → f ≡ waiting.Catch a → ⊥) → (f ≡ waiting.Leave → ⊥)
-      → ((a : Bool) (b : List (List (List ℕ × Bound))) → f ≡ waiting.Caller a b → ⊥) → (f ≡ waiting.Commit → ⊥) → ((a : Bool) → f ≡ waiting.Unblock a → ⊥)
+      → (f ≡ waiting.Commit → ⊥) → ((a : Bool) → f ≡ waiting.Unblock a → ⊥)
       → handed calls (frame_of f) (threw v) ≡ ends (threw v)
-  throw_passes (waiting.Choose a b) v not_catch not_leave not_caller not_commit not_unblock = refl
-  throw_passes (waiting.Chain a b) v not_catch not_leave not_caller not_commit not_unblock = refl
-  throw_passes (waiting.Operate a b) v not_catch not_leave not_caller not_commit not_unblock = refl
-  throw_passes (waiting.Apply a b c d) v not_catch not_leave not_caller not_commit not_unblock = refl
-  throw_passes (waiting.Prefix a) v not_catch not_leave not_caller not_commit not_unblock = refl
-  throw_passes (waiting.List a b c) v not_catch not_leave not_caller not_commit not_unblock = refl
-  throw_passes (waiting.Record a b c d) v not_catch not_leave not_caller not_commit not_unblock = refl
-  throw_passes waiting.Error v not_catch not_leave not_caller not_commit not_unblock = refl
-  throw_passes (waiting.Declare a b c) v not_catch not_leave not_caller not_commit not_unblock = refl
-  throw_passes (waiting.GoOn a b) v not_catch not_leave not_caller not_commit not_unblock = refl
-  throw_passes (waiting.Branch a b) v not_catch not_leave not_caller not_commit not_unblock = refl
-  throw_passes (waiting.Test a b c) v not_catch not_leave not_caller not_commit not_unblock = refl
-  throw_passes (waiting.Turn a b c) v not_catch not_leave not_caller not_commit not_unblock = refl
-  throw_passes (waiting.Loop a b c) v not_catch not_leave not_caller not_commit not_unblock = refl
-  throw_passes (waiting.Count a) v not_catch not_leave not_caller not_commit not_unblock = refl
-  throw_passes (waiting.Visit a) v not_catch not_leave not_caller not_commit not_unblock = refl
-  throw_passes (waiting.Next a b c) v not_catch not_leave not_caller not_commit not_unblock = refl
-  throw_passes waiting.Throw v not_catch not_leave not_caller not_commit not_unblock = refl
-  throw_passes waiting.Return v not_catch not_leave not_caller not_commit not_unblock = refl
-  throw_passes waiting.Pass v not_catch not_leave not_caller not_commit not_unblock = refl
-  throw_passes waiting.Leave v not_catch not_leave not_caller not_commit not_unblock = absurd (not_leave refl)
-  throw_passes (waiting.Catch a) v not_catch not_leave not_caller not_commit not_unblock = absurd (not_catch a refl)
-  throw_passes (waiting.Path (path.Walk a b c)) v not_catch not_leave not_caller not_commit not_unblock = refl
-  throw_passes (waiting.Path (path.Index a b c d)) v not_catch not_leave not_caller not_commit not_unblock = refl
-  throw_passes (waiting.Path (path.Call a b c d e)) v not_catch not_leave not_caller not_commit not_unblock = refl
-  throw_passes (waiting.Path (path.PushIndex a b c d)) v not_catch not_leave not_caller not_commit not_unblock = refl
-  throw_passes (waiting.Path (path.PlaceIndex a b c d e)) v not_catch not_leave not_caller not_commit not_unblock = refl
-  throw_passes (waiting.Path (path.Assign a b)) v not_catch not_leave not_caller not_commit not_unblock = refl
-  throw_passes (waiting.Path (path.Update a b c d)) v not_catch not_leave not_caller not_commit not_unblock = refl
-  throw_passes (waiting.Caller a b) v not_catch not_leave not_caller not_commit not_unblock = absurd (not_caller a b refl)
-  throw_passes waiting.Commit v not_catch not_leave not_caller not_commit not_unblock = absurd (not_commit refl)
-  throw_passes (waiting.Unblock a) v not_catch not_leave not_caller not_commit not_unblock = absurd (not_unblock a refl)
+  throw_passes (waiting.Choose a b) v not_catch not_leave not_commit not_unblock = refl
+  throw_passes (waiting.Chain a b) v not_catch not_leave not_commit not_unblock = refl
+  throw_passes (waiting.Operate a b) v not_catch not_leave not_commit not_unblock = refl
+  throw_passes (waiting.Apply a b c d) v not_catch not_leave not_commit not_unblock = refl
+  throw_passes (waiting.Prefix a) v not_catch not_leave not_commit not_unblock = refl
+  throw_passes (waiting.List a b c) v not_catch not_leave not_commit not_unblock = refl
+  throw_passes (waiting.Record a b c d) v not_catch not_leave not_commit not_unblock = refl
+  throw_passes waiting.Error v not_catch not_leave not_commit not_unblock = refl
+  throw_passes (waiting.Declare a b c) v not_catch not_leave not_commit not_unblock = refl
+  throw_passes (waiting.GoOn a b) v not_catch not_leave not_commit not_unblock = refl
+  throw_passes (waiting.Branch a b) v not_catch not_leave not_commit not_unblock = refl
+  throw_passes (waiting.Test a b c) v not_catch not_leave not_commit not_unblock = refl
+  throw_passes (waiting.Turn a b c) v not_catch not_leave not_commit not_unblock = refl
+  throw_passes (waiting.Loop a b c) v not_catch not_leave not_commit not_unblock = refl
+  throw_passes (waiting.Count a) v not_catch not_leave not_commit not_unblock = refl
+  throw_passes (waiting.Visit a) v not_catch not_leave not_commit not_unblock = refl
+  throw_passes (waiting.Next a b c) v not_catch not_leave not_commit not_unblock = refl
+  throw_passes waiting.Throw v not_catch not_leave not_commit not_unblock = refl
+  throw_passes waiting.Return v not_catch not_leave not_commit not_unblock = refl
+  throw_passes waiting.Pass v not_catch not_leave not_commit not_unblock = refl
+  throw_passes waiting.Leave v not_catch not_leave not_commit not_unblock = absurd (not_leave refl)
+  throw_passes (waiting.Catch a) v not_catch not_leave not_commit not_unblock = absurd (not_catch a refl)
+  throw_passes (waiting.Path (path.Walk a b c)) v not_catch not_leave not_commit not_unblock = refl
+  throw_passes (waiting.Path (path.Index a b c d)) v not_catch not_leave not_commit not_unblock = refl
+  throw_passes (waiting.Path (path.Call a b c d e)) v not_catch not_leave not_commit not_unblock = refl
+  throw_passes (waiting.Path (path.PushIndex a b c d)) v not_catch not_leave not_commit not_unblock = refl
+  throw_passes (waiting.Path (path.PlaceIndex a b c d e)) v not_catch not_leave not_commit not_unblock = refl
+  throw_passes (waiting.Path (path.Assign a b)) v not_catch not_leave not_commit not_unblock = refl
+  throw_passes (waiting.Path (path.Update a b c d)) v not_catch not_leave not_commit not_unblock = refl
+  throw_passes waiting.Commit v not_catch not_leave not_commit not_unblock = absurd (not_commit refl)
+  throw_passes (waiting.Unblock a) v not_catch not_leave not_commit not_unblock = absurd (not_unblock a refl)
 
   -- A return passes by what ends at none.
-  pub return_passes : (f : Frame) (v : Tree) → (f ≡ waiting.Leave → ⊥) → ((a : Bool) (b : List (List (List ℕ × Bound))) → f ≡ waiting.Caller a b → ⊥)
+  pub return_passes : (f : Frame) (v : Tree) → (f ≡ waiting.Leave → ⊥)
       → (f ≡ waiting.Commit → ⊥) → ((a : Bool) → f ≡ waiting.Unblock a → ⊥)
       → handed calls (frame_of f) (returned v) ≡ ends (returned v)
-  return_passes (waiting.Choose a b) v not_leave not_caller not_commit not_unblock = refl
-  return_passes (waiting.Chain a b) v not_leave not_caller not_commit not_unblock = refl
-  return_passes (waiting.Operate a b) v not_leave not_caller not_commit not_unblock = refl
-  return_passes (waiting.Apply a b c d) v not_leave not_caller not_commit not_unblock = refl
-  return_passes (waiting.Prefix a) v not_leave not_caller not_commit not_unblock = refl
-  return_passes (waiting.List a b c) v not_leave not_caller not_commit not_unblock = refl
-  return_passes (waiting.Record a b c d) v not_leave not_caller not_commit not_unblock = refl
-  return_passes waiting.Error v not_leave not_caller not_commit not_unblock = refl
-  return_passes (waiting.Declare a b c) v not_leave not_caller not_commit not_unblock = refl
-  return_passes (waiting.GoOn a b) v not_leave not_caller not_commit not_unblock = refl
-  return_passes (waiting.Branch a b) v not_leave not_caller not_commit not_unblock = refl
-  return_passes (waiting.Test a b c) v not_leave not_caller not_commit not_unblock = refl
-  return_passes (waiting.Turn a b c) v not_leave not_caller not_commit not_unblock = refl
-  return_passes (waiting.Loop a b c) v not_leave not_caller not_commit not_unblock = refl
-  return_passes (waiting.Count a) v not_leave not_caller not_commit not_unblock = refl
-  return_passes (waiting.Visit a) v not_leave not_caller not_commit not_unblock = refl
-  return_passes (waiting.Next a b c) v not_leave not_caller not_commit not_unblock = refl
-  return_passes waiting.Throw v not_leave not_caller not_commit not_unblock = refl
-  return_passes waiting.Return v not_leave not_caller not_commit not_unblock = refl
-  return_passes waiting.Pass v not_leave not_caller not_commit not_unblock = refl
-  return_passes waiting.Leave v not_leave not_caller not_commit not_unblock = absurd (not_leave refl)
-  return_passes (waiting.Catch a) v not_leave not_caller not_commit not_unblock = refl
-  return_passes (waiting.Path (path.Walk a b c)) v not_leave not_caller not_commit not_unblock = refl
-  return_passes (waiting.Path (path.Index a b c d)) v not_leave not_caller not_commit not_unblock = refl
-  return_passes (waiting.Path (path.Call a b c d e)) v not_leave not_caller not_commit not_unblock = refl
-  return_passes (waiting.Path (path.PushIndex a b c d)) v not_leave not_caller not_commit not_unblock = refl
-  return_passes (waiting.Path (path.PlaceIndex a b c d e)) v not_leave not_caller not_commit not_unblock = refl
-  return_passes (waiting.Path (path.Assign a b)) v not_leave not_caller not_commit not_unblock = refl
-  return_passes (waiting.Path (path.Update a b c d)) v not_leave not_caller not_commit not_unblock = refl
-  return_passes (waiting.Caller a b) v not_leave not_caller not_commit not_unblock = absurd (not_caller a b refl)
-  return_passes waiting.Commit v not_leave not_caller not_commit not_unblock = absurd (not_commit refl)
-  return_passes (waiting.Unblock a) v not_leave not_caller not_commit not_unblock = absurd (not_unblock a refl)
+  return_passes (waiting.Choose a b) v not_leave not_commit not_unblock = refl
+  return_passes (waiting.Chain a b) v not_leave not_commit not_unblock = refl
+  return_passes (waiting.Operate a b) v not_leave not_commit not_unblock = refl
+  return_passes (waiting.Apply a b c d) v not_leave not_commit not_unblock = refl
+  return_passes (waiting.Prefix a) v not_leave not_commit not_unblock = refl
+  return_passes (waiting.List a b c) v not_leave not_commit not_unblock = refl
+  return_passes (waiting.Record a b c d) v not_leave not_commit not_unblock = refl
+  return_passes waiting.Error v not_leave not_commit not_unblock = refl
+  return_passes (waiting.Declare a b c) v not_leave not_commit not_unblock = refl
+  return_passes (waiting.GoOn a b) v not_leave not_commit not_unblock = refl
+  return_passes (waiting.Branch a b) v not_leave not_commit not_unblock = refl
+  return_passes (waiting.Test a b c) v not_leave not_commit not_unblock = refl
+  return_passes (waiting.Turn a b c) v not_leave not_commit not_unblock = refl
+  return_passes (waiting.Loop a b c) v not_leave not_commit not_unblock = refl
+  return_passes (waiting.Count a) v not_leave not_commit not_unblock = refl
+  return_passes (waiting.Visit a) v not_leave not_commit not_unblock = refl
+  return_passes (waiting.Next a b c) v not_leave not_commit not_unblock = refl
+  return_passes waiting.Throw v not_leave not_commit not_unblock = refl
+  return_passes waiting.Return v not_leave not_commit not_unblock = refl
+  return_passes waiting.Pass v not_leave not_commit not_unblock = refl
+  return_passes waiting.Leave v not_leave not_commit not_unblock = absurd (not_leave refl)
+  return_passes (waiting.Catch a) v not_leave not_commit not_unblock = refl
+  return_passes (waiting.Path (path.Walk a b c)) v not_leave not_commit not_unblock = refl
+  return_passes (waiting.Path (path.Index a b c d)) v not_leave not_commit not_unblock = refl
+  return_passes (waiting.Path (path.Call a b c d e)) v not_leave not_commit not_unblock = refl
+  return_passes (waiting.Path (path.PushIndex a b c d)) v not_leave not_commit not_unblock = refl
+  return_passes (waiting.Path (path.PlaceIndex a b c d e)) v not_leave not_commit not_unblock = refl
+  return_passes (waiting.Path (path.Assign a b)) v not_leave not_commit not_unblock = refl
+  return_passes (waiting.Path (path.Update a b c d)) v not_leave not_commit not_unblock = refl
+  return_passes waiting.Commit v not_leave not_commit not_unblock = absurd (not_commit refl)
+  return_passes (waiting.Unblock a) v not_leave not_commit not_unblock = absurd (not_unblock a refl)
 
   -- A `break` passes by what is no loop.
   pub break_passes : (f : Frame) → ((a : Arc Expr Global) (b : Arc Stmt Global) (c : Standing) → f ≡ waiting.Turn a b c → ⊥) → ((a : Arc Stmt Global) (b : List Tree) (c : ℕ) → f ≡ waiting.Next a b c → ⊥)
-      → (f ≡ waiting.Leave → ⊥) → ((a : Bool) (b : List (List (List ℕ × Bound))) → f ≡ waiting.Caller a b → ⊥) → (f ≡ waiting.Commit → ⊥) → ((a : Bool) → f ≡ waiting.Unblock a → ⊥)
+      → (f ≡ waiting.Leave → ⊥) → (f ≡ waiting.Commit → ⊥) → ((a : Bool) → f ≡ waiting.Unblock a → ⊥)
       → handed calls (frame_of f) broke ≡ ends broke
-  break_passes (waiting.Choose a b) not_turn not_next not_leave not_caller not_commit not_unblock = refl
-  break_passes (waiting.Chain a b) not_turn not_next not_leave not_caller not_commit not_unblock = refl
-  break_passes (waiting.Operate a b) not_turn not_next not_leave not_caller not_commit not_unblock = refl
-  break_passes (waiting.Apply a b c d) not_turn not_next not_leave not_caller not_commit not_unblock = refl
-  break_passes (waiting.Prefix a) not_turn not_next not_leave not_caller not_commit not_unblock = refl
-  break_passes (waiting.List a b c) not_turn not_next not_leave not_caller not_commit not_unblock = refl
-  break_passes (waiting.Record a b c d) not_turn not_next not_leave not_caller not_commit not_unblock = refl
-  break_passes waiting.Error not_turn not_next not_leave not_caller not_commit not_unblock = refl
-  break_passes (waiting.Declare a b c) not_turn not_next not_leave not_caller not_commit not_unblock = refl
-  break_passes (waiting.GoOn a b) not_turn not_next not_leave not_caller not_commit not_unblock = refl
-  break_passes (waiting.Branch a b) not_turn not_next not_leave not_caller not_commit not_unblock = refl
-  break_passes (waiting.Test a b c) not_turn not_next not_leave not_caller not_commit not_unblock = refl
-  break_passes (waiting.Turn a b c) not_turn not_next not_leave not_caller not_commit not_unblock = absurd (not_turn a b c refl)
-  break_passes (waiting.Loop a b c) not_turn not_next not_leave not_caller not_commit not_unblock = refl
-  break_passes (waiting.Count a) not_turn not_next not_leave not_caller not_commit not_unblock = refl
-  break_passes (waiting.Visit a) not_turn not_next not_leave not_caller not_commit not_unblock = refl
-  break_passes (waiting.Next a b c) not_turn not_next not_leave not_caller not_commit not_unblock = absurd (not_next a b c refl)
-  break_passes waiting.Throw not_turn not_next not_leave not_caller not_commit not_unblock = refl
-  break_passes waiting.Return not_turn not_next not_leave not_caller not_commit not_unblock = refl
-  break_passes waiting.Pass not_turn not_next not_leave not_caller not_commit not_unblock = refl
-  break_passes waiting.Leave not_turn not_next not_leave not_caller not_commit not_unblock = absurd (not_leave refl)
-  break_passes (waiting.Catch a) not_turn not_next not_leave not_caller not_commit not_unblock = refl
-  break_passes (waiting.Path (path.Walk a b c)) not_turn not_next not_leave not_caller not_commit not_unblock = refl
-  break_passes (waiting.Path (path.Index a b c d)) not_turn not_next not_leave not_caller not_commit not_unblock = refl
-  break_passes (waiting.Path (path.Call a b c d e)) not_turn not_next not_leave not_caller not_commit not_unblock = refl
-  break_passes (waiting.Path (path.PushIndex a b c d)) not_turn not_next not_leave not_caller not_commit not_unblock = refl
-  break_passes (waiting.Path (path.PlaceIndex a b c d e)) not_turn not_next not_leave not_caller not_commit not_unblock = refl
-  break_passes (waiting.Path (path.Assign a b)) not_turn not_next not_leave not_caller not_commit not_unblock = refl
-  break_passes (waiting.Path (path.Update a b c d)) not_turn not_next not_leave not_caller not_commit not_unblock = refl
-  break_passes (waiting.Caller a b) not_turn not_next not_leave not_caller not_commit not_unblock = absurd (not_caller a b refl)
-  break_passes waiting.Commit not_turn not_next not_leave not_caller not_commit not_unblock = absurd (not_commit refl)
-  break_passes (waiting.Unblock a) not_turn not_next not_leave not_caller not_commit not_unblock = absurd (not_unblock a refl)
+  break_passes (waiting.Choose a b) not_turn not_next not_leave not_commit not_unblock = refl
+  break_passes (waiting.Chain a b) not_turn not_next not_leave not_commit not_unblock = refl
+  break_passes (waiting.Operate a b) not_turn not_next not_leave not_commit not_unblock = refl
+  break_passes (waiting.Apply a b c d) not_turn not_next not_leave not_commit not_unblock = refl
+  break_passes (waiting.Prefix a) not_turn not_next not_leave not_commit not_unblock = refl
+  break_passes (waiting.List a b c) not_turn not_next not_leave not_commit not_unblock = refl
+  break_passes (waiting.Record a b c d) not_turn not_next not_leave not_commit not_unblock = refl
+  break_passes waiting.Error not_turn not_next not_leave not_commit not_unblock = refl
+  break_passes (waiting.Declare a b c) not_turn not_next not_leave not_commit not_unblock = refl
+  break_passes (waiting.GoOn a b) not_turn not_next not_leave not_commit not_unblock = refl
+  break_passes (waiting.Branch a b) not_turn not_next not_leave not_commit not_unblock = refl
+  break_passes (waiting.Test a b c) not_turn not_next not_leave not_commit not_unblock = refl
+  break_passes (waiting.Turn a b c) not_turn not_next not_leave not_commit not_unblock = absurd (not_turn a b c refl)
+  break_passes (waiting.Loop a b c) not_turn not_next not_leave not_commit not_unblock = refl
+  break_passes (waiting.Count a) not_turn not_next not_leave not_commit not_unblock = refl
+  break_passes (waiting.Visit a) not_turn not_next not_leave not_commit not_unblock = refl
+  break_passes (waiting.Next a b c) not_turn not_next not_leave not_commit not_unblock = absurd (not_next a b c refl)
+  break_passes waiting.Throw not_turn not_next not_leave not_commit not_unblock = refl
+  break_passes waiting.Return not_turn not_next not_leave not_commit not_unblock = refl
+  break_passes waiting.Pass not_turn not_next not_leave not_commit not_unblock = refl
+  break_passes waiting.Leave not_turn not_next not_leave not_commit not_unblock = absurd (not_leave refl)
+  break_passes (waiting.Catch a) not_turn not_next not_leave not_commit not_unblock = refl
+  break_passes (waiting.Path (path.Walk a b c)) not_turn not_next not_leave not_commit not_unblock = refl
+  break_passes (waiting.Path (path.Index a b c d)) not_turn not_next not_leave not_commit not_unblock = refl
+  break_passes (waiting.Path (path.Call a b c d e)) not_turn not_next not_leave not_commit not_unblock = refl
+  break_passes (waiting.Path (path.PushIndex a b c d)) not_turn not_next not_leave not_commit not_unblock = refl
+  break_passes (waiting.Path (path.PlaceIndex a b c d e)) not_turn not_next not_leave not_commit not_unblock = refl
+  break_passes (waiting.Path (path.Assign a b)) not_turn not_next not_leave not_commit not_unblock = refl
+  break_passes (waiting.Path (path.Update a b c d)) not_turn not_next not_leave not_commit not_unblock = refl
+  break_passes waiting.Commit not_turn not_next not_leave not_commit not_unblock = absurd (not_commit refl)
+  break_passes (waiting.Unblock a) not_turn not_next not_leave not_commit not_unblock = absurd (not_unblock a refl)
 
   -- A `continue` passes by what is no loop.
   pub continue_passes : (f : Frame) → ((a : Arc Expr Global) (b : Arc Stmt Global) (c : Standing) → f ≡ waiting.Turn a b c → ⊥) → ((a : Arc Stmt Global) (b : List Tree) (c : ℕ) → f ≡ waiting.Next a b c → ⊥)
-      → (f ≡ waiting.Leave → ⊥) → ((a : Bool) (b : List (List (List ℕ × Bound))) → f ≡ waiting.Caller a b → ⊥) → (f ≡ waiting.Commit → ⊥) → ((a : Bool) → f ≡ waiting.Unblock a → ⊥)
+      → (f ≡ waiting.Leave → ⊥) → (f ≡ waiting.Commit → ⊥) → ((a : Bool) → f ≡ waiting.Unblock a → ⊥)
       → handed calls (frame_of f) continued ≡ ends continued
-  continue_passes (waiting.Choose a b) not_turn not_next not_leave not_caller not_commit not_unblock = refl
-  continue_passes (waiting.Chain a b) not_turn not_next not_leave not_caller not_commit not_unblock = refl
-  continue_passes (waiting.Operate a b) not_turn not_next not_leave not_caller not_commit not_unblock = refl
-  continue_passes (waiting.Apply a b c d) not_turn not_next not_leave not_caller not_commit not_unblock = refl
-  continue_passes (waiting.Prefix a) not_turn not_next not_leave not_caller not_commit not_unblock = refl
-  continue_passes (waiting.List a b c) not_turn not_next not_leave not_caller not_commit not_unblock = refl
-  continue_passes (waiting.Record a b c d) not_turn not_next not_leave not_caller not_commit not_unblock = refl
-  continue_passes waiting.Error not_turn not_next not_leave not_caller not_commit not_unblock = refl
-  continue_passes (waiting.Declare a b c) not_turn not_next not_leave not_caller not_commit not_unblock = refl
-  continue_passes (waiting.GoOn a b) not_turn not_next not_leave not_caller not_commit not_unblock = refl
-  continue_passes (waiting.Branch a b) not_turn not_next not_leave not_caller not_commit not_unblock = refl
-  continue_passes (waiting.Test a b c) not_turn not_next not_leave not_caller not_commit not_unblock = refl
-  continue_passes (waiting.Turn a b c) not_turn not_next not_leave not_caller not_commit not_unblock = absurd (not_turn a b c refl)
-  continue_passes (waiting.Loop a b c) not_turn not_next not_leave not_caller not_commit not_unblock = refl
-  continue_passes (waiting.Count a) not_turn not_next not_leave not_caller not_commit not_unblock = refl
-  continue_passes (waiting.Visit a) not_turn not_next not_leave not_caller not_commit not_unblock = refl
-  continue_passes (waiting.Next a b c) not_turn not_next not_leave not_caller not_commit not_unblock = absurd (not_next a b c refl)
-  continue_passes waiting.Throw not_turn not_next not_leave not_caller not_commit not_unblock = refl
-  continue_passes waiting.Return not_turn not_next not_leave not_caller not_commit not_unblock = refl
-  continue_passes waiting.Pass not_turn not_next not_leave not_caller not_commit not_unblock = refl
-  continue_passes waiting.Leave not_turn not_next not_leave not_caller not_commit not_unblock = absurd (not_leave refl)
-  continue_passes (waiting.Catch a) not_turn not_next not_leave not_caller not_commit not_unblock = refl
-  continue_passes (waiting.Path (path.Walk a b c)) not_turn not_next not_leave not_caller not_commit not_unblock = refl
-  continue_passes (waiting.Path (path.Index a b c d)) not_turn not_next not_leave not_caller not_commit not_unblock = refl
-  continue_passes (waiting.Path (path.Call a b c d e)) not_turn not_next not_leave not_caller not_commit not_unblock = refl
-  continue_passes (waiting.Path (path.PushIndex a b c d)) not_turn not_next not_leave not_caller not_commit not_unblock = refl
-  continue_passes (waiting.Path (path.PlaceIndex a b c d e)) not_turn not_next not_leave not_caller not_commit not_unblock = refl
-  continue_passes (waiting.Path (path.Assign a b)) not_turn not_next not_leave not_caller not_commit not_unblock = refl
-  continue_passes (waiting.Path (path.Update a b c d)) not_turn not_next not_leave not_caller not_commit not_unblock = refl
-  continue_passes (waiting.Caller a b) not_turn not_next not_leave not_caller not_commit not_unblock = absurd (not_caller a b refl)
-  continue_passes waiting.Commit not_turn not_next not_leave not_caller not_commit not_unblock = absurd (not_commit refl)
-  continue_passes (waiting.Unblock a) not_turn not_next not_leave not_caller not_commit not_unblock = absurd (not_unblock a refl)
+  continue_passes (waiting.Choose a b) not_turn not_next not_leave not_commit not_unblock = refl
+  continue_passes (waiting.Chain a b) not_turn not_next not_leave not_commit not_unblock = refl
+  continue_passes (waiting.Operate a b) not_turn not_next not_leave not_commit not_unblock = refl
+  continue_passes (waiting.Apply a b c d) not_turn not_next not_leave not_commit not_unblock = refl
+  continue_passes (waiting.Prefix a) not_turn not_next not_leave not_commit not_unblock = refl
+  continue_passes (waiting.List a b c) not_turn not_next not_leave not_commit not_unblock = refl
+  continue_passes (waiting.Record a b c d) not_turn not_next not_leave not_commit not_unblock = refl
+  continue_passes waiting.Error not_turn not_next not_leave not_commit not_unblock = refl
+  continue_passes (waiting.Declare a b c) not_turn not_next not_leave not_commit not_unblock = refl
+  continue_passes (waiting.GoOn a b) not_turn not_next not_leave not_commit not_unblock = refl
+  continue_passes (waiting.Branch a b) not_turn not_next not_leave not_commit not_unblock = refl
+  continue_passes (waiting.Test a b c) not_turn not_next not_leave not_commit not_unblock = refl
+  continue_passes (waiting.Turn a b c) not_turn not_next not_leave not_commit not_unblock = absurd (not_turn a b c refl)
+  continue_passes (waiting.Loop a b c) not_turn not_next not_leave not_commit not_unblock = refl
+  continue_passes (waiting.Count a) not_turn not_next not_leave not_commit not_unblock = refl
+  continue_passes (waiting.Visit a) not_turn not_next not_leave not_commit not_unblock = refl
+  continue_passes (waiting.Next a b c) not_turn not_next not_leave not_commit not_unblock = absurd (not_next a b c refl)
+  continue_passes waiting.Throw not_turn not_next not_leave not_commit not_unblock = refl
+  continue_passes waiting.Return not_turn not_next not_leave not_commit not_unblock = refl
+  continue_passes waiting.Pass not_turn not_next not_leave not_commit not_unblock = refl
+  continue_passes waiting.Leave not_turn not_next not_leave not_commit not_unblock = absurd (not_leave refl)
+  continue_passes (waiting.Catch a) not_turn not_next not_leave not_commit not_unblock = refl
+  continue_passes (waiting.Path (path.Walk a b c)) not_turn not_next not_leave not_commit not_unblock = refl
+  continue_passes (waiting.Path (path.Index a b c d)) not_turn not_next not_leave not_commit not_unblock = refl
+  continue_passes (waiting.Path (path.Call a b c d e)) not_turn not_next not_leave not_commit not_unblock = refl
+  continue_passes (waiting.Path (path.PushIndex a b c d)) not_turn not_next not_leave not_commit not_unblock = refl
+  continue_passes (waiting.Path (path.PlaceIndex a b c d e)) not_turn not_next not_leave not_commit not_unblock = refl
+  continue_passes (waiting.Path (path.Assign a b)) not_turn not_next not_leave not_commit not_unblock = refl
+  continue_passes (waiting.Path (path.Update a b c d)) not_turn not_next not_leave not_commit not_unblock = refl
+  continue_passes waiting.Commit not_turn not_next not_leave not_commit not_unblock = absurd (not_commit refl)
+  continue_passes (waiting.Unblock a) not_turn not_next not_leave not_commit not_unblock = absurd (not_unblock a refl)
 
   -- The end of a block is left by a return.
   pub leave_returns : (f : Frame) (v : Tree) → f ≡ waiting.Leave → handed calls (frame_of f) (returned v) ≡ left (returned v)

@@ -63,7 +63,6 @@ frame_of waiting.Pass = frame.to_pass
 frame_of waiting.Leave = frame.to_leave
 frame_of (waiting.Catch s) = frame.to_catch (caught_in (stmt_of s.value)) (handler_in (stmt_of s.value))
 frame_of (waiting.Path f) = path_frame_of f
-frame_of (waiting.Caller awaited vars) = frame.to_caller_of awaited (env_of vars)
 frame_of waiting.Commit = frame.to_commit
 frame_of (waiting.Unblock awaited) = frame.to_unblock awaited
 

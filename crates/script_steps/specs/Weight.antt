@@ -1,6 +1,6 @@
 -- How much is left to do until the next step is charged: each move leaves less, but for what its steps pay. So a turn, whose
 -- steps are limited, comes to its end.
-use Rattle.std.specs.Prelude.{ℕ, ◌+◌, ◌*◌, ◌<◌, List, [], ◌∷◌}
+use Rattle.std.specs.Prelude.{ℕ, ◌+◌, ◌*◌, ◌<◌}
 use Rattle.do_tree.specs.Seen.{expr_of}
 use Rattle.do_tree.specs.Tree.{Links}
 use Rattle.script_mean.specs.Paths as point
@@ -52,15 +52,9 @@ frame_weight (frame.GoOn b next) = 2
 frame_weight frame.Leave = 2
 frame_weight (frame.Catch s) = 5
 frame_weight (frame.Path f) = path_frame_weight f
-frame_weight (frame.Caller awaited vars) = 2
 frame_weight frame.Commit = 2
 frame_weight (frame.Unblock awaited) = 2
 frame_weight _ = 1
-
--- The frames of a task.
-abbrev pub frames_weight : List Frame → ℕ
-frames_weight [] = 0
-frames_weight (f ∷ fs) = frame_weight f + frames_weight fs
 
 -- A path from a point on.
 abbrev pub walk_weight : Point → Links → ℕ

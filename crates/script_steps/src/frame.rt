@@ -2,7 +2,6 @@
 use crate::path::PathFrame;
 use do_tree::{Block, Expr, Simple, Stmt};
 use do_value::{BinOp, Items, Text, UnOp, Value};
-use script_vars::Vars;
 use std::sync::Arc;
 
 /// A part that is still to run once the part inside it is over. It points into the script and copies none of its tree: a
@@ -55,8 +54,6 @@ pub enum Frame {
     Catch(Arc<Stmt>),
     /// A part of a path or of a write.
     Path(PathFrame),
-    /// The caller of a helper, with its variables. The flag tells that the call is awaited.
-    Caller(bool, Vars),
     /// The end of a transaction.
     Commit,
     /// The end of a block. The flag tells that it is awaited.

@@ -60,10 +60,6 @@ pub fn hand(alloc: Global, frame: Frame, value: Value) -> Mem<Move>
         Frame::Leave => Ok(Move::Then(0, Focus::Leave(Outcome::Gave(value)))),
         Frame::Catch(_) => Ok(Move::Then(0, Focus::Ended(Outcome::Gave(value)))),
         Frame::Path(part) => Ok(Move::Then(0, Focus::Handed(part, value))),
-        Frame::Caller(awaited, vars) => {
-            let outcome = Outcome::Gave(value);
-            Ok(Move::Then(0, Focus::Return(awaited, vars, outcome)))
-        }
         Frame::Commit => Ok(Move::Then(0, Focus::Commit(Outcome::Gave(value)))),
         Frame::Unblock(awaited) => Ok(Move::Then(0, Focus::Unblock(awaited, Outcome::Gave(value)))),
     }

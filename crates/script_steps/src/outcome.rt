@@ -36,10 +36,6 @@ fn on_throw(frame: Frame, value: Value) -> Mem<Move>
     match frame {
         Frame::Catch(node) => Ok(Move::Then(0, Focus::Handle(node, value))),
         Frame::Leave => Ok(Move::Then(0, Focus::Leave(Outcome::Threw(value)))),
-        Frame::Caller(awaited, vars) => Ok(Move::Then(
-            0,
-            Focus::Return(awaited, vars, Outcome::Threw(value)),
-        )),
         Frame::Commit => Ok(Move::Then(0, Focus::Commit(Outcome::Threw(value)))),
         Frame::Unblock(awaited) => Ok(Move::Then(
             0,
@@ -57,10 +53,6 @@ fn on_return(frame: Frame, value: Value) -> Mem<Move>
 {
     match frame {
         Frame::Leave => Ok(Move::Then(0, Focus::Leave(Outcome::Returned(value)))),
-        Frame::Caller(awaited, vars) => Ok(Move::Then(
-            0,
-            Focus::Return(awaited, vars, Outcome::Returned(value)),
-        )),
         Frame::Commit => Ok(Move::Then(0, Focus::Commit(Outcome::Returned(value)))),
         Frame::Unblock(awaited) => Ok(Move::Then(
             0,
@@ -82,10 +74,6 @@ fn on_break(frame: Frame) -> Mem<Move>
             Focus::Ended(Outcome::Gave(Value::Undefined)),
         )),
         Frame::Leave => Ok(Move::Then(0, Focus::Leave(Outcome::Broke))),
-        Frame::Caller(awaited, vars) => Ok(Move::Then(
-            0,
-            Focus::Return(awaited, vars, Outcome::Broke),
-        )),
         Frame::Commit => Ok(Move::Then(0, Focus::Commit(Outcome::Broke))),
         Frame::Unblock(awaited) => Ok(Move::Then(0, Focus::Unblock(awaited, Outcome::Broke))),
         _ => Ok(Move::Then(0, Focus::Ended(Outcome::Broke))),
@@ -102,10 +90,6 @@ fn on_continue(frame: Frame) -> Mem<Move>
         Frame::Turn(test, body, between) => turned(test, body, between),
         Frame::Next(node, items, next) => visit_from(node, items, next),
         Frame::Leave => Ok(Move::Then(0, Focus::Leave(Outcome::Continued))),
-        Frame::Caller(awaited, vars) => Ok(Move::Then(
-            0,
-            Focus::Return(awaited, vars, Outcome::Continued),
-        )),
         Frame::Commit => Ok(Move::Then(0, Focus::Commit(Outcome::Continued))),
         Frame::Unblock(awaited) => Ok(Move::Then(0, Focus::Unblock(awaited, Outcome::Continued))),
         _ => Ok(Move::Then(0, Focus::Ended(Outcome::Continued))),

@@ -86,6 +86,88 @@ fn a_task_goes_on_with_the_fields_that_it_finds(rt: HostRuntime) -> Result<(), F
     task.expect(&rt, alloc, "done 1 with {log:['b']}")
 }
 
+const PATHS: &str = r#"export class P extends DurableObject {
+  async reads(xs, o) {
+    let i = 1;
+    let k = "k";
+    return [xs[i], xs[0], o["k"], o[k], xs.length, xs[i].length, o[k].n, o["none"]];
+  }
+  async over(xs) {
+    let sum = 0;
+    for (let i = 0; i < xs.length; i++) sum += xs[i].n;
+    return [sum, xs[xs.length], xs[9], xs[(0)].n];
+  }
+  async own(i, k) {
+    return [this.f.g, this.items[i], this.items[0].n, this.f["g"], this.f[k], this.items.length, this.none];
+  }
+  async thrown(o) {
+    let i = 0;
+    let u;
+    let n = "";
+    try { return o.none.k; } catch (e) { n += e.name; }
+    try { return o.none[i]; } catch (e) { n += e.name; }
+    try { return this.none[i]; } catch (e) { n += e.name; }
+    try { return u[i]; } catch (e) { n += e.name; }
+    try { return u["k"]; } catch (e) { n += e.name; }
+    try { return u.k; } catch (e) { n += e.name; }
+    return n;
+  }
+  async apart(xs) {
+    let i = 1;
+    let a = xs[0];
+    let b = xs[i];
+    a.push(8);
+    b.push(9);
+    return [xs, a, b];
+  }
+}
+"#;
+
+// What Node.js answers, which throws a `TypeError` at each of the six reads of `thrown`. In `apart` its `structuredClone` makes
+// the copies that this language makes.
+const PATHS_ROWS: [Row; 5] = [
+    (
+        "reads",
+        r#"[[[5],"ab"],{"k":{"n":3}}]"#,
+        "{}",
+        "done ['ab',[5],{n:3},{n:3},2,2,3,undefined]",
+        &[],
+    ),
+    (
+        "over",
+        r#"[[{"n":1},{"n":2},{"n":4}]]"#,
+        "{}",
+        "done [7,undefined,undefined,1]",
+        &[],
+    ),
+    (
+        "own",
+        r#"[1,"g"]"#,
+        r#"{"f":{"g":7},"items":[{"n":1},{"n":2}]}"#,
+        "done [7,{n:2},1,7,7,2,undefined] with {f:{g:7},items:[{n:1},{n:2}]}",
+        &[],
+    ),
+    (
+        "thrown",
+        "[{}]",
+        "{}",
+        "done 'TypeErrorTypeErrorTypeErrorTypeErrorTypeErrorTypeError'",
+        &[],
+    ),
+    (
+        "apart",
+        "[[[1],[2]]]",
+        "{}",
+        "done [[[1],[2]],[1,8],[2,9]]",
+        &[],
+    ),
+];
+
+#[test]
+fn what_paths_read(rt: HostRuntime) -> Result<(), Fail> {
+    expect(&rt, rt.alloc(), PATHS, "P", &PATHS_ROWS)
+}
+
 const STORING: &str = r#"export class S extends DurableObject {
   async swap() {
     this.ctx.storage.put("a", 0);

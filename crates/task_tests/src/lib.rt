@@ -10,4 +10,6 @@ mod limit_tests;
 #[cfg(test)]
 mod sample_tests;
 #[cfg(test)]
+mod thread_tests;
+#[cfg(test)]
 mod told;

@@ -13,8 +13,8 @@ use Rattle.script_paths.proofs.begun.begin_path.Goals as goal
 pub returns-in-This-clause-same : goal.returns-in-This-clause-same
 returns-in-This-clause-same c =
     let is : c.args.base.now.value ≡ node.This c.in-This.at = grind (arith, common_steps) in
-    if_ok c.begin_itself.result
-    (λ m p calls next st. ap (λ (r : Run). r (env_of c.args.vars.now) next st) (ap (λ e. path_value c.args.awaited calls (expr_of e) (list_in c.args.links.now)) is ∙ p calls)) c.begin_itself.ensures.same
+    if_ok c.begin_at.result
+    (λ m p calls next st. ap (λ (r : Run). r (env_of c.args.vars.now) next st) (ap (λ e. path_value c.args.awaited calls (expr_of e) (list_in c.args.links.now)) is ∙ p calls)) c.begin_at.ensures.same
 
 pub returns-in-Variable-clause-same : goal.returns-in-Variable-clause-same
 returns-in-Variable-clause-same c =

@@ -1,7 +1,6 @@
 use Rattle.std.proofs.Common.{◌≡◌, ◌+◌, Some, None, sym, ap, ◌∙◌, arith}
 use Rattle.std.proofs.lemmas.Grind.{common_steps}
 use Rattle.do_tree.specs.Seen.{expr_of}
-use Rattle.script_steps.proofs.Begun.{if_ok}
 use Rattle.script_steps.specs.Seen.{move_run}
 use Rattle.script_steps.specs.Parts.{args_in, links_in}
 use Rattle.script_paths.proofs.Onward.{object_begins}

@@ -15,8 +15,8 @@ use Rattle.script_steps.specs.Weight.{LeavesLess}
 use Rattle.script_paths.proofs.Pushes.{behind, call_goes, call_stops, called_parts, field_goes, field_parts, index_goes, none_stops}
 use Rattle.script_paths.proofs.pushed.push.Goals as goal
 
-pub returns-then-is_call-clause-same : goal.returns-then-is_call-clause-same
-returns-then-is_call-clause-same c =
+pub returns-then-begins_with_call-clause-same : goal.returns-then-begins_with_call-clause-same
+returns-then-begins_with_call-clause-same c =
     let found : links_in (expr_of c.args.node.value) c.fields.place ≡ with_link c.in-Some-Field.field-0.now (links_in (expr_of c.args.node.value) (c.fields.place + 1)) = grind (arith, common_steps) in
     let is : c.in-Some-Field.field-0.now ≡ link.Field c.in-Some-Field.name = grind (arith, common_steps) in
     let follows : is_called (links_in (expr_of c.args.node.value) (c.fields.place + 1)) ≡ true = grind (arith, common_steps) in
@@ -24,8 +24,8 @@ returns-then-is_call-clause-same c =
     ∙ call_goes calls (root_of c.args.root) (steps_in c.fields.steps.items) _ c.in-Some-Field.field-0.now c.in-Some-Field.name _ _ found is follows (ap root_of c.fields.invariant.root)
     ∙ p calls) c.push_call.ensures.same
 
-pub returns-then-is_call-clause-less : goal.returns-then-is_call-clause-less
-returns-then-is_call-clause-less c =
+pub returns-then-begins_with_call-clause-less : goal.returns-then-begins_with_call-clause-less
+returns-then-begins_with_call-clause-less c =
     let found : links_in (expr_of c.args.node.value) c.fields.place ≡ with_link c.in-Some-Field.field-0.now (links_in (expr_of c.args.node.value) (c.fields.place + 1)) = grind (arith, common_steps) in
     let is : c.in-Some-Field.field-0.now ≡ link.Field c.in-Some-Field.name = grind (arith, common_steps) in
     let follows : is_called (links_in (expr_of c.args.node.value) (c.fields.place + 1)) ≡ true = grind (arith, common_steps) in

@@ -2,4 +2,4 @@ use Rattle.script_steps.proofs.Exits.{break_passes}
 use Rattle.script_steps.proofs.outcome.on_break.Goals as goal
 
 pub returns-clause-moves : goal.returns-clause-moves
-returns-clause-moves c = λ calls. break_passes calls c.args.frame c.in_default.not-Turn c.in_default.not-Next c.in_default.not-Leave c.in_default.not-Caller c.in_default.not-Commit c.in_default.not-Unblock
+returns-clause-moves c = λ calls. break_passes calls c.args.frame c.in_default.not-Turn c.in_default.not-Next c.in_default.not-Leave c.in_default.not-Commit c.in_default.not-Unblock

@@ -1,10 +1,24 @@
+use Rattle.std.proofs.Common.{◌≡◌, ◌∷◌, refl, ap, ◌∙◌}
 use Rattle.script_steps.proofs.Begun.{if_ok}
-use Rattle.script_eval.proofs.Led.{pop_leads}
+use Rattle.script_eval.proofs.Applied.{none_popped, with_frames}
+use Rattle.script_eval.proofs.Led.{over_leads, pop_leads, return_leads}
 use Rattle.script_eval.proofs.machine.Machine.ended.Goals as goal
+use Rattle.script_eval.specs.declared.frames.Layer.TheVariants as layer
 
-pub returns-in_ok-m-in-Some : goal.returns-in_ok-m-in-Some
-returns-in_ok-m-in-Some c =
+pub returns-in_ok-m-in-Some-Inner : goal.returns-in_ok-m-in-Some-Inner
+returns-in_ok-m-in-Some-Inner c =
+    let frames : c.args.self.now.frames ≡ layer.Inner c.in-Some-Inner.frame ∷ c.pop.new.self = c.in-Some-Inner.ensures ∙ ap (λ l. l ∷ c.pop.new.self) c.in-Some-Inner.field-0-is in
     if_ok c.moved.result
-    (λ n led. pop_leads c.args.self.now c.popped.new.self c.moved.new.self c.in-Some.frame c.args.outcome c.in_ok-m-in-Some.m n
-    c.in-Some.ensures.0 c.in-Some.ensures.1 c.in_ok-m-in-Some.ensures.moves c.in_ok-m-in-Some.ensures.less led)
+    (λ n led. pop_leads c.args.self.now (with_frames c.args.self.now c.pop.new.self) c.moved.new.self c.in-Some-Inner.frame c.args.outcome c.in_ok-m-in-Some-Inner.m n
+    frames refl c.in_ok-m-in-Some-Inner.ensures.moves c.in_ok-m-in-Some-Inner.ensures.less led)
     c.moved.ensures
+
+pub returns-in-Some-Caller : goal.returns-in-Some-Caller
+returns-in-Some-Caller c =
+    let frames : c.args.self.now.frames ≡ layer.Caller c.in-Some-Caller.awaited c.in-Some-Caller.vars ∷ c.pop.new.self =
+    c.in-Some-Caller.ensures ∙ ap (λ l. l ∷ c.pop.new.self) c.in-Some-Caller.field-0-is in
+    return_leads c.args.self.now _ c.in-Some-Caller.awaited c.in-Some-Caller.vars c.pop.new.self c.args.outcome c.requires frames refl
+
+pub returns-in-None : goal.returns-in-None
+returns-in-None c =
+    over_leads c.args.self.now _ c.args.outcome c.requires c.in-None.ensures.0 (none_popped c.args.self.now c.pop.new.self c.in-None.ensures.0 c.in-None.ensures.1)

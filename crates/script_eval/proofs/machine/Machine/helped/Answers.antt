@@ -1,4 +1,4 @@
-use Rattle.std.proofs.Common.{◌≡◌, ◌<◌, ◌≤◌, List, ap, ◌∙◌, arith}
+use Rattle.std.proofs.Common.{◌<◌, ◌≤◌, List, ap, ◌∙◌, arith}
 use Rattle.std.specs.List.{find}
 use Rattle.do_tree.specs.Lookup.{is_named}
 use Rattle.do_tree.specs.Seen.{class_of, method_of}

@@ -9,4 +9,4 @@ returns-in-Then c =
 pub returns-in_ok-push-in-Inside : goal.returns-in_ok-push-in-Inside
 returns-in_ok-push-in-Inside c =
     inside_moved c.args.self.now c.push.new.self c.charge.new.self c.args.m c.cost_of.result _ c.in-Inside.frame c.in-Inside.focus c.requires c.in-Inside.is c.cost_of.ensures
-    (c.if-not-charge.ensures.charged refl) c.in_ok-push-in-Inside.ensures.inner c.in_ok-push-in-Inside.ensures.pushed
+    (c.if-not-charge.ensures.charged refl) c.in_ok-push-in-Inside.ensures
