@@ -1,5 +1,5 @@
 -- What a mounting hands out.
-use Rattle.std.specs.Prelude.{◌≡◌, ◌⊎◌, ◌≤◌, ℕ, List, [], Option, Result, Ok, Err}
+use Rattle.std.specs.Prelude.{◌≡◌, ◌⊎◌, ◌≤◌, ℕ, List, [], Option, Some, Result, Ok, Err}
 use Rattle.do_disk.specs.Disk.{IfTold, HasRisen, next_count}
 use Rattle.batch_journal.specs.Frames.{Frame, operations_in}
 use Rattle.batch_journal.specs.Recovery.{Recovers, IsJournal, IsUnfinished}
@@ -54,9 +54,17 @@ IsCounted faults_of disk (Err (Damaged left place)) = faults_of left ≡ faults_
 IsCounted faults_of disk (Err (Mixed left first other)) = faults_of left ≡ faults_of disk
 IsCounted faults_of disk (Err (NoMemory left)) = faults_of left ≡ faults_of disk
 
+-- the file is told, and its header isn't finished
+abbrev pub LacksHeader : Option (List ℕ) → Type 0
+LacksHeader told = (file : List ℕ) × (told ≡ Some file) × IsUnfinished file
+
 -- one of the images; or, where the file's header wasn't finished, a file without frames
 abbrev pub ImageOrHeader : Option (List ℕ) → (List ℕ → Type 0) → List ℕ → Type 0
-ImageOrHeader told image c = image c ⊎ (IfTold told IsUnfinished × Recovers c [])
+ImageOrHeader told image c = image c ⊎ (LacksHeader told × Recovers c [])
+
+-- A crash since the first sync, which was the first call, leaves what a read gave before it.
+abbrev pub LeavesFileSince : {D : Type 0} → (D → Option (List ℕ)) → (D → ℕ) → (D → ℕ → List ℕ → Type 0) → D → D → Type 0
+LeavesFileSince told moment_of left_since old new = (c : List ℕ) → left_since new (next_count (moment_of old)) c → told old ≡ Some c
 
 -- The journal that was mounted is at rest with the frames that the file recovers to, as does every file that a crash since
 -- the first sync leaves. It has the object of the frames and what they leave of its storage.
@@ -78,7 +86,8 @@ AreRead told (Frames reading) = (frames : List Frame) × Holds reading frames ×
 AreRead told (Refused refusal) = IfTold told (λ c. IsRefusedFor c refusal)
 
 -- The frames that were read are those that the file recovers to, as does every file that a crash since the first sync leaves.
-pub record AreOpened {D : Type 0} (told : D → Option (List ℕ)) (image : D → List ℕ → Type 0) (moment_of : D → ℕ) (left_since : D → ℕ → List ℕ → Type 0) (old new : D) (reading : Reading) : Type 0 where
+pub record AreOpened {D : Type 0} (told : D → Option (List ℕ)) (image : D → List ℕ → Type 0) (moment_of : D → ℕ) (left_since : D → ℕ → List ℕ → Type 0)
+    (old new : D) (reading : Reading) : Type 0 where
   pub frames : List Frame
   pub recovers : IfTold (told old) (λ c. Recovers c frames)
   pub holds : Holds reading frames

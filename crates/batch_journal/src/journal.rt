@@ -5,19 +5,17 @@ ghost use Rattle.storage_map.specs.declared.op.Op.{Op};
 ghost use Rattle.storage_map.specs.Limits.{Object};
 ghost use Rattle.batch_journal.specs.Frames.{Frame, payload, Name};
 ghost use Rattle.batch_journal.specs.Recovery.{Recovers};
-ghost use Rattle.batch_journal.specs.Moments.{LeavesOnly};
+ghost use Rattle.batch_journal.specs.Moments.{LeavesOnly, TellsAsBefore};
 ghost use Rattle.batch_journal.specs.Staged.{frame_of};
 ghost use Rattle.batch_journal.specs.Rest.{disk_in, end_of, limit_of, IsAtRest, IsStaged, CanStage, CanAppend, RecoversToOneOf, IsFull};
 
 use crate::durable::write_durably;
+use crate::layout::OPEN_GATE;
 use crate::pending::Pending;
 use do_disk::{Disk, Failed};
 use do_value::Mem;
 use storage_map::{Batch, Identity};
 use thiserror::Error;
-
-/// The value of an open gate. A gate of any other value is closed.
-pub(crate) const OPEN_GATE: u8 = 0xA5;
 
 /// The journal of one object on a disk: its frames, and the batches that are staged for the next one.
 #[derive(Drop)]
@@ -99,6 +97,9 @@ impl<D: Disk> Journal<D> {
             → IsErrOf result (AppendFault.Full needed limit)
             → IsAtRest D.told D.image self.old frames → IsAtRest D.told D.image self.new frames }
         ensures same_limit { limit_of self.new ≡ limit_of self.old }
+        // After a failure the end is still that of the old frames.
+        ensures same_end { OnErr result (end_of self.new ≡ end_of self.old) }
+        ensures telling { TellsAsBefore (D.told (disk_in self.old)) (D.told (disk_in self.new)) }
     {
         let size = self.pending.block().len() as u64;
         if size > self.limit.saturating_sub(self.end) {
@@ -116,11 +117,18 @@ impl<D: Disk> Journal<D> {
         Ok(())
     }
 
-    /// The place after the journal's first closed gate, in bytes.
+    /// The place after the journal's first closed gate, in bytes. After an `append` that failed it is that before it.
     pub fn end(&self) -> u64
         ensures { result ≡ end_of self.now }
     {
         self.end
+    }
+
+    /// How many bytes the journal may have.
+    pub fn limit(&self) -> u64
+        ensures { result ≡ limit_of self.now }
+    {
+        self.limit
     }
 
     /// The disk as it is now.

@@ -2,10 +2,10 @@
 ghost use Rattle.std.specs.Prelude.{◌≡◌, ◌≤◌, length, [], List, ℕ, Some, IfOk, IfErr, OnOk};
 ghost use Rattle.do_disk.specs.Disk.{IfTold, Only, Rose, CountsFaults, next_count};
 ghost use Rattle.storage_map.specs.Limits.{Object};
-ghost use Rattle.batch_journal.specs.Moments.{LeavesOnly, OnlyReads};
+ghost use Rattle.batch_journal.specs.Moments.{LeavesOnly, OnlyReads, TellsAsBefore};
 ghost use Rattle.batch_journal.specs.Rest.{limit_of, IsStaged};
 ghost use Rattle.batch_journal.specs.Reading.{IsHeader};
-ghost use Rattle.batch_journal.specs.Mounting.{disk_of, disk_left, IsMountOf, IsCause, IsRefusal, IsCounted, ImageOrHeader, IsOpened, IsRefused, HasRefused};
+ghost use Rattle.batch_journal.specs.Mounting.{disk_of, disk_left, IsMountOf, IsCause, IsRefusal, IsCounted, ImageOrHeader, LeavesFileSince, IsOpened, IsRefused, HasRefused};
 
 use crate::header::{Header, finish_header, read_header};
 use crate::journal::Journal;
@@ -63,12 +63,16 @@ impl<D: Disk> Journal<D> {
         ensures limit { IfOk result (λ mounted. limit_of mounted.journal ≡ limit) }
         ensures cause { IfErr result (λ fault. IfTold (D.told disk) (λ c. IsCause c fault)) }
         ensures counted { IsCounted D.faults_of disk result }
+        ensures telling { TellsAsBefore (D.told disk) (D.told (disk_of result)) }
         // A crash at any moment of the call leaves what one might have left before it, or, where the header wasn't finished,
         // a file without frames. A disk that is refused isn't written.
         ensures any_moment { LeavesOnly D.moment_of D.left_since disk (disk_of result)
             (ImageOrHeader (D.told disk) (D.image disk)) }
         ensures untouched { IfErr result (λ fault. IsRefusal fault
             → LeavesOnly D.moment_of D.left_since disk (disk_left fault) (D.image disk)) }
+        // A refusal comes after the first sync, since which a crash leaves what a read gave before the call.
+        ensures since_sync { IfErr result (λ fault. IsRefusal fault
+            → LeavesFileSince D.told D.moment_of D.left_since disk (disk_left fault)) }
     {
         let mut disk = disk;
         match open(alloc, &mut disk) {
@@ -106,6 +110,9 @@ fn open<D: Disk>(alloc: Global, disk: &mut D) -> Result<Opened, Failed>
         (D.told disk.old) (D.image disk.old)) }
     ensures untouched { IfOk result (λ opened. IsRefused opened
         → LeavesOnly D.moment_of D.left_since disk.old disk.new (D.image disk.old)) }
+    ensures since_sync { IfOk result (λ opened. IsRefused opened
+        → LeavesFileSince D.told D.moment_of D.left_since disk.old disk.new) }
+    ensures telling { TellsAsBefore (D.told disk.old) (D.told disk.new) }
     ensures faults { CountsFaults (D.faults_of disk.old) (D.faults_of disk.new) result }
 {
     let seen = look(disk)?;
@@ -128,7 +135,8 @@ struct Seen {
 
 // Makes what a read gives durable, and reads how long the file is and its header.
 fn look<D: Disk>(disk: &mut D) -> Result<Seen, Failed>
-    ensures seen { IfOk result (λ seen. IfTold (D.told disk.old) (λ c. (seen.file_length ≡ length c) × IsHeader c seen.header)) }
+    ensures seen { IfOk result (λ seen. IfTold (D.told disk.old)
+        (λ c. (seen.file_length ≡ length c) × IsHeader c seen.header)) }
     ensures durable { OnOk result (Only (D.told disk.new) (D.image disk.new)) }
     ensures reads { OnlyReads D.told D.image D.moment_of D.left_since disk.old disk.new }
     ensures since_sync { OnOk result ((c : List ℕ)

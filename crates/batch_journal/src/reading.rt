@@ -8,13 +8,12 @@ ghost use Rattle.storage_map.specs.Ops.{IsOp};
 ghost use Rattle.storage_map.specs.Contents.{apply, apply_op};
 ghost use Rattle.storage_map.specs.declared.op.Op.{Op};
 ghost use Rattle.batch_codec.specs.Views.{Shows};
-ghost use Rattle.batch_journal.specs.Frames.{Frame, open_gate, header_text, payload as said_by};
+ghost use Rattle.batch_journal.specs.Frames.{Frame, open_gate, header_text, header_end, frame_room, payload as said_by};
 ghost use Rattle.batch_journal.specs.Moments.{OnlyReads};
 ghost use Rattle.batch_journal.specs.Reading.{HasRead, Holds, IsRefusedFor, IsRefusalOf, Refuses, GoesOn};
 ghost use Rattle.batch_journal.specs.Mounting.{AreRead};
 
-use crate::header::HEADER_END;
-use crate::journal::OPEN_GATE;
+use crate::layout::{HEADER_END, OPEN_GATE};
 use crate::read_frame::{Found, read_frame};
 use batch_codec::{BadFrame, Batches, FrameView, OpView, Ops};
 use do_disk::{Disk, Failed};
@@ -75,7 +74,7 @@ impl Reading {
     pub(crate) fn new(alloc: Global, gate: u8) -> Reading
         ensures holds { Holds result [] }
         ensures gate { result.gate ≡ gate }
-        ensures end { result.end ≡ 16 }
+        ensures end { result.end ≡ header_end }
     {
         Reading {
             identity: None,
@@ -143,7 +142,7 @@ impl Reading {
     // Adds a frame, behind which this gate stands before this place.
     fn add(&mut self, alloc: Global, frame: &FrameView, gate: u8, end: u64) -> Option<Refusal>
         ensures more { result ≡ None → (frames : List Frame) → Holds self.old frames
-            → end ≡ self.old.end + 37 + length (said_by frame.now)
+            → end ≡ self.old.end + frame_room + length (said_by frame.now)
             → Holds self.new (frames ++ frame.now ∷ []) }
         ensures gate { result ≡ None → self.new.gate ≡ gate }
         ensures end { result ≡ None → self.new.end ≡ end }

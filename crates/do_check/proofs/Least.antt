@@ -6,11 +6,13 @@ use Rattle.std.proofs.lemmas.Bool.Decides.{nat_tests}
 use Rattle.do_check.proofs.Has.{Each, Has, here, more, no_more, of_each, there}
 use Rattle.do_check.proofs.Refused.{fault_within}
 use Rattle.do_check.proofs.Sound.{Real, and_both, or_cases, script_sound}
-use Rattle.do_check.specs.First.{is_before, kept, least}
+use Rattle.do_check.specs.First.{IsRefusal, is_before, kept, least}
 use Rattle.do_check.specs.Parts.{script_faults}
 use Rattle.do_check.specs.declared.fault.CheckFault.{CheckFault}
-use Rattle.do_tree.specs.Faults.{IsFaultless, IsFirstFault, IsNotAfter, rank}
+use Rattle.do_tree.specs.Faults.{IsFault, IsFaultless, IsFirstFault, IsNotAfter, rank}
 use Rattle.do_tree.specs.Tree.{Script}
+use Rattle.do_tree.specs.declared.kind.CheckKind.{CheckKind}
+use Rattle.do_tree.specs.declared.kind.CheckKind.TheVariants as kind
 
 abbrev NotAfter : CheckFault → CheckFault → Type 0
 NotAfter f g = IsNotAfter f.place f.kind g.place g.kind
@@ -98,3 +100,13 @@ no_fault (f ∷ fs) e h = cc
 -- Where it finds no_more, the script has no_more.
 pub faultless : (s : Script) → least None (script_faults s) ≡ None → IsFaultless s
 faultless s h = λ at k fault. no_fault (script_faults s) (none_found (script_faults s) h) (fault_within s at k fault)
+
+-- The answers of the call.
+no_memory_fault : (s : Script) (at : ℕ) (k : CheckKind) → IsFault s at k → k ≡ kind.NoMemory → ⊥
+no_memory_fault s at k is e = subst (λ x. IsFault s at x) e is
+
+pub refusal : (s : Script) (f : CheckFault) → least None (script_faults s) ≡ Some f → IsRefusal s f
+refusal s f h = let first = first_fault s f h in (λ other. first, λ memory. absurd (no_memory_fault s f.place f.kind first.is memory))
+
+pub memory_refusal : (s : Script) → IsRefusal s (record { place = 0; kind = kind.NoMemory })
+memory_refusal s = (λ other. absurd (other refl), λ memory. refl)

@@ -1,7 +1,9 @@
 pub mod Append
 pub mod Has
 pub mod Least
+pub mod Noted
 pub mod Refused
 pub mod Sound
+pub mod Told
 pub mod Walked
 pub mod Within

@@ -7,9 +7,10 @@ use Rattle.std.proofs.lemmas.Bool.Decides.{nat_tests}
 use Rattle.std.proofs.lemmas.List.{append-nil}
 use Rattle.std.proofs.lemmas.List.Folds.{list_any-append}
 use Rattle.do_check.specs.Parts.{args_faults, base_faults, bound_faults, callback_faults, doubles, expr_faults, exprs_faults, has_text, items_faults, link_faults, links_faults, listed_faults, name_faults, operands_faults, option_bound_faults, option_faults, pairs_faults, root_faults, simple_faults, stage_faults, stmt_faults, use_faults, when}
-use Rattle.do_check.specs.Sight.{behind, behind_item, bound_sort, declared_sort, declares, is_empty, or_else, sort_of, with_behind}
+use Rattle.do_check.specs.Sight.{behind, behind_item, is_empty, with_behind}
+use Rattle.do_check.specs.Sorts.{bound_sort, declared_sort, declares, or_else, sort_of}
 use Rattle.do_check.specs.declared.fault.CheckFault.{CheckFault}
-use Rattle.do_check.specs.declared.named.Sort.{Sort}
+use Rattle.do_check.specs.declared.sort.Sort.{Sort}
 use Rattle.do_tree.specs.Asking.{has_key, is_alone, is_awaited, is_met, may_stand}
 use Rattle.do_tree.specs.Forms as form
 use Rattle.do_tree.specs.Forms.{Bound, Form, Role, Stage, sort_in}
@@ -57,7 +58,7 @@ take_next [] i x lt e = absurd (omega arith)
 take_next (y ∷ ys) zero x lt e = ap (λ z. z ∷ []) (sym e)
 take_next (y ∷ ys) (suc i) x lt e = ap (λ z. y ∷ z) (take_next ys i x (omega arith) e)
 
-map_push : {A B : Type 0} (f : A → B) (xs : List A) (x : A) → map f (xs ++ x ∷ []) ≡ map f xs ++ f x ∷ []
+pub map_push : {A B : Type 0} (f : A → B) (xs : List A) (x : A) → map f (xs ++ x ∷ []) ≡ map f xs ++ f x ∷ []
 map_push f [] x = refl
 map_push f (y ∷ ys) x = ap (λ z. f y ∷ z) (map_push f ys x)
 
@@ -83,7 +84,7 @@ pub declared_more : (item : Item) (rest : Items) → declared_in (with_item item
 declared_more (node.Declare' at b n v) rest = refl
 declared_more (node.Stmt' p s) rest = refl
 
-declared_push : (items : List Item) (x : Item) → declared_in (items_in (items ++ x ∷ [])) ≡ declared_in (items_in items) ++ declared_in (with_item x tree.no_items)
+pub declared_push : (items : List Item) (x : Item) → declared_in (items_in (items ++ x ∷ [])) ≡ declared_in (items_in items) ++ declared_in (with_item x tree.no_items)
 declared_push [] x = refl
 declared_push (y ∷ ys) x =
     declared_more y (items_in (ys ++ x ∷ [])) ∙ ap (λ z. declared_in (with_item y tree.no_items) ++ z) (declared_push ys x)

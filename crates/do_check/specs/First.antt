@@ -1,8 +1,10 @@
 -- The first of some faults.
-use Rattle.std.specs.Prelude.{ℕ, Bool, ◌&&◌, ◌||◌, ◌==◌, nat_lt, if◌then◌else◌, List, [], ◌∷◌, Option, Some, None}
+use Rattle.std.specs.Prelude.{◌≡◌, ◌≢◌, ℕ, Bool, ◌&&◌, ◌||◌, ◌==◌, nat_lt, if◌then◌else◌, List, [], ◌∷◌, Option, Some, None}
 use Rattle.do_check.specs.declared.fault.CheckFault.{CheckFault}
-use Rattle.do_tree.specs.Faults.{rank}
+use Rattle.do_tree.specs.Faults.{IsFirstFault, rank}
+use Rattle.do_tree.specs.Tree.{Script}
 use Rattle.do_tree.specs.declared.kind.CheckKind.{CheckKind}
+use Rattle.do_tree.specs.declared.kind.CheckKind.TheVariants as kind
 
 -- The smaller place comes first, and at one place the kind that is earlier in the order.
 abbrev pub is_before : CheckFault → CheckFault → Bool
@@ -17,3 +19,7 @@ kept (Some g) f = if is_before f g then Some f else Some g
 abbrev pub least : Option CheckFault → List CheckFault → Option CheckFault
 least found [] = found
 least found (f ∷ fs) = least (kept found f) fs
+
+-- Why a script is refused: its first fault, or want of memory, of which nothing is said but the place.
+abbrev pub IsRefusal : Script → CheckFault → Type 0
+IsRefusal s f = (f.kind ≢ kind.NoMemory → IsFirstFault s f.place f.kind) × (f.kind ≡ kind.NoMemory → f.place ≡ 0)

@@ -2,3 +2,5 @@
 pub mod First
 pub mod Parts
 pub mod Sight
+pub mod Sorts
+pub mod Told

@@ -233,6 +233,20 @@ abbrev pub callback_faults : Scope → Role → ℕ → Option Named → Items �
 callback_faults c r at n is =
     when (not (takes_callback r n)) at kind.Form ++ option_bound_faults n ++ doubles [] (declared_in is) ++ items_faults (in_callback r c n) is
 
+-- Loops and `try`.
+abbrev pub for_parts : Scope → Named → Expr → Expr → Simple → Stmt → List CheckFault
+for_parts c n first test step s =
+    bound_faults n ++ expr_faults c scope.value first ++ expr_faults (with_name c form.variable n) scope.value test
+    ++ simple_faults (inside (with_name c form.variable n)) step ++ stmt_faults (in_loop (with_name c form.variable n)) s
+
+abbrev pub for_of_parts : Scope → Sort → Named → Expr → Stmt → List CheckFault
+for_of_parts c sort n e s = bound_faults n ++ expr_faults c scope.value e ++ stmt_faults (in_loop (with_name c sort n)) s
+
+abbrev pub try_parts : Scope → Items → Option Named → Items → List CheckFault
+try_parts c is n handler =
+    doubles [] (declared_in is) ++ items_faults (inside c) is ++ option_bound_faults n
+    ++ doubles [] (declared_in handler) ++ items_faults (with_option_name (inside c) form.variable n) handler
+
 abbrev pub parameter_faults : Method → List CheckFault
 parameter_faults m = if is_constructor m.kind then [] else all_bound_faults m.parameters
 

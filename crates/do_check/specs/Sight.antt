@@ -1,9 +1,7 @@
 -- What the walk's own types stand for: scopes, names in sight, stages of paths.
-use Rattle.std.specs.Prelude.{ℕ, Bool, true, false, ◌&&◌, if◌then◌else◌, List, [], ◌∷◌, ◌++◌, map, Option, Some, None}
+use Rattle.std.specs.Prelude.{ℕ, Bool, true, false, List, [], ◌∷◌, map, Option, Some, None}
 use Rattle.std.specs.Borrow.{Bor}
-use Rattle.std.specs.Str.{bytes_eq}
-use Rattle.do_check.specs.declared.named.Sort.{Sort}
-use Rattle.do_check.specs.declared.named.Sort.TheVariants as sort
+use Rattle.do_check.specs.Sorts.{bound_sort, sort_of}
 use Rattle.do_check.specs.declared.named.Names.{Names}
 use Rattle.do_check.specs.declared.named.Names.TheVariants as names
 use Rattle.do_check.specs.declared.path.Path.{Path}
@@ -24,34 +22,7 @@ use Rattle.do_tree.specs.Tree as tree
 use Rattle.do_tree.specs.declared.expr.Arg.TheBlock as node
 use Rattle.do_tree.specs.declared.script.MethodKind.{MethodKind}
 use Rattle.do_tree.specs.declared.script.Name.{Name}
-use Rattle.do_tree.specs.declared.stmt.Binding.{Binding}
-use Rattle.do_tree.specs.declared.stmt.Binding.TheVariants as bind
 use Rattle.do_tree.specs.declared.stmt.Item.{Item}
-
-abbrev pub sort_of : Sort → form.Sort
-sort_of sort.Variable = form.variable
-sort_of sort.Constant = form.constant
-sort_of sort.Transacting = form.transacting
-sort_of sort.GivenCtx = form.given_ctx
-sort_of sort.GivenEnv = form.given_env
-
-abbrev pub bound_sort : Binding → Sort
-bound_sort bind.Let = sort.Variable
-bound_sort bind.Const = sort.Constant
-
--- What stands first, or else what stands second.
-abbrev pub or_else : {A : Type 0} → Option A → Option A → Option A
-or_else (Some x) o = Some x
-or_else None o = o
-
--- What an item makes of a name, if it declares it, and the last of some items that does.
-abbrev pub declares : Item → List ℕ → Option Sort
-declares (node.Declare' at b n v) text = if bytes_eq (named_of n).text text then Some (bound_sort b) else None
-declares (node.Stmt' p s) text = None
-
-abbrev pub declared_sort : List Item → List ℕ → Option Sort
-declared_sort [] text = None
-declared_sort (item ∷ rest) text = or_else (declared_sort rest text) (declares item text)
 
 -- The names in sight behind an item, and behind some items.
 abbrev pub behind_item : Item → List Bound → List Bound
@@ -69,13 +40,13 @@ abbrev pub parameters_of : MethodKind → List Name → List Bound
 parameters_of kind ns = map (scope.parameter kind) (map named_of ns)
 
 abbrev pub names_of : Names → List Bound
-names_of (names.Parameters kind ns) = parameters_of kind ns.now
-names_of (names.Declared' items p outer) = behind items.now (names_of outer)
+names_of (names.Parameters kind known) = parameters_of kind known.now.names.now
+names_of (names.Declared' block p outer) = behind block.now.items.now (names_of outer)
 names_of (names.Bound' n s p outer) = record { name = (named_of n.now).text; sort = sort_of s } ∷ names_of outer
 
 abbrev pub scope_in : Scope → scope.Scope
 scope_in c = record {
-  class = class_of c.class.now;
+  class = class_of c.methods.now.class.now;
   method = c.method;
   names = names_of c.names;
   loop = c.in_loop;

@@ -2,17 +2,22 @@
 #![tactic(auto, using(std::proofs::lemmas::Grind::common_steps, crate::proofs::Append::least_append))]
 
 ghost use Rattle.std.specs.Prelude.{◌≡◌};
-ghost use Rattle.do_check.specs.Sight.{names_of, role_of, scope_in, sort_of, use_of};
+ghost use Rattle.do_check.specs.Sight.{names_of, role_of, scope_in, use_of};
+ghost use Rattle.do_check.specs.Sorts.{sort_of};
 ghost use Rattle.do_tree.specs.Scope.{callback_scope, callback_sort, first_use, in_loop, inside};
 
-use crate::named::{Names, Sort};
-use do_tree::{Class, MethodKind};
+use crate::methods::Methods;
+use crate::named::Names;
+use crate::sort::Sort;
+use do_tree::MethodKind;
+use std::alloc::Global;
 
 /// The class and the kind of the method around, the names in sight, whether a loop is around inside the method or
 /// callback, a transaction's body, a block's body, and whether what stands here ends a constructor.
 #[derive(Clone, Copy)]
 pub struct Scope<'a> {
-    pub class: &'a Class,
+    pub alloc: Global,
+    pub methods: &'a Methods<'a>,
     pub method: MethodKind,
     pub names: Names<'a>,
     pub in_loop: bool,

@@ -1,16 +1,22 @@
-//! The forms of calls, and what a path has come to.
+//! What a path has come to.
 #![tactic(auto, using(std::proofs::lemmas::Grind::common_steps, crate::proofs::Append::least_append))]
 
-ghost use Rattle.std.specs.Prelude.{if◌then◌else◌, ◌≡◌, ◌&&◌, None, Some, codes, option_map};
-ghost use Rattle.std.specs.Str.{bytes_eq};
-ghost use Rattle.do_check.specs.Sight.{form_of, names_of, option_text, role_of, stage_of};
-ghost use Rattle.do_tree.specs.Forms.{after_call, after_field, after_index, among, called_of, callee_of, class_form, computes, context, ends, field_of_called, fits, gives_value, handle_form, handle_writes, has_callback, has_identifier, identified, identified_class, identified_from, identified_in, is_call_first, is_class, is_method, is_one_call, itself, language_words, owner_form, role_of as role_at, sort_in, start, start_name, storage_form, storage_writes, takes_callback, value_methods, word_form};
-ghost use Rattle.do_tree.specs.Nodes.{args_in, links_in, with_arg, with_link};
-ghost use Rattle.do_tree.specs.Seen.{expr_of, named_of, option_named_of};
-ghost use Rattle.do_tree.specs.Tree.{Args, Links, Named};
+ghost use Rattle.std.specs.Prelude.{◌≡◌, option_map};
+ghost use Rattle.do_check.specs.Sight.{form_of, names_of, role_of, stage_of};
+ghost use Rattle.do_tree.specs.Forms.{after_call, after_field, after_index, called_of, callee_of, context, ends, field_of_called, gives_value};
+ghost use Rattle.do_tree.specs.Forms.{is_call_first, itself, role_of as role_at, sort_in, start, start_name};
+ghost use Rattle.do_tree.specs.Nodes.{args_in, links_in, with_link};
+ghost use Rattle.do_tree.specs.Seen.{expr_of, named_of};
+ghost use Rattle.do_tree.specs.Tree.{Links};
 
-use crate::named::{Names, Sort, find};
+use crate::arguments::fits;
+use crate::named::{Names, find};
 use crate::scope::Role;
+use crate::sort::Sort;
+use crate::words::{
+    class_form, handle_form, is_language_word, is_method, owner_form, storage_form, word_form,
+};
+use do_lex::is_keyword;
 use do_tree::{Arg, Expr, Link, Name};
 
 /// A form of a call.
@@ -213,13 +219,15 @@ fn called_of<'a>(form: Option<Form<'a>>) -> Stage<'a>
     }
 }
 
-fn field_of_itself<'a>(name: &'a Name) -> Stage<'a>
+pub fn field_of_itself<'a>(name: &'a Name) -> Stage<'a>
     ensures { stage_of result ≡ after_field itself (named_of name.now) }
 {
     if "ctx" == name.text.as_str() {
         Stage::Context
     } else if "env" == name.text.as_str() {
         Stage::Environment
+    } else if is_keyword(name.text.as_str()) {
+        Stage::Lost
     } else {
         Stage::Own(name)
     }
@@ -250,308 +258,6 @@ fn field_of_called<'a>(form: Form<'a>, name: &'a Name) -> Stage<'a>
         }
     } else {
         Stage::Lost
-    }
-}
-
-/// The methods of the storage.
-fn storage_form<'a>(word: &str) -> Option<Form<'a>>
-    ensures { option_map form_of result ≡ storage_form word.now }
-{
-    if "get" == word || "getAlarm" == word || "sync" == word {
-        Some(Form::Reads)
-    } else if is_write(word) {
-        Some(Form::Writes)
-    } else if "list" == word {
-        Some(Form::Lists)
-    } else if "transaction" == word {
-        Some(Form::Transacts)
-    } else {
-        None
-    }
-}
-
-fn is_write(word: &str) -> bool
-    ensures { result ≡ among storage_writes word.now }
-{
-    "put" == word
-        || "delete" == word
-        || "deleteAll" == word
-        || "setAlarm" == word
-        || "deleteAlarm" == word
-}
-
-/// The methods of a transaction's handle.
-fn handle_form<'a>(word: &str) -> Option<Form<'a>>
-    ensures { option_map form_of result ≡ handle_form word.now }
-{
-    if "get" == word {
-        Some(Form::HandleReads)
-    } else if is_handle_write(word) {
-        Some(Form::HandleWrites)
-    } else if "list" == word {
-        Some(Form::HandleLists)
-    } else if "rollback" == word {
-        Some(Form::RollsBack)
-    } else {
-        None
-    }
-}
-
-fn is_handle_write(word: &str) -> bool
-    ensures { result ≡ among handle_writes word.now }
-{
-    "put" == word || "delete" == word
-}
-
-/// The methods of a class in the environment.
-fn class_form<'a>(class: &'a Name, word: &str) -> Option<Form<'a>>
-    ensures { option_map form_of result ≡ class_form (named_of class.now).text word.now }
-{
-    if "get" == word {
-        Some(Form::Opens(class))
-    } else if "idFromName" == word {
-        Some(Form::Identifies(class))
-    } else {
-        None
-    }
-}
-
-/// Words of the language that are called.
-fn word_form<'a>(word: &str) -> Option<Form<'a>>
-    ensures { option_map form_of result ≡ word_form word.now }
-{
-    if "fetch" == word {
-        Some(Form::Fetches)
-    } else if "String" == word || "Number" == word {
-        Some(Form::Computes)
-    } else {
-        None
-    }
-}
-
-/// Words of the language of which a part is called.
-fn owner_form<'a>(owner: &str, word: &str) -> Option<Form<'a>>
-    ensures { option_map form_of result ≡ owner_form owner.now word.now }
-{
-    let known = is_both("Object", owner, "keys", word)
-        || is_both("Array", owner, "isArray", word)
-        || is_both("Date", owner, "now", word);
-    computes_if(known)
-}
-
-/// Whether the first two texts are the same, and the other two.
-fn is_both(owner: &str, here: &str, word: &str, there: &str) -> bool
-    ensures { result ≡ (bytes_eq owner.now here.now && bytes_eq word.now there.now) }
-{
-    owner == here && word == there
-}
-
-fn computes_if<'a>(known: bool) -> Option<Form<'a>>
-    ensures { option_map form_of result ≡ (if known then Some computes else None) }
-{
-    if known { Some(Form::Computes) } else { None }
-}
-
-pub fn is_language_word(word: &str) -> bool
-    ensures { result ≡ among language_words word.now }
-{
-    "fetch" == word
-        || "String" == word
-        || "Number" == word
-        || "Object" == word
-        || "Array" == word
-        || "Date" == word
-}
-
-/// The methods of lists and texts. `push` is one of a place alone.
-fn is_method(is_place: bool, word: &str) -> bool
-    ensures { result ≡ is_method is_place word.now }
-{
-    is_value_method(word) || is_push(is_place, word)
-}
-
-fn is_value_method(word: &str) -> bool
-    ensures { result ≡ among value_methods word.now }
-{
-    "includes" == word
-        || "indexOf" == word
-        || "slice" == word
-        || "startsWith" == word
-        || "endsWith" == word
-        || "split" == word
-}
-
-fn is_push(is_place: bool, word: &str) -> bool
-    ensures { result ≡ (is_place && bytes_eq (codes "push") word.now) }
-{
-    if is_place { "push" == word } else { false }
-}
-
-/// Whether the first argument is what the form asks for.
-fn fits(names: &Names, form: &Form, args: &[Arg]) -> bool
-    ensures { result ≡ fits (names_of names.now) (form_of form.now) (args_in args.now) }
-{
-    match form {
-        Form::Transacts => takes_callback(Role::Transaction, args),
-        Form::Blocks => takes_callback(Role::Block, args),
-        Form::Opens(class) => identifies(names, class, args),
-        _ => true,
-    }
-}
-
-/// Whether the first argument is the callback of a transaction or of a block.
-fn takes_callback(role: Role, args: &[Arg]) -> bool
-    ensures { result ≡ has_callback (role_of role) (args_in args.now) }
-{
-    match args.split_first() {
-        Some((arg, _)) => is_callback(role, arg),
-        None => false,
-    }
-}
-
-/// Whether the argument is the callback of a transaction or of a block.
-fn is_callback(role: Role, arg: &Arg) -> bool
-    ensures { (rest : Args) → result ≡ has_callback (role_of role) (with_arg arg.now rest) }
-{
-    match arg {
-        Arg::Callback(callback) => takes_parameter(role, &callback.parameter),
-        Arg::Value(_) => false,
-    }
-}
-
-/// Whether the callback that is there for this has such a parameter.
-pub fn takes_parameter(role: Role, parameter: &Option<Name>) -> bool
-    ensures { result ≡ takes_callback (role_of role) (option_named_of parameter.now) }
-{
-    match role {
-        Role::Transaction => parameter.is_some(),
-        Role::Block => parameter.is_none(),
-        Role::Plain | Role::Identifier => false,
-    }
-}
-
-/// Whether the first argument identifies an object of the class.
-fn identifies(names: &Names, class: &Name, args: &[Arg]) -> bool
-    ensures { result ≡ has_identifier (names_of names.now) (named_of class.now).text (args_in args.now) }
-{
-    match args.split_first() {
-        Some((arg, _)) => is_identifier(names, class, arg),
-        None => false,
-    }
-}
-
-/// Whether the argument identifies an object of the class.
-fn is_identifier(names: &Names, class: &Name, arg: &Arg) -> bool
-    ensures { (rest : Args) → result ≡ has_identifier (names_of names.now) (named_of class.now).text (with_arg arg.now rest) }
-{
-    match arg {
-        Arg::Value(value) => is_of_class(class, identified_class(names, value)),
-        Arg::Callback(_) => false,
-    }
-}
-
-fn is_of_class(class: &Name, other: Option<&Name>) -> bool
-    ensures { result ≡ is_class (named_of class.now).text (option_text other.entry) }
-{
-    match other {
-        Some(other) => class.text.as_str() == other.text.as_str(),
-        None => false,
-    }
-}
-
-/// The class X, of an expression that is E.X.idFromName(..).
-#[tactic(auto, using(std::proofs::lemmas::Grind::common_steps, crate::proofs::Walked::identified_path))]
-fn identified_class<'a>(names: &Names, value: &'a Expr) -> Option<&'a Name>
-    ensures { option_text result ≡ identified_class (names_of names.now) (expr_of value.now) }
-{
-    match value {
-        Expr::Path { base, links, .. } => identified_from(start(names, base), links),
-        _ => None,
-    }
-}
-
-fn identified_from<'a>(stage: Stage<'a>, links: &'a [Link]) -> Option<&'a Name>
-    ensures { option_text result ≡ identified_from (stage_of stage.entry) (links_in links.now) }
-{
-    match links.split_first() {
-        Some((link, rest)) => identified_behind(stage, link, rest),
-        None => None,
-    }
-}
-
-/// As `identified_from`, of a step and those behind it.
-fn identified_behind<'a>(stage: Stage<'a>, link: &'a Link, rest: &'a [Link]) -> Option<&'a Name>
-    ensures { option_text result ≡ identified_from (stage_of stage.entry) (with_link link.now (links_in rest.now)) }
-{
-    match (stage, link) {
-        (Stage::Itself, Link::Field(name)) => identified(field_of_itself(name), rest),
-        (Stage::Environment, Link::Field(class)) => identified_in(class, rest),
-        _ => None,
-    }
-}
-
-fn identified<'a>(stage: Stage<'a>, links: &'a [Link]) -> Option<&'a Name>
-    ensures { option_text result ≡ identified (stage_of stage.entry) (links_in links.now) }
-{
-    match links.split_first() {
-        Some((link, rest)) => identified_at(stage, link, rest),
-        None => None,
-    }
-}
-
-/// As `identified`, of a step and those behind it.
-fn identified_at<'a>(stage: Stage<'a>, link: &'a Link, rest: &'a [Link]) -> Option<&'a Name>
-    ensures { option_text result ≡ identified (stage_of stage.entry) (with_link link.now (links_in rest.now)) }
-{
-    match (stage, link) {
-        (Stage::Environment, Link::Field(class)) => identified_in(class, rest),
-        _ => None,
-    }
-}
-
-/// The class, of the steps .idFromName(..) behind it.
-fn identified_in<'a>(class: &'a Name, links: &[Link]) -> Option<&'a Name>
-    ensures { option_text result ≡ identified_in (named_of class.now).text (links_in links.now) }
-{
-    match links.split_first() {
-        Some((link, rest)) => identified_by(class, link, rest),
-        None => None,
-    }
-}
-
-/// As `identified_in`, of a step and those behind it.
-fn identified_by<'a>(class: &'a Name, link: &Link, rest: &[Link]) -> Option<&'a Name>
-    ensures { option_text result ≡ identified_in (named_of class.now).text (with_link link.now (links_in rest.now)) }
-{
-    match link {
-        Link::Field(method) => {
-            if "idFromName" == method.text.as_str() && is_one_call(rest) {
-                Some(class)
-            } else {
-                None
-            }
-        }
-        Link::Index { .. } | Link::Call { .. } => None,
-    }
-}
-
-/// Whether the steps are one call.
-fn is_one_call(links: &[Link]) -> bool
-    ensures { result ≡ is_one_call (links_in links.now) }
-{
-    match links.split_first() {
-        Some((link, rest)) => is_one_call_at(link, rest),
-        None => false,
-    }
-}
-
-/// As `is_one_call`, of a step and those behind it.
-fn is_one_call_at(link: &Link, rest: &[Link]) -> bool
-    ensures { result ≡ is_one_call (with_link link.now (links_in rest.now)) }
-{
-    match link {
-        Link::Call { .. } => is_end(rest),
-        Link::Field(_) | Link::Index { .. } => false,
     }
 }
 

@@ -1,6 +1,6 @@
 //! A depot hands out the disks of slots and the texts at paths, and remembers what it was asked.
 ghost use Rattle.std.specs.Prelude.{◌≡◌, ◌≢◌, ◌≤◌, List, ℕ, Option, length, take, IfOk, OnErr};
-ghost use Rattle.do_disk.specs.Disk.{IfTold, Only};
+ghost use Rattle.do_disk.specs.Disk.{IfTold};
 ghost use Rattle.do_disk.specs.Asks.{Ask, Adds, CountsFailures, for_text, for_slot};
 
 use crate::Disk;
@@ -36,14 +36,16 @@ pub trait Depot {
     /// How many faults there have been. It stays at u64's greatest value.
     ghost faults_of: { Self → ℕ };
 
-    /// The disk of this folder's slot, before its first call.
+    /// The disk of this folder's slot, before its first call. What a crash leaves of it before its first successful sync
+    /// isn't told: a real file can hold bytes that a killed process wrote and never synced.
     fn slot(&mut self, folder: &str, number: u32) -> Result<Self::Store, DepotFault>
         ensures asked { Adds (asked self.old) (asked self.new) (for_slot folder.now number) result }
         ensures fresh { IfOk result (λ disk. (Self.Store.moment_of disk ≡ 0) × (Self.Store.faults_of disk ≡ 0)) }
         ensures content { IfOk result (λ disk. Self.Store.told disk ≡ slot_at self.old folder.now number) }
-        ensures durable { IfOk result (λ disk. Only (Self.Store.told disk) (Self.Store.image disk)) }
-        ensures others { (other_folder : List ℕ) (other : ℕ) → other ≢ number → slot_at self.new other_folder other ≡ slot_at self.old other_folder other }
-        ensures same_slots { OnErr result ((any_folder : List ℕ) (any : ℕ) → slot_at self.new any_folder any ≡ slot_at self.old any_folder any) }
+        ensures others { (other_folder : List ℕ) (other : ℕ) → other ≢ number
+            → slot_at self.new other_folder other ≡ slot_at self.old other_folder other }
+        ensures same_slots { OnErr result ((any_folder : List ℕ) (any : ℕ)
+            → slot_at self.new any_folder any ≡ slot_at self.old any_folder any) }
         ensures same_texts { (path : List ℕ) → text_at self.new path ≡ text_at self.old path }
         ensures faults { CountsFailures (faults_of self.old) (faults_of self.new) result };
 

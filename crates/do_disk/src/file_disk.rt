@@ -1,45 +1,47 @@
 //! A disk over a real file. It tells no content: that a file keeps to the crash rule is trusted.
-ghost use Rattle.std.specs.Prelude.{◌≡◌, None};
+ghost use Rattle.std.specs.Prelude.{◌≡◌, ◌||◌, false, true, None, length, is_ok, is_err, IsErr, IsTrue, OnOk, OnErr, ◌↔◌};
+ghost use Rattle.std.specs.Result.{result_ok};
 ghost use Rattle.do_disk.specs.Disk.{next_count, HasRisen};
-ghost use Rattle.do_disk.specs.Real.{RealDisk, nothing_told};
+ghost use Rattle.do_disk.specs.FileCalls.{RealDisk, asked_length, read_range, wrote_range, synced_all, given, Makes, RealCounts};
+ghost use Rattle.do_disk.specs.Real.{nothing_told};
 
-use crate::{Disk, Failed};
-use std::fs::File;
+use crate::{Disk, Failed, FileCalls};
 use std::marker::Model;
-use std::os::unix::fs::FileExt;
 
-/// A disk over an open file, which nobody else writes.
+/// A disk over an open file, which nobody else writes. Once a write or a sync failed each further call fails, since a
+/// later sync could succeed though bytes are gone.
 #[derive(Drop)]
-pub struct FileDisk {
-    file: File,
+pub struct FileDisk<F: FileCalls> {
+    file: F,
     moment: u64,
     faults: u64,
+    broken: bool,
 }
 
-impl Model for FileDisk {
+impl<F: FileCalls> Model for FileDisk<F> {
     ghost Value = { RealDisk };
 
-    ghost view = { λ disk. record { moment = disk.moment; faults = disk.faults } };
+    ghost view = { λ disk. record { calls = F.calls disk.file; moment = disk.moment; faults = disk.faults; broken = disk.broken } };
 }
 
-impl FileDisk {
+impl<F: FileCalls> FileDisk<F> {
     /// The disk of this file, before its first call.
-    pub fn new(file: File) -> Self
-        ensures { result ≡ record { moment = 0; faults = 0 } }
+    pub fn new(file: F) -> Self
+        ensures { result ≡ record { calls = F.calls file; moment = 0; faults = 0; broken = false } }
     {
         FileDisk {
             file,
             moment: 0,
             faults: 0,
+            broken: false,
         }
     }
 
-    // Counts a call.
-    fn begin(&mut self)
-        ensures one_more { self.new ≡ record self.old { moment = next_count self.old.moment } }
-        ensures later { HasRisen self.old.moment self.new.moment }
+    /// The file.
+    pub fn file(&self) -> &F
+        ensures { F.calls result.now ≡ self.now.calls }
     {
-        self.moment = self.moment.saturating_add(1);
+        &self.file
     }
 
     // A call fails.
@@ -50,9 +52,33 @@ impl FileDisk {
         self.faults = self.faults.saturating_add(1);
         Failed
     }
+
+    // A write or a sync fails, and with it each further call.
+    fn fail_for_good(&mut self) -> Failed
+        ensures one_more { self.new ≡ record self.old { faults = next_count self.old.faults; broken = true } }
+        ensures rose { HasRisen self.old.faults self.new.faults }
+    {
+        self.broken = true;
+        self.fail()
+    }
+
+    // Counts a call, and fails it where a write or a sync failed before.
+    fn begin(&mut self) -> Result<(), Failed>
+        ensures begun { OnOk result (self.new ≡ record self.old { moment = next_count self.old.moment }) }
+        ensures refused { OnErr result (self.new ≡ record self.old { moment = next_count self.old.moment; faults = next_count self.old.faults }) }
+        ensures cause { IsErr result ↔ IsTrue self.old.broken }
+        ensures counts { RealCounts self.old self.new result }
+    {
+        self.moment = self.moment.saturating_add(1);
+        if self.broken {
+            Err(self.fail())
+        } else {
+            Ok(())
+        }
+    }
 }
 
-impl Disk for FileDisk {
+impl<F: FileCalls> Disk for FileDisk<F> {
     ghost told = { λ _. None };
 
     ghost image = { λ _ _. ⊥ };
@@ -69,35 +95,51 @@ impl Disk for FileDisk {
 
     ghost reads_an_image = { λ disk c told. nothing_told told };
 
-    fn length(&mut self) -> Result<u64, Failed> {
-        self.begin();
-        match self.file.metadata() {
-            Ok(metadata) => Ok(metadata.len()),
+    fn length(&mut self) -> Result<u64, Failed>
+        ensures makes { Makes self.old self.new (asked_length (result_ok result)) result }
+        ensures sound { self.new.broken ≡ self.old.broken }
+        ensures counts { RealCounts self.old self.new result }
+    {
+        self.begin()?;
+        match self.file.length() {
+            Ok(length) => Ok(length),
             Err(_) => Err(self.fail()),
         }
     }
 
-    fn read_at(&mut self, at: u64, into: &mut [u8]) -> Result<(), Failed> {
-        self.begin();
-        match self.file.read_exact_at(into, at) {
+    fn read_at(&mut self, at: u64, into: &mut [u8]) -> Result<(), Failed>
+        ensures makes { Makes self.old self.new (read_range at (length into.old) (given result into.new)) result }
+        ensures sound { self.new.broken ≡ self.old.broken }
+        ensures counts { RealCounts self.old self.new result }
+    {
+        self.begin()?;
+        match self.file.read_at(at, into) {
             Ok(()) => Ok(()),
             Err(_) => Err(self.fail()),
         }
     }
 
-    fn write_at(&mut self, at: u64, from: &[u8]) -> Result<(), Failed> {
-        self.begin();
-        match self.file.write_all_at(from, at) {
+    fn write_at(&mut self, at: u64, from: &[u8]) -> Result<(), Failed>
+        ensures makes { Makes self.old self.new (wrote_range at from.now (is_ok result)) result }
+        ensures broken { self.new.broken ≡ (self.old.broken || is_err result) }
+        ensures counts { RealCounts self.old self.new result }
+    {
+        self.begin()?;
+        match self.file.write_at(at, from) {
             Ok(()) => Ok(()),
-            Err(_) => Err(self.fail()),
+            Err(_) => Err(self.fail_for_good()),
         }
     }
 
-    fn sync(&mut self) -> Result<(), Failed> {
-        self.begin();
-        match self.file.sync_all() {
+    fn sync(&mut self) -> Result<(), Failed>
+        ensures makes { Makes self.old self.new (synced_all (is_ok result)) result }
+        ensures broken { self.new.broken ≡ (self.old.broken || is_err result) }
+        ensures counts { RealCounts self.old self.new result }
+    {
+        self.begin()?;
+        match self.file.sync() {
             Ok(()) => Ok(()),
-            Err(_) => Err(self.fail()),
+            Err(_) => Err(self.fail_for_good()),
         }
     }
 

@@ -22,7 +22,14 @@ pub struct MemSink {
 impl Model for MemSink {
     ghost Value = { MemorySink };
 
-    ghost view = { λ sink. record { taken = sink.bytes.items; piece = sink.piece; calls = sink.calls; faults = sink.faults; refused = sink.refused; fails = sink.fails } };
+    ghost view = { λ sink. record {
+      taken = sink.bytes.items;
+      piece = sink.piece;
+      calls = sink.calls;
+      faults = sink.faults;
+      refused = sink.refused;
+      fails = sink.fails;
+    } };
 
     ghost invariant = { λ sink. 1 ≤ sink.piece };
 }

@@ -21,7 +21,13 @@ pub struct MemSource {
 impl Model for MemSource {
     ghost Value = { MemorySource };
 
-    ghost view = { λ source. record { left = drop source.at source.bytes.items; piece = source.piece; calls = source.calls; faults = source.faults; fails = source.fails } };
+    ghost view = { λ source. record {
+      left = drop source.at source.bytes.items;
+      piece = source.piece;
+      calls = source.calls;
+      faults = source.faults;
+      fails = source.fails;
+    } };
 
     ghost invariant = { λ source. (source.at ≤ length source.bytes.items) × (1 ≤ source.piece) };
 }

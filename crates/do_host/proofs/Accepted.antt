@@ -3,17 +3,21 @@ use Rattle.std.proofs.Common.{◌≡◌, ◌<◌, ◌≤◌, ◌⊎◌, ⊎_elim
 use Rattle.std.proofs.lemmas.Bool.{cases_order}
 use Rattle.std.proofs.lemmas.List.{length-take}
 use Rattle.do_disk.specs.declared.depot.TheConstants.{MOST_TEXT_BYTES}
+use Rattle.do_check.specs.First.{IsRefusal}
+use Rattle.do_check.specs.declared.fault.CheckFault.{CheckFault}
 use Rattle.do_parse.specs.Fault.{IsFaultAt}
-use Rattle.do_lex.specs.declared.pieces.TheConstants.{LONGEST_SCRIPT}
+use Rattle.do_lex.specs.Limits.{most_script_bytes}
 use Rattle.do_parse.specs.declared.fault.ParseKind.{ParseKind}
+use Rattle.do_tree.specs.Faults.{IsFirstFault}
+use Rattle.do_tree.specs.Tree.{Script}
 use Rattle.do_parse.specs.declared.fault.ParseKind.TheVariants as wrong
 use Rattle.do_host.specs.EarlyEnds.{IsRefusedBy, IsBarredBy, IsStoppedBy, IsScriptEnd, IsOpeningEnd, Refuses}
 use Rattle.do_host.specs.ScriptLines.{refused_line, IsRefusalLine, IsScriptLine}
-use Rattle.do_host.specs.Scripts.{parse_word, IsRefused, IsUnread, IsFaulty, IsFirstScript, IsOtherScript}
+use Rattle.do_host.specs.Scripts.{check_word, parse_word, IsRefused, IsUnread, IsFaulty, IsFirstScript, IsOtherScript}
 use Rattle.do_host.specs.declared.early_end.EarlyEnd.{EarlyEnd}
 use Rattle.do_host.specs.declared.early_end.EarlyEnd.TheVariants.{Refused, BadSlot, Stopped}
-use Rattle.do_host.specs.declared.stop.Stop.{Stop}
-use Rattle.do_host.specs.declared.stop.Stop.TheVariants.{DiskFailed, NoMemory, NotBuilt}
+use Rattle.do_host.specs.declared.run_end.RunEnd.{RunEnd}
+use Rattle.do_host.specs.declared.run_end.RunEnd.TheVariants.{DiskFailed, NoMemory, NotBuilt}
 use Rattle.do_host.proofs.Mounted.{take_is_whole}
 
 -- an answer that is an end
@@ -33,6 +37,10 @@ line_at {T} place word (Refused bytes) refuses line (others, same, items) =
 line_at {T} place word (BadSlot bytes) refuses line (others, same, items) = absurd refuses
 line_at {T} place word (Stopped stop) refuses line (others, same, items) = cc
 
+-- a refusal of the check that has a word is for the script's first fault
+pub checked_fault : (script : Script) (fault : CheckFault) (word : List ℕ) → check_word fault.kind ≡ Some word → IsRefusal script fault → IsFirstFault script fault.place fault.kind
+checked_fault script fault word named refusal = refusal.0 (λ none. let nothing = ap check_word none in cc)
+
 -- a refusal has its line, or memory was wanting
 pub ends_early : {T : Type 0} (place : ℕ) (word : Option (List ℕ)) (end : EarlyEnd) → Refuses place word end → ((line : List ℕ) × IsRefusedBy (ends {T = T} end) line) ⊎ IsStoppedBy (ends {T = T} end) NoMemory
 ends_early {T} place word (Refused bytes) refuses = inl (bytes.items, (bytes, refl, refl))
@@ -40,15 +48,15 @@ ends_early {T} place word (BadSlot bytes) refuses = absurd refuses
 ends_early {T} place word (Stopped stop) refuses = inr (ap (λ s. ends {T = T} (Stopped s)) refuses)
 
 -- of a text that a script may be all was read
-pub whole_text : (whole text : List ℕ) → text ≡ take MOST_TEXT_BYTES whole → length text ≤ LONGEST_SCRIPT → text ≡ whole
+pub whole_text : (whole text : List ℕ) → text ≡ take MOST_TEXT_BYTES whole → length text ≤ most_script_bytes → text ≡ whole
 whole_text whole text front short = sym (take_is_whole MOST_TEXT_BYTES whole text (sym front) (omega (arith, short)))
 
-long_whole : (whole text : List ℕ) → text ≡ take MOST_TEXT_BYTES whole → LONGEST_SCRIPT < length text → LONGEST_SCRIPT < length whole
+long_whole : (whole text : List ℕ) → text ≡ take MOST_TEXT_BYTES whole → most_script_bytes < length text → most_script_bytes < length whole
 long_whole whole text front long =
     let least : length text ≡ min MOST_TEXT_BYTES (length whole) = ap length front ∙ length-take MOST_TEXT_BYTES whole in
     omega (arith, least, long)
 
-too_long : (whole text : List ℕ) (place : ℕ) (word : List ℕ) (kind : ParseKind) → kind ≡ wrong.TooLong → parse_word kind ≡ Some word → LONGEST_SCRIPT < length whole → IsFaultAt text kind place → IsUnread whole place word
+too_long : (whole text : List ℕ) (place : ℕ) (word : List ℕ) (kind : ParseKind) → kind ≡ wrong.TooLong → parse_word kind ≡ Some word → most_script_bytes < length whole → IsFaultAt text kind place → IsUnread whole place word
 too_long whole text place word wrong.TooLong is named long fault = record { kind = wrong.TooLong; named = named; at_once = λ _. refl; fault = (long, fault.1) }
 too_long whole text place word wrong.BadChar is named long fault = cc
 too_long whole text place word wrong.OpenText is named long fault = cc
@@ -57,9 +65,9 @@ too_long whole text place word wrong.Unexpected is named long fault = cc
 too_long whole text place word wrong.TooNested is named long fault = cc
 too_long whole text place word wrong.NoMemory is named long fault = cc
 
-longer_or_not : (text : List ℕ) → (LONGEST_SCRIPT < length text) ⊎ (length text ≤ LONGEST_SCRIPT)
+longer_or_not : (text : List ℕ) → (most_script_bytes < length text) ⊎ (length text ≤ most_script_bytes)
 longer_or_not text =
-    ⊎_elim (λ same. inr (omega (arith, same))) (λ apart. ⊎_elim (λ less. inl less) (λ more. inr (omega (arith, more))) apart) (cases_order LONGEST_SCRIPT (length text))
+    ⊎_elim (λ same. inr (omega (arith, same))) (λ apart. ⊎_elim (λ less. inl less) (λ more. inr (omega (arith, more))) apart) (cases_order most_script_bytes (length text))
 
 -- why the bytes that were read are refused the whole text is
 refused_whole : (whole text : List ℕ) (place : ℕ) (word : List ℕ) → text ≡ take MOST_TEXT_BYTES whole → IsRefused text place word → IsRefused whole place word
@@ -67,8 +75,8 @@ refused_whole whole text place word front refused =
     ⊎_elim
     (λ (unread : IsUnread text place word).
     ⊎_elim
-    (λ (long : LONGEST_SCRIPT < length text). inl (too_long whole text place word unread.kind (unread.at_once long) unread.named (long_whole whole text front long) unread.fault))
-    (λ (short : length text ≤ LONGEST_SCRIPT). subst (λ t. IsRefused t place word) (whole_text whole text front short) refused)
+    (λ (long : most_script_bytes < length text). inl (too_long whole text place word unread.kind (unread.at_once long) unread.named (long_whole whole text front long) unread.fault))
+    (λ (short : length text ≤ most_script_bytes). subst (λ t. IsRefused t place word) (whole_text whole text front short) refused)
     (longer_or_not text))
     (λ (faulty : IsFaulty text place word). subst (λ t. IsRefused t place word) (whole_text whole text front faulty.short) refused)
     refused
@@ -91,14 +99,14 @@ pub other_whole : (whole text : List ℕ) → text ≡ take MOST_TEXT_BYTES whol
 other_whole whole text front other = subst IsOtherScript (whole_text whole text front other.0.1.short) other
 
 -- a text that isn't too long is short
-pub short_text : (text : List ℕ) → (LONGEST_SCRIPT < length text → ⊥) → length text ≤ LONGEST_SCRIPT
+pub short_text : (text : List ℕ) → (most_script_bytes < length text → ⊥) → length text ≤ most_script_bytes
 short_text text never = ⊎_elim (λ long. absurd (never long)) (λ short. short) (longer_or_not text)
 
 -- an end that is handed on
 pub same_refused : {T U : Type 0} (end : EarlyEnd) (line : List ℕ) → IsRefusedBy (ends {T = T} end) line → IsRefusedBy (ends {T = U} end) line
 same_refused {T} {U} end line (bytes, is, items) = let e : end ≡ Refused bytes = cc in (bytes, ap (λ o. ends {T = U} o) e, items)
 
-pub same_stopped : {T U : Type 0} (end : EarlyEnd) (stop : Stop) → IsStoppedBy (ends {T = T} end) stop → IsStoppedBy (ends {T = U} end) stop
+pub same_stopped : {T U : Type 0} (end : EarlyEnd) (stop : RunEnd) → IsStoppedBy (ends {T = T} end) stop → IsStoppedBy (ends {T = U} end) stop
 same_stopped {T} {U} end stop is = let e : end ≡ Stopped stop = cc in ap (λ o. ends {T = U} o) e
 
 pub same_end : {T U : Type 0} (end : EarlyEnd) → ((line : List ℕ) × IsRefusedBy (ends {T = T} end) line) ⊎ IsStoppedBy (ends {T = T} end) NoMemory
@@ -113,7 +121,7 @@ form_end {T} {U} end is = ⊎_elim (λ refused. inl (refused.0, same_refused {T 
 pub handed_refused : {T U : Type 0} (result : Result U EarlyEnd) (end : EarlyEnd) (line : List ℕ) → result ≡ ends {T = U} end → IsRefusedBy result line → IsRefusedBy (ends {T = T} end) line
 handed_refused {T} {U} result end line is (bytes, by, items) = same_refused {T = U} {U = T} end line (bytes, sym is ∙ by, items)
 
-pub handed_stopped : {T U : Type 0} (result : Result U EarlyEnd) (end : EarlyEnd) (stop : Stop) → result ≡ ends {T = U} end → IsStoppedBy result stop → IsStoppedBy (ends {T = T} end) stop
+pub handed_stopped : {T U : Type 0} (result : Result U EarlyEnd) (end : EarlyEnd) (stop : RunEnd) → result ≡ ends {T = U} end → IsStoppedBy result stop → IsStoppedBy (ends {T = T} end) stop
 handed_stopped {T} {U} result end stop is by = same_stopped {T = U} {U = T} end stop (sym is ∙ by)
 
 same_script : {T U : Type 0} (end : EarlyEnd) → IsScriptEnd (ends {T = T} end) → IsScriptEnd (ends {T = U} end)
@@ -129,7 +137,7 @@ handed_opening {T} {U} result end is script = subst (λ r. OnErr r (IsOpeningEnd
 refused_is_no_bar : {T : Type 0} (one other : Vec ℕ Global) → ends {T = T} (Refused one) ≡ ends {T = T} (BadSlot other) → ⊥
 refused_is_no_bar {T} one other same = cc
 
-stop_is_no_bar : {T : Type 0} (stop : Stop) (other : Vec ℕ Global) → ends {T = T} (Stopped stop) ≡ ends {T = T} (BadSlot other) → ⊥
+stop_is_no_bar : {T : Type 0} (stop : RunEnd) (other : Vec ℕ Global) → ends {T = T} (Stopped stop) ≡ ends {T = T} (BadSlot other) → ⊥
 stop_is_no_bar {T} stop other same = cc
 
 pub script_not_barred : {T U : Type 0} (result : Result U EarlyEnd) (end : EarlyEnd) (line : List ℕ) → result ≡ ends {T = U} end → IsScriptEnd (ends {T = T} end) → IsBarredBy result line → ⊥

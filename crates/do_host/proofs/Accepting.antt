@@ -9,7 +9,7 @@ use Rattle.do_host.specs.Served.{StopsAt}
 use Rattle.do_host.specs.Status.{status_of, most_waiting}
 use Rattle.line_server.specs.declared.line.Line.{Line}
 use Rattle.line_server.specs.declared.lines.Lines.{Lines}
-use Rattle.do_host.specs.declared.stop.Stop.{Stop}
+use Rattle.do_host.specs.declared.run_end.RunEnd.{RunEnd}
 use Rattle.do_host.specs.declared.switch_log.SwitchLog.{SwitchLog}
 use Rattle.line_server.proofs.Looking.{looked_fewer}
 use Rattle.do_host.proofs.Outcomes.{waiting_stop}
@@ -33,7 +33,7 @@ pub reading_on : {S : Type 0} (left : S → Option (List ℕ)) (whole : List ℕ
 reading_on left whole accepted more line lines e reading = subst (λ given. IsReading left whole given lines) (sym (seen_on accepted more line e)) reading
 
 -- the line at which a run stops was accepted or not
-pub first_at_stop : {S : Type 0} (left : S → Option (List ℕ)) (whole : List ℕ) (object : Option (List ℕ × List ℕ)) (old new : SwitchLog) (line : Line) (stop : Stop) (lines : Lines S) → StopsAt object line old new stop
+pub first_at_stop : {S : Type 0} (left : S → Option (List ℕ)) (whole : List ℕ) (object : Option (List ℕ × List ℕ)) (old new : SwitchLog) (line : Line) (stop : RunEnd) (lines : Lines S) → StopsAt object line old new stop
     → IsFirstOf left whole (map seen old.accepted.items ++ seen line ∷ []) lines → IsFirstOf left whole (map seen new.accepted.items) lines
 first_at_stop left whole object old new line stop lines stops first =
     ⊎_elim (λ same. subst (λ given. IsFirstOf left whole given lines) (sym (ap (map seen) same.0)) (given_fewer whole (map seen old.accepted.items) (seen line ∷ []) (left (source_of lines)) first))
@@ -51,7 +51,7 @@ looked_more left whole given most more lines le looked = record {
 }
 
 -- it was looked at, and it waits where it wasn't accepted
-pub looked_at_stop : {S : Type 0} (left : S → Option (List ℕ)) (whole : List ℕ) (object : Option (List ℕ × List ℕ)) (old new : SwitchLog) (line : Line) (stop : Stop) (lines : Lines S) → StopsAt object line old new stop
+pub looked_at_stop : {S : Type 0} (left : S → Option (List ℕ)) (whole : List ℕ) (object : Option (List ℕ × List ℕ)) (old new : SwitchLog) (line : Line) (stop : RunEnd) (lines : Lines S) → StopsAt object line old new stop
     → LooksAt left whole (map seen old.accepted.items ++ seen line ∷ []) 0 lines → LooksAt left whole (map seen new.accepted.items) (most_waiting (status_of stop)) lines
 looked_at_stop left whole object old new line stop lines stops looked =
     ⊎_elim (λ same. subst (λ given. LooksAt left whole given (most_waiting (status_of stop)) lines) (sym (ap (map seen) same.0))

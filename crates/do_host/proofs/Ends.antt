@@ -12,8 +12,8 @@ use Rattle.do_host.specs.declared.early_end.EarlyEnd.{EarlyEnd}
 use Rattle.do_host.specs.declared.report.Report.{Report}
 use Rattle.do_host.specs.declared.report.SlotReport.{SlotReport}
 use Rattle.do_host.specs.declared.early_end.EarlyEnd.TheVariants.{Refused, BadSlot, Stopped}
-use Rattle.do_host.specs.declared.stop.Stop.{Stop}
-use Rattle.do_host.specs.declared.stop.Stop.TheVariants.{DiskFailed, NoMemory, ReadFailed, WriteFailed, NotBuilt}
+use Rattle.do_host.specs.declared.run_end.RunEnd.{RunEnd}
+use Rattle.do_host.specs.declared.run_end.RunEnd.TheVariants.{DiskFailed, NoMemory, ReadFailed, WriteFailed, NotBuilt}
 use Rattle.do_host.proofs.Outcomes.{stop_status}
 
 -- the script and the folder that the words name
@@ -53,49 +53,49 @@ by_refusal {T} end bytes is = (bytes, ap (λ e. early {T = T} e) is, refl)
 pub by_bar : {T : Type 0} (end : EarlyEnd) (bytes : Vec ℕ Global) → end ≡ BadSlot bytes → IsBarredBy (early {T = T} end) bytes.items
 by_bar {T} end bytes is = (bytes, ap (λ e. early {T = T} e) is, refl)
 
-pub by_stop : {T : Type 0} (end : EarlyEnd) (stop : Stop) → end ≡ Stopped stop → IsStoppedBy (early {T = T} end) stop
+pub by_stop : {T : Type 0} (end : EarlyEnd) (stop : RunEnd) → end ≡ Stopped stop → IsStoppedBy (early {T = T} end) stop
 by_stop {T} end stop is = ap (λ e. early {T = T} e) is
 
 -- the stop of each status
-low_stop : (stop : Stop) → 3 ≤ status_of stop
+low_stop : (stop : RunEnd) → 3 ≤ status_of stop
 low_stop DiskFailed = omega arith
 low_stop NoMemory = omega arith
 low_stop ReadFailed = omega arith
 low_stop WriteFailed = omega arith
 low_stop NotBuilt = omega arith
 
-stop_of_two : (stop : Stop) → status_of stop ≡ 2 → ⊥
+stop_of_two : (stop : RunEnd) → status_of stop ≡ 2 → ⊥
 stop_of_two stop two = omega (arith, low_stop stop, two)
 
-stop_of_seven : (stop : Stop) → status_of stop ≡ 7 → ⊥
+stop_of_seven : (stop : RunEnd) → status_of stop ≡ 7 → ⊥
 stop_of_seven DiskFailed seven = cc
 stop_of_seven NoMemory seven = cc
 stop_of_seven ReadFailed seven = cc
 stop_of_seven WriteFailed seven = cc
 stop_of_seven NotBuilt seven = cc
 
-stop_of_three : (stop : Stop) → status_of stop ≡ 3 → stop ≡ DiskFailed
+stop_of_three : (stop : RunEnd) → status_of stop ≡ 3 → stop ≡ DiskFailed
 stop_of_three DiskFailed three = refl
 stop_of_three NoMemory three = cc
 stop_of_three ReadFailed three = cc
 stop_of_three WriteFailed three = cc
 stop_of_three NotBuilt three = cc
 
-stop_of_five : (stop : Stop) → status_of stop ≡ 5 → stop ≡ ReadFailed
+stop_of_five : (stop : RunEnd) → status_of stop ≡ 5 → stop ≡ ReadFailed
 stop_of_five DiskFailed five = cc
 stop_of_five NoMemory five = cc
 stop_of_five ReadFailed five = refl
 stop_of_five WriteFailed five = cc
 stop_of_five NotBuilt five = cc
 
-pub stop_of_six : (stop : Stop) → status_of stop ≡ 6 → stop ≡ WriteFailed
+pub stop_of_six : (stop : RunEnd) → status_of stop ≡ 6 → stop ≡ WriteFailed
 stop_of_six DiskFailed six = cc
 stop_of_six NoMemory six = cc
 stop_of_six ReadFailed six = cc
 stop_of_six WriteFailed six = refl
 stop_of_six NotBuilt six = cc
 
-stop_of_eight : (stop : Stop) → status_of stop ≡ 8 → stop ≡ NotBuilt
+stop_of_eight : (stop : RunEnd) → status_of stop ≡ 8 → stop ≡ NotBuilt
 stop_of_eight DiskFailed eight = cc
 stop_of_eight NoMemory eight = cc
 stop_of_eight ReadFailed eight = cc
@@ -140,7 +140,7 @@ module _ (before after : Option (List ℕ)) (status : ℕ) where
   end_six (Stopped stop) ends six = inr (inr (ap Stopped (stop_of_six stop (sym ends.0 ∙ six))))
 
   -- any other status is that of a stop
-  stops_as : (own : ℕ) (is : Stop) (end : EarlyEnd) → ((stop : Stop) → status_of stop ≡ own → stop ≡ is) → (own ≡ 2 → ⊥) → (own ≡ 6 → ⊥) → (own ≡ 7 → ⊥) → EndsAs before after status end → status ≡ own → end ≡ Stopped is
+  stops_as : (own : ℕ) (is : RunEnd) (end : EarlyEnd) → ((stop : RunEnd) → status_of stop ≡ own → stop ≡ is) → (own ≡ 2 → ⊥) → (own ≡ 6 → ⊥) → (own ≡ 7 → ⊥) → EndsAs before after status end → status ≡ own → end ≡ Stopped is
   stops_as own is (Refused bytes) only two six seven ends e = absurd (⊎_elim (λ all. two (sym e ∙ all.0)) (λ part. six (sym e ∙ part.0)) ends)
   stops_as own is (BadSlot bytes) only two six seven ends e = absurd (⊎_elim (λ all. seven (sym e ∙ all.0)) (λ part. six (sym e ∙ part.0)) ends)
   stops_as own is (Stopped stop) only two six seven ends e = ap Stopped (only stop (sym ends.0 ∙ e))
@@ -155,7 +155,7 @@ module _ (before after : Option (List ℕ)) (status : ℕ) where
   end_eight end ends eight = stops_as 8 NotBuilt end stop_of_eight (λ e. omega (arith, e)) (λ e. omega (arith, e)) (λ e. omega (arith, e)) ends eight
 
   -- a stop has its status
-  pub ended_so : (end : EarlyEnd) (stop : Stop) → end ≡ Stopped stop → EndsAs before after status end → status ≡ status_of stop
+  pub ended_so : (end : EarlyEnd) (stop : RunEnd) → end ≡ Stopped stop → EndsAs before after status end → status ≡ status_of stop
   ended_so end stop is ends = let stopped : EndsAs before after status (Stopped stop) = subst (λ e. EndsAs before after status e) is ends in stopped.0
 
   -- no such end has a status below 2
@@ -190,29 +190,29 @@ module _ (before after : Option (List ℕ)) (status : ℕ) where
       λ file is. (tells.bytes.items, barred tells.bytes.items (by_bar {T = T} end tells.bytes tells.is) file is, tells.whole)
 
 -- stops that are none of reading a script, or of opening a slot
-stop_is_no_line : {T : Type 0} (stop : Stop) (bytes : Vec ℕ Global) → early {T = T} (Stopped stop) ≡ early {T = T} (Refused bytes) → ⊥
+stop_is_no_line : {T : Type 0} (stop : RunEnd) (bytes : Vec ℕ Global) → early {T = T} (Stopped stop) ≡ early {T = T} (Refused bytes) → ⊥
 stop_is_no_line {T} stop bytes same = cc
 
-stop_is_no_bar : {T : Type 0} (stop : Stop) (bytes : Vec ℕ Global) → early {T = T} (Stopped stop) ≡ early {T = T} (BadSlot bytes) → ⊥
+stop_is_no_bar : {T : Type 0} (stop : RunEnd) (bytes : Vec ℕ Global) → early {T = T} (Stopped stop) ≡ early {T = T} (BadSlot bytes) → ⊥
 stop_is_no_bar {T} stop bytes same = cc
 
-same_stop : {T : Type 0} (stop other : Stop) → early {T = T} (Stopped stop) ≡ early {T = T} (Stopped other) → stop ≡ other
+same_stop : {T : Type 0} (stop other : RunEnd) → early {T = T} (Stopped stop) ≡ early {T = T} (Stopped other) → stop ≡ other
 same_stop {T} stop other same = cc
 
-pub script_stop : {T : Type 0} (stop : Stop) → IsScriptEnd (early {T = T} (Stopped stop)) → (stop ≡ DiskFailed) ⊎ (stop ≡ NoMemory) ⊎ (stop ≡ NotBuilt)
+pub script_stop : {T : Type 0} (stop : RunEnd) → IsScriptEnd (early {T = T} (Stopped stop)) → (stop ≡ DiskFailed) ⊎ (stop ≡ NoMemory) ⊎ (stop ≡ NotBuilt)
 script_stop {T} stop is =
     ⊎_elim (λ refused. absurd (stop_is_no_line {T = T} stop refused.1.0 refused.1.1))
     (λ rest. ⊎_elim (λ disk. inl (same_stop {T = T} stop DiskFailed disk)) (λ rest. inr (⊎_elim (λ memory. inl (same_stop {T = T} stop NoMemory memory)) (λ built. inr (same_stop {T = T} stop NotBuilt built)) rest)) rest) is
 
-pub slot_stop : {T : Type 0} (stop : Stop) → IsSlotEnd (early {T = T} (Stopped stop)) → (stop ≡ DiskFailed) ⊎ (stop ≡ NoMemory)
+pub slot_stop : {T : Type 0} (stop : RunEnd) → IsSlotEnd (early {T = T} (Stopped stop)) → (stop ≡ DiskFailed) ⊎ (stop ≡ NoMemory)
 slot_stop {T} stop is =
     ⊎_elim (λ barred. absurd (stop_is_no_bar {T = T} stop barred.1.0 barred.1.1)) (λ rest. ⊎_elim (λ disk. inl (same_stop {T = T} stop DiskFailed disk)) (λ memory. inr (same_stop {T = T} stop NoMemory memory)) rest) is
 
-opening_stop : {T : Type 0} (stop : Stop) → IsOpeningEnd (early {T = T} (Stopped stop)) → (stop ≡ DiskFailed) ⊎ (stop ≡ NoMemory) ⊎ (stop ≡ NotBuilt)
+opening_stop : {T : Type 0} (stop : RunEnd) → IsOpeningEnd (early {T = T} (Stopped stop)) → (stop ≡ DiskFailed) ⊎ (stop ≡ NoMemory) ⊎ (stop ≡ NotBuilt)
 opening_stop {T} stop is =
     ⊎_elim (λ script. script_stop {T = T} stop script) (λ slot. ⊎_elim (λ disk. inl disk) (λ memory. inr (inl memory)) (slot_stop {T = T} stop slot)) is
 
-other_stop : (stop : Stop) → (stop ≡ DiskFailed) ⊎ (stop ≡ NoMemory) ⊎ (stop ≡ NotBuilt) → (status_of stop ≡ 5 → ⊥) × (status_of stop ≡ 6 → ⊥)
+other_stop : (stop : RunEnd) → (stop ≡ DiskFailed) ⊎ (stop ≡ NoMemory) ⊎ (stop ≡ NotBuilt) → (status_of stop ≡ 5 → ⊥) × (status_of stop ≡ 6 → ⊥)
 other_stop stop is =
     ⊎_elim (λ e. rw e ((λ n. omega (arith, n)), (λ n. omega (arith, n)))) (λ rest. ⊎_elim (λ e. rw e ((λ n. omega (arith, n)), (λ n. omega (arith, n)))) (λ e. rw e ((λ n. omega (arith, n)), (λ n. omega (arith, n)))) rest) is
 
@@ -224,11 +224,11 @@ pub opening_writes : {T : Type 0} (end : EarlyEnd) → end ≡ Stopped WriteFail
 opening_writes {T} end is opening = (other_stop WriteFailed (opening_stop {T = T} WriteFailed (subst (λ e. IsOpeningEnd (early {T = T} e)) is opening))).1 refl
 
 -- the statuses of opening for `serve`, of `check`, and of opening for `dump`
-opening_stop_status : (stop : Stop) → (stop ≡ DiskFailed) ⊎ (stop ≡ NoMemory) ⊎ (stop ≡ NotBuilt) → IsOpeningStatus (status_of stop)
+opening_stop_status : (stop : RunEnd) → (stop ≡ DiskFailed) ⊎ (stop ≡ NoMemory) ⊎ (stop ≡ NotBuilt) → IsOpeningStatus (status_of stop)
 opening_stop_status stop is =
     ⊎_elim (λ e. rw e (1, omega arith, refl)) (λ rest. ⊎_elim (λ e. rw e (2, omega arith, refl)) (λ e. rw e (5, omega arith, refl)) rest) is
 
-dump_stop_status : (stop : Stop) → (stop ≡ DiskFailed) ⊎ (stop ≡ NoMemory) → IsDumpStatus (status_of stop)
+dump_stop_status : (stop : RunEnd) → (stop ≡ DiskFailed) ⊎ (stop ≡ NoMemory) → IsDumpStatus (status_of stop)
 dump_stop_status stop is = ⊎_elim (λ e. rw e (1, omega arith, refl)) (λ e. rw e (2, omega arith, refl)) is
 
 pub opening_status : {T : Type 0} (before after : Option (List ℕ)) (status : ℕ) (end : EarlyEnd) → IsOpeningEnd (early {T = T} end) → EndsAs before after status end → IsOpeningStatus status

@@ -1,15 +1,14 @@
 -- A slot that was mounted since its disk was handed out.
-use Rattle.std.proofs.Common.{◌≡◌, ◌<◌, ⊎_elim, inl, inr, ℕ, min, List, [], ◌∷◌, ◌++◌, take, length, Option, Some, Result, Ok, Err, Vec, Global, refl, sym, ap, subst, ◌∙◌, arith, append_assoc}
+use Rattle.std.proofs.Common.{◌≡◌, ◌<◌, ◌≤◌, ⊎_elim, inl, inr, ℕ, min, List, [], ◌∷◌, ◌++◌, take, length, Option, Some, Result, Ok, Err, Vec, Global, refl, sym, ap, subst, ◌∙◌, arith, append_assoc}
 use Rattle.std.specs.Prelude.{IsErrOf}
 use Rattle.std.proofs.lemmas.List.{length-take, take_all}
 use Rattle.do_disk.specs.Asks.{Ask, Adds}
-use Rattle.do_disk.specs.Disk.{IfTold, Only, Rose}
+use Rattle.do_disk.specs.Disk.{IfTold, Rose, next_count}
 use Rattle.do_disk.specs.declared.depot.DepotFault.{DepotFault}
 use Rattle.do_disk.specs.declared.depot.DepotFault.TheVariants.{NoMemory as NoDepotMemory}
 use Rattle.batch_journal.specs.Frames.{Frame, operations_in}
 use Rattle.batch_journal.proofs.Held.{all_named}
-use Rattle.batch_journal.specs.Moments.{LeavesOnly}
-use Rattle.batch_journal.specs.Mounting.{IsMountOf, IsRefusal, IsCause, IsCounted, ImageOrHeader, disk_left}
+use Rattle.batch_journal.specs.Mounting.{IsMountOf, IsRefusal, IsCause, IsCounted, disk_left}
 use Rattle.batch_journal.specs.Reading.{IsObjectOf}
 use Rattle.batch_journal.specs.Recovery.{Recovers}
 use Rattle.batch_journal.specs.Rest.{IsStaged}
@@ -24,13 +23,14 @@ use Rattle.object_core.specs.Serving.{IsMounted}
 use Rattle.batch_journal.specs.Verdicts.{Verdict, IsSo, foreign, damaged, mixed}
 use Rattle.do_host.specs.Dump.{IsBadSlotLine}
 use Rattle.do_host.specs.EarlyEnds.{IsBarredBy, IsStoppedBy, IsSlotEnd, Bars, EndsMounting}
-use Rattle.do_host.specs.Opened.{LeavesFile, LeavesFileOrHeader, Asks}
+use Rattle.do_host.specs.Limits.{synced_at}
+use Rattle.do_host.specs.Opened.{LeavesFile, Asks}
 use Rattle.do_host.specs.SlotLines.{bad_slot_line}
 use Rattle.do_host.specs.Report.{object_in}
 use Rattle.do_host.specs.declared.early_end.EarlyEnd.{EarlyEnd}
 use Rattle.do_host.specs.declared.early_end.EarlyEnd.TheVariants.{Refused, BadSlot, Stopped}
-use Rattle.do_host.specs.declared.stop.Stop.{Stop}
-use Rattle.do_host.specs.declared.stop.Stop.TheVariants.{DiskFailed as StopFailed, NoMemory as StopWanting}
+use Rattle.do_host.specs.declared.run_end.RunEnd.{RunEnd}
+use Rattle.do_host.specs.declared.run_end.RunEnd.TheVariants.{DiskFailed as StopFailed, NoMemory as StopWanting}
 
 -- the answer of a depot that hands out a disk
 abbrev handed : {S : Type 0} → S → Result S DepotFault
@@ -45,26 +45,25 @@ pub object_named : (object : Option (List ℕ × List ℕ)) (frames : List Frame
 object_named object [] is = is
 object_named object (frame ∷ frames) is = is.0
 
--- whatever a crash has left since the disk was handed out recovers to the frames that were mounted
-pub mounted_recovers : {D : Type 0} (moment_of : D → ℕ) (left_since : D → ℕ → List ℕ → Type 0) (told : D → Option (List ℕ)) (image : D → List ℕ → Type 0) (disk : D) (mounted : Mounted D)
-    → moment_of disk ≡ 0 → Only (told disk) (image disk) → (mount : IsMountOf told image moment_of left_since disk mounted) → (c : List ℕ) → left_since mounted.journal.disk 0 c → Recovers c mount.frames
-mounted_recovers moment_of left_since told image disk mounted first durable mount = λ c left.
-    ⊎_elim (λ is. mount.recovers c (durable c is)) (λ is. is) (mount.moments c (subst (λ t. left_since mounted.journal.disk t c) (sym first) left))
+module _ {D : Type 0} (moment_of : D → ℕ) (left_since : D → ℕ → List ℕ → Type 0) (told : D → Option (List ℕ)) (image : D → List ℕ → Type 0) (disk : D) (mounted : Mounted D) (first : moment_of disk ≡ 0)
+    (mount : IsMountOf told image moment_of left_since disk mounted) where
+  -- whatever a crash has left since the mounting's first sync recovers to the frames that were mounted
+  pub mounted_recovers : (c : List ℕ) → left_since mounted.journal.disk synced_at c → Recovers c mount.frames
+  mounted_recovers c left = mount.images c (subst (λ t. left_since mounted.journal.disk (next_count t) c) (sym first) left)
 
--- since its disk was handed out a crash leaves the file, or one that recovers to the same
-pub mounted_since : {D : Type 0} (moment_of : D → ℕ) (left_since : D → ℕ → List ℕ → Type 0) (told : D → Option (List ℕ)) (image : D → List ℕ → Type 0) (disk : D) (mounted : Mounted D)
-    → moment_of disk ≡ 0 → Only (told disk) (image disk) → (mount : IsMountOf told image moment_of left_since disk mounted) → ((object : List ℕ × List ℕ) → IsStaged mounted.journal object [])
-    → IsMounted moment_of left_since told image 0 mount.frames mounted
-mounted_since moment_of left_since told image disk mounted first durable mount staged =
-    let named : NameOnly mounted.identity mount.frames = all_named mounted.identity mount.frames mount.object in
-    record {
-      at_rest = mount.at_rest;
-      staged = staged;
-      named = named;
-      values = λ key. ap (λ (m : Contents). value_in m key) mount.map ∙ value_after-nothing (operations_in mount.frames) key;
-      later = omega arith;
-      images = λ c left. (mount.frames, mounted_recovers moment_of left_since told image disk mounted first durable mount c left, named, refl);
-    }
+  -- since then the slot is told
+  pub mounted_since : ((object : List ℕ × List ℕ) → IsStaged mounted.journal object []) → IsMounted moment_of left_since told image synced_at mount.frames mounted
+  mounted_since staged =
+      let named : NameOnly mounted.identity mount.frames = all_named mounted.identity mount.frames mount.object in
+      record {
+        at_rest = mount.at_rest;
+        staged = staged;
+        named = named;
+        object = object_named mounted.identity mount.frames mount.object;
+        values = λ key. ap (λ (m : Contents). value_in m key) mount.map ∙ value_after-nothing (operations_in mount.frames) key;
+        later = subst (λ t. next_count t ≤ moment_of mounted.journal.disk) first mount.later;
+        images = λ c left. (mount.frames, mounted_recovers c left, named, refl);
+      }
 
 -- an answer that is an end
 abbrev ends : {T : Type 0} → EarlyEnd → Result T EarlyEnd
@@ -117,7 +116,7 @@ barred_line {T} verdict (Stopped stop) line bars (others, same, items) = cc
 bad_line : {T : Type 0} (verdict : Verdict) (end : EarlyEnd) (line c : List ℕ) → Bars (bad_slot_line verdict) end → IsBarredBy (ends {T = T} end) line → IsSo c verdict → IsBadSlotLine c line
 bad_line {T} verdict end line c bars barred so = record { verdict = verdict; is_so = so; line_is = barred_line {T = T} verdict end line bars barred }
 
-stop_is_no_bar : {T : Type 0} (stop : Stop) (bytes : Vec ℕ Global) → ends {T = T} (Stopped stop) ≡ ends {T = T} (BadSlot bytes) → ⊥
+stop_is_no_bar : {T : Type 0} (stop : RunEnd) (bytes : Vec ℕ Global) → ends {T = T} (Stopped stop) ≡ ends {T = T} (BadSlot bytes) → ⊥
 stop_is_no_bar {T} stop bytes same = cc
 
 -- the line that an end tells is one of the file
@@ -129,15 +128,10 @@ mounting_line {D} {T} told (Damaged disk place) end line is cause barred = λ c 
 mounting_line {D} {T} told (Mixed disk first other) end line is cause barred = λ c at. bad_line {T = T} (mixed first other) end line c is barred (cause c at)
 mounting_line {D} {T} told (NoMemory disk) end line is cause barred = absurd (stop_is_no_bar {T = T} StopWanting barred.0 (ap (λ e. ends {T = T} e) (sym is) ∙ barred.1))
 
-module _ {D : Type 0} (moment_of : D → ℕ) (left_since : D → ℕ → List ℕ → Type 0) (told : D → Option (List ℕ)) (image : D → List ℕ → Type 0) where
-  -- what a crash leaves of a disk that isn't mounted
-  pub leaves_file_or_header : (disk left : D) → moment_of disk ≡ 0 → Only (told disk) (image disk) → LeavesOnly moment_of left_since disk left (ImageOrHeader (told disk) (image disk)) → LeavesFileOrHeader left_since (told disk) left
-  leaves_file_or_header disk left first durable leaves = λ c since.
-      ⊎_elim (λ is. inl (durable c is)) (λ header. inr header) (leaves.each c (subst (λ t. left_since left t c) (sym first) since))
-
-  -- and of one that wasn't written
-  pub leaves_file : (disk left : D) → moment_of disk ≡ 0 → Only (told disk) (image disk) → LeavesOnly moment_of left_since disk left (image disk) → LeavesFile left_since (told disk) left
-  leaves_file disk left first durable leaves = λ c since. durable c (leaves.each c (subst (λ t. left_since left t c) (sym first) since))
+-- what a crash leaves of a disk that isn't mounted, since the first sync
+pub leaves_file : {D : Type 0} (moment_of : D → ℕ) (left_since : D → ℕ → List ℕ → Type 0) (told : D → Option (List ℕ)) (disk left : D) → moment_of disk ≡ 0
+    → ((c : List ℕ) → left_since left (next_count (moment_of disk)) c → told disk ≡ Some c) → LeavesFile left_since (told disk) left
+leaves_file moment_of left_since told disk left first leaves = λ c since. leaves c (subst (λ t. left_since left (next_count t) c) (sym first) since)
 
 -- of the text's first bytes, which are fewer than were read, there are no more
 pub take_is_whole : (n : ℕ) (xs ys : List ℕ) → take n xs ≡ ys → length ys < n → xs ≡ ys

@@ -5,8 +5,8 @@ use Rattle.line_server.specs.Lines.{most_left}
 use Rattle.do_host.specs.Status.{status_of, status_in, line_stop, IsStatus, IsCheckStatus, IsDumpStatus, most_waiting}
 use Rattle.line_server.specs.declared.fault.LineFault.{LineFault}
 use Rattle.line_server.specs.declared.fault.LineFault.TheVariants.{ReadFailed as LineFailed, NoMemory as NoLineMemory}
-use Rattle.do_host.specs.declared.stop.Stop.{Stop}
-use Rattle.do_host.specs.declared.stop.Stop.TheVariants.{DiskFailed, NoMemory, ReadFailed, WriteFailed, NotBuilt}
+use Rattle.do_host.specs.declared.run_end.RunEnd.{RunEnd}
+use Rattle.do_host.specs.declared.run_end.RunEnd.TheVariants.{DiskFailed, NoMemory, ReadFailed, WriteFailed, NotBuilt}
 
 -- a fact that holds after a good answer, or after a fault, from another one
 pub on_ok_map : {T E : Type 0} (result : Result T E) (P Q : Type 0) → (P → Q) → OnOk result P → OnOk result Q
@@ -50,7 +50,7 @@ pub if_some : {T : Type 0} (o : Option T) (x : T) (P : T → Type 0) → o ≡ S
 if_some o x P is p = subst (λ r. IfSome r P) (sym is) p
 
 -- status 0 is a good end
-pub good_end : (result : Result (Unit {0}) Stop) (P : Type 0) → status_in result ≡ 0 → OnOk result P → P
+pub good_end : (result : Result (Unit {0}) RunEnd) (P : Type 0) → status_in result ≡ 0 → OnOk result P → P
 good_end (Ok done) P none p = p
 good_end (Err DiskFailed) P none p = cc
 good_end (Err NoMemory) P none p = cc
@@ -59,7 +59,7 @@ good_end (Err WriteFailed) P none p = cc
 good_end (Err NotBuilt) P none p = cc
 
 -- status 3 is a disk's fault
-pub disk_end : (result : Result (Unit {0}) Stop) → status_in result ≡ 3 → result ≡ Err DiskFailed
+pub disk_end : (result : Result (Unit {0}) RunEnd) → status_in result ≡ 3 → result ≡ Err DiskFailed
 disk_end (Ok done) three = cc
 disk_end (Err DiskFailed) three = refl
 disk_end (Err NoMemory) three = cc
@@ -68,7 +68,7 @@ disk_end (Err WriteFailed) three = cc
 disk_end (Err NotBuilt) three = cc
 
 -- status 8 is what isn't built
-pub unbuilt_end : (result : Result (Unit {0}) Stop) → status_in result ≡ 8 → result ≡ Err NotBuilt
+pub unbuilt_end : (result : Result (Unit {0}) RunEnd) → status_in result ≡ 8 → result ≡ Err NotBuilt
 unbuilt_end (Ok done) eight = cc
 unbuilt_end (Err DiskFailed) eight = cc
 unbuilt_end (Err NoMemory) eight = cc
@@ -77,11 +77,11 @@ unbuilt_end (Err WriteFailed) eight = cc
 unbuilt_end (Err NotBuilt) eight = refl
 
 -- a run of lines that ends so
-abbrev ended : Stop → Result (Unit {0}) Stop
+abbrev ended : RunEnd → Result (Unit {0}) RunEnd
 ended stop = Err stop
 
 -- the same end
-pub end_is : (stop other : Stop) → ended stop ≡ ended other → stop ≡ other
+pub end_is : (stop other : RunEnd) → ended stop ≡ ended other → stop ≡ other
 end_is stop other e = cc
 
 -- the answer of a fault
@@ -89,7 +89,7 @@ abbrev fails : {T : Type 0} → LineFault → Result T LineFault
 fails {T} fault = Err fault
 
 -- status 5 is a read fault
-pub read_end : (result : Result (Unit {0}) Stop) → status_in result ≡ 5 → result ≡ Err ReadFailed
+pub read_end : (result : Result (Unit {0}) RunEnd) → status_in result ≡ 5 → result ≡ Err ReadFailed
 read_end (Ok done) five = cc
 read_end (Err DiskFailed) five = cc
 read_end (Err NoMemory) five = cc
@@ -98,7 +98,7 @@ read_end (Err WriteFailed) five = cc
 read_end (Err NotBuilt) five = cc
 
 -- each stop has a status
-pub stop_status : (stop : Stop) → IsStatus (status_of stop)
+pub stop_status : (stop : RunEnd) → IsStatus (status_of stop)
 stop_status DiskFailed = (3, omega arith, refl)
 stop_status NoMemory = (4, omega arith, refl)
 stop_status ReadFailed = (5, omega arith, refl)
@@ -106,7 +106,7 @@ stop_status WriteFailed = (6, omega arith, refl)
 stop_status NotBuilt = (8, omega arith, refl)
 
 -- each end has a status
-pub end_status : (result : Result (Unit {0}) Stop) → IsStatus (status_in result)
+pub end_status : (result : Result (Unit {0}) RunEnd) → IsStatus (status_in result)
 end_status (Ok done) = (0, omega arith, refl)
 end_status (Err stop) = stop_status stop
 
@@ -145,5 +145,10 @@ waiting_fault T LineFailed = omega arith
 waiting_fault T NoLineMemory = omega arith
 
 -- a line that isn't accepted is the one that waits
-pub waiting_stop : (stop : Stop) → (stop ≡ NoMemory) ⊎ (stop ≡ NotBuilt) → 1 ≤ most_waiting (status_of stop)
+pub waiting_stop : (stop : RunEnd) → (stop ≡ NoMemory) ⊎ (stop ≡ NotBuilt) → 1 ≤ most_waiting (status_of stop)
 waiting_stop stop refused = ⊎_elim (λ e. rw e (omega arith)) (λ e. rw e (omega arith)) refused
+
+-- a run that stops as the source failed stops at a line that couldn't be read
+pub failed_line : (fault : LineFault) → ◌≡◌ {A = Result (Unit {0}) RunEnd} (Err (line_stop fault)) (Err ReadFailed) → fault ≡ LineFailed
+failed_line LineFailed failed = refl
+failed_line NoLineMemory failed = cc

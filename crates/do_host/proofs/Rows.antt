@@ -13,11 +13,12 @@ use Rattle.object_core.specs.declared.object.Core.{Core}
 use Rattle.do_host.specs.Switch.{of_slot, text_of, events_in}
 use Rattle.do_host.specs.Served.{Stands, IsLogged, IsBlank, HasWritten, WritesFirstOf}
 use Rattle.do_host.specs.Report.{object_in, IsSlotHistory, StaysWithin, IsQuiet, HasDisk, HasFailedStore}
+use Rattle.do_host.specs.Limits.{synced_at}
 use Rattle.do_host.specs.Opened.{IsFresh, IsOpened, HasFailedDisk, row_of}
 use Rattle.line_server.specs.Going.{HasGiven}
 use Rattle.line_server.specs.Requests.{SeenLine}
 use Rattle.do_host.specs.declared.report.Report.{Report}
-use Rattle.do_host.specs.declared.stop.Stop.{Stop}
+use Rattle.do_host.specs.declared.run_end.RunEnd.{RunEnd}
 use Rattle.do_host.specs.declared.switch_log.SwitchLog.{SwitchLog}
 use Rattle.line_server.specs.declared.out_line.OutLine.{OutLine}
 use Rattle.do_host.proofs.Standing.{logged_at}
@@ -39,11 +40,12 @@ module _ {D : Type 0} where
     posts = rw (blank.posts, blank.accepted) refl;
     delivered = rw (blank.posts, fresh.delivered) refl;
     routed = rw (blank.routed, fresh.released) refl;
+    own = rw blank.routed (λ k d lt. absurd (omega arith));
     lines = rw (blank.lines, blank.routed) refl;
   }
 
   -- the logs fit at any end
-  ends_logged : (first : Option (List ℕ × List ℕ)) (core next : Core D) (log more : SwitchLog) (result : Result (Unit {0}) Stop) → Stands first core log [] []
+  ends_logged : (first : Option (List ℕ × List ℕ)) (core next : Core D) (log more : SwitchLog) (result : Result (Unit {0}) RunEnd) → Stands first core log [] []
       → OnOk result ((f : Option (List ℕ × List ℕ)) → Stands f core log [] [] → Stands f next more [] [])
       → OnErr result ((f : Option (List ℕ × List ℕ)) → Stands f core log [] [] → IsLogged f next more) → IsLogged first next more
   ends_logged first core next log more (Ok done) stands good bad = logged_at first next more [] [] (good first stands)
@@ -51,10 +53,10 @@ module _ {D : Type 0} where
 
   -- the row is the history of its slot
   pub row_history : (moment_of : D → ℕ) (left_since : D → ℕ → List ℕ → Type 0) (told : D → Option (List ℕ)) (image : D → List ℕ → Type 0) (content : Option (List ℕ)) (core next : Core D) (log more : SwitchLog)
-      (result : Result (Unit {0}) Stop) (opened : IsOpened moment_of left_since told image content core) → IsFresh core → IsBlank log
+      (result : Result (Unit {0}) RunEnd) (opened : IsOpened moment_of left_since told image content core) → IsFresh core → IsBlank log
       → OnOk result ((f : Option (List ℕ × List ℕ)) → Stands f core log [] [] → Stands f next more [] [])
       → OnErr result ((f : Option (List ℕ × List ℕ)) → Stands f core log [] [] → IsLogged f next more)
-      → IsHistoryOf moment_of left_since image 0 opened.start next → IsSlotHistory moment_of left_since image content more (row_of next)
+      → IsHistoryOf moment_of left_since image synced_at opened.start next → IsSlotHistory moment_of left_since image content more (row_of next)
   row_history moment_of left_since told image content core next log more result opened fresh blank good bad history =
       let ended : IsLogged (object_in opened.start) next more = ends_logged (object_in opened.start) core next log more result (stands_first (object_in opened.start) core log opened.object fresh blank) good bad in
       record {
@@ -67,7 +69,7 @@ module _ {D : Type 0} where
 
   -- no frame that a crash leaves passes the limit
   pub row_within : (moment_of : D → ℕ) (left_since : D → ℕ → List ℕ → Type 0) (told : D → Option (List ℕ)) (image : D → List ℕ → Type 0) (content : Option (List ℕ)) (core next : Core D)
-      (opened : IsOpened moment_of left_since told image content core) → limit_in next ≡ limit_in core → IsWithinLimit left_since 0 opened.start next → StaysWithin left_since content (row_of next)
+      (opened : IsOpened moment_of left_since told image content core) → limit_in next ≡ limit_in core → IsWithinLimit left_since synced_at opened.start next → StaysWithin left_since content (row_of next)
   row_within moment_of left_since told image content core next opened same within = record {
     start = opened.start;
     recovered = opened.recovered;
@@ -82,7 +84,7 @@ module _ {D : Type 0} where
       → IsQuiet content more (row_of next)
   row_quiet moment_of left_since told image content core next log more opened fresh blank stands_on serves =
       let stands : Stands (object_in opened.start) next more [] [] = stands_on (object_in opened.start) (stands_first (object_in opened.start) core log opened.object fresh blank) in
-      let serving : IsServing moment_of left_since told image 0 opened.start next = serves 0 opened.start opened.serving in
+      let serving : IsServing moment_of left_since told image synced_at opened.start next = serves synced_at opened.start opened.serving in
       record {
         start = opened.start;
         recovered = opened.recovered;
@@ -104,7 +106,7 @@ pub disk_unopened : {S : Type 0} (report : Report S) → report.slots.items ≡ 
 disk_unopened report none has = ⊎_elim (λ is. rw is refl) (λ row. absurd (let one : [] ≡ row.0 ∷ [] = sym none ∙ row.1 in cc)) has.1
 
 -- the first bytes of the lines were written, at any end
-pub ends_written : (result : Result (Unit {0}) Stop) (before after : Option (List ℕ)) (lines : List OutLine) → OnOk result (HasWritten before after lines)
+pub ends_written : (result : Result (Unit {0}) RunEnd) (before after : Option (List ℕ)) (lines : List OutLine) → OnOk result (HasWritten before after lines)
     → OnErr result (WritesFirstOf before after (text_of lines)) → WritesFirstOf before after (text_of lines)
 ends_written (Ok done) before after lines good bad = written_all before after lines good
 ends_written (Err stop) before after lines good bad = bad

@@ -1,6 +1,7 @@
 -- How the slot stands after each step of a line.
 use Rattle.std.proofs.Common.{◌≡◌, ◌≢◌, ℕ, List, [], ◌∷◌, ◌++◌, map, Option, None, Result, Err, ◌⊎◌, ⊎_elim, refl, sym, ap, ◌∙◌, append_assoc}
 use Rattle.std.proofs.lemmas.List.{append-nil, map-append}
+use Rattle.std.proofs.lemmas.List.Elements.{All-push}
 use Rattle.std.proofs.lemmas.Grind.{flat_map-append}
 use Rattle.object_core.specs.Serving.{object_of, front_of, back_of, Releases, SameLogs}
 use Rattle.object_core.specs.declared.object.CallEnd.{CallEnd}
@@ -34,6 +35,7 @@ module _ {D : Type 0} (first : Option (List ℕ × List ℕ)) where
   logged_at core log given waiting stands = record {
     switch = record {
       posts = ([], append-nil log.posts.items ∙ stands.posts);
+      own = stands.own;
       lines = ([], append-nil log.lines.items ∙ stands.lines);
     };
     slot = record {
@@ -51,6 +53,7 @@ module _ {D : Type 0} (first : Option (List ℕ × List ℕ)) where
     posts = same.posts ∙ stands.posts ∙ ap (posts_of first) (sym same.accepted);
     delivered = ap (of_slot 0) same.posts ∙ stands.delivered ∙ ap (λ events. map (λ event. event.1) events ++ given) (sym delivered);
     routed = ap (map (λ release. release.message)) released ∙ stands.routed ∙ ap (λ items. of_slot 0 items ++ waiting) (sym same.routed);
+    own = rw same.routed stands.own;
     lines = same.lines ∙ stands.lines ∙ ap lines_of (sym same.routed);
   }
 
@@ -78,6 +81,7 @@ module _ {D : Type 0} (first : Option (List ℕ × List ℕ)) where
             ∙ sym (append_assoc (events_in (front_of core)) (binds None bound) (posted ∷ []))
             ∙ ap (λ r. r ++ posted ∷ []) (sym delivered);
         routed = ap (map (λ release. release.message)) released ∙ stands.routed ∙ ap (λ items. of_slot 0 items ++ []) (sym routed);
+        own = rw routed stands.own;
         lines = lines ∙ stands.lines ∙ ap lines_of (sym routed);
       }
 
@@ -92,6 +96,7 @@ module _ {D : Type 0} (first : Option (List ℕ × List ℕ)) where
     posts = stands.posts;
     delivered = stands.delivered ∙ sym delivered ∙ sym (append-nil (events_in (front_of next)));
     routed = released ∙ ap (λ r. r ++ message ∷ []) (stands.routed ∙ append-nil (of_slot 0 log.routed.items));
+    own = stands.own;
     lines = stands.lines;
   }
 
@@ -106,6 +111,7 @@ module _ {D : Type 0} (first : Option (List ℕ × List ℕ)) where
     posts = stands.posts;
     delivered = stands.delivered ∙ sym delivered ∙ sym (append-nil (events_in (front_of next)));
     routed = ap (map (λ release. release.message)) released ∙ stands.routed;
+    own = stands.own;
     lines = stands.lines;
   }
 
@@ -116,6 +122,7 @@ module _ {D : Type 0} (first : Option (List ℕ × List ℕ)) where
     posts = routes.posts ∙ stands.posts ∙ ap (posts_of first) (sym routes.accepted);
     delivered = ap (of_slot 0) routes.posts ∙ stands.delivered;
     routed = stands.routed ∙ sym (of_slot_append 0 log.routed.items ((0, message) ∷ [])) ∙ ap (of_slot 0) (sym routes.routed) ∙ sym (append-nil (of_slot 0 more.routed.items));
+    own = rw routes.routed (let IsOwn : ℕ × Message → Type 0 = λ item. item.0 ≡ 0 in All-push IsOwn log.routed.items (0, message) stands.own refl);
     lines = routes.lines ∙ ap (λ r. r ++ line_of message) stands.lines ∙ ap (λ r. lines_of log.routed.items ++ r) (sym (append-nil (line_of message)))
         ∙ sym (flat_map-append (λ item. line_of item.1) log.routed.items ((0, message) ∷ [])) ∙ ap lines_of (sym routes.routed);
   }
@@ -126,6 +133,7 @@ module _ {D : Type 0} (first : Option (List ℕ × List ℕ)) where
   logged_same core next log more given waiting stands same delivered released = record {
     switch = record {
       posts = ([], append-nil more.posts.items ∙ same.posts ∙ stands.posts ∙ ap (posts_of first) (sym same.accepted));
+      own = rw same.routed stands.own;
       lines = ([], append-nil more.lines.items ∙ same.lines ∙ stands.lines ∙ ap lines_of (sym same.routed));
     };
     slot = record {

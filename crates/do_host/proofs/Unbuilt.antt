@@ -1,12 +1,18 @@
 -- What a run that ends with status 8 met.
-use Rattle.std.proofs.Common.{◌≡◌, ◌≢◌, ◌⊎◌, ⊎_elim, inl, inr, ℕ, List, [], ◌∷◌, ◌++◌, map, Option, Result, Err, refl, sym, ap, subst, ◌∙◌, arith}
+use Rattle.std.proofs.Common.{◌≡◌, ◌≢◌, ◌⊎◌, ⊎_elim, inl, inr, ℕ, ◌+◌, List, [], ◌∷◌, ◌++◌, map, length, Option, Some, Result, Err, refl, sym, ap, subst, ◌∙◌, arith}
 use Rattle.do_disk.specs.Disk.{IfTold}
-use Rattle.batch_journal.specs.Frames.{Frame, batches_in}
+use Rattle.batch_journal.specs.Frames.{Frame, journal_bytes, batches_in}
+use Rattle.batch_journal.specs.Staged.{frame_of}
 use Rattle.batch_journal.proofs.Journals.{length-journal_push}
 use Rattle.object_core.specs.Said.{spoken, batches_of, operations}
 use Rattle.object_core.specs.Told.{stored_by}
 use Rattle.object_core.specs.Kept.{NameOnly}
-use Rattle.object_core.specs.Serving.{IsServing, IsFullCall, limit_in, object_of, front_of}
+use Rattle.object_core.specs.Named.{frames_after}
+use Rattle.object_core.specs.History.{line}
+use Rattle.storage_map.specs.Stored.{value_in}
+use Rattle.storage_map.specs.declared.op.Op.{Op}
+use Rattle.object_core.specs.Serving.{IsServing, IsFullCall, limit_in, object_of, map_of, front_of, back_of}
+use Rattle.object_core.proofs.Naming.{asked_frame, each_named, frames_on}
 use Rattle.object_core.proofs.Saying.{event_says-same}
 use Rattle.object_core.specs.declared.timeline.Event.{Event}
 use Rattle.object_core.specs.declared.object.CallEnd.{CallEnd}
@@ -15,7 +21,8 @@ use Rattle.object_core.specs.declared.object.Core.{Core}
 use Rattle.object_core.specs.declared.timeline.Message.{Message}
 use Rattle.do_host.specs.FirstForm.{IsFirstLine}
 use Rattle.line_server.specs.Lines.{IsReading, IsFirstOf, source_of}
-use Rattle.do_host.specs.NotBuilt.{MeetsLimit, IsNotBuilt, AreFirstLines, IsFormed, EndsAtOdd, EndsAtLimit}
+use Rattle.do_host.specs.NotBuilt.{line_told, MeetsLimit, IsNotBuilt, AreFirstLines, IsFormed, EndsAtOdd, EndsAtLimit}
+use Rattle.do_host.specs.Limits.{synced_at}
 use Rattle.do_host.specs.Opened.{IsFresh, IsOpened, row_of}
 use Rattle.do_host.specs.Report.{object_in}
 use Rattle.line_server.specs.Seen.{seen}
@@ -26,12 +33,18 @@ use Rattle.line_server.specs.declared.line.Line.{Line}
 use Rattle.line_server.specs.declared.lines.Lines.{Lines}
 use Rattle.do_host.specs.declared.switch_log.SwitchLog.{SwitchLog}
 use Rattle.do_host.proofs.Rows.{stands_first}
-use Rattle.do_host.specs.declared.stop.Stop.{Stop}
-use Rattle.do_host.specs.declared.stop.Stop.TheVariants.{NotBuilt}
+use Rattle.do_host.specs.declared.run_end.RunEnd.{RunEnd}
+use Rattle.do_host.specs.declared.run_end.RunEnd.TheVariants.{NotBuilt}
 
 -- the answer of a refused call
 abbrev refused : CallEnd → Result Message CallEnd
 refused end = Err end
+
+-- a list of one batch is that batch
+one_batch : (batches : List (List Op)) → length batches ≡ 1 → (batch : List Op) × (batches ≡ batch ∷ [])
+one_batch [] one = cc
+one_batch (batch ∷ []) one = (batch, refl)
+one_batch (batch ∷ more ∷ batches) one = absurd (omega (arith, one))
 
 -- a call that was refused as Full meets the journal's limit
 meets_limit : {D : Type 0} (moment_of : D → ℕ) (left_since : D → ℕ → List ℕ → Type 0) (told_by : D → Option (List ℕ)) (image : D → List ℕ → Type 0) (since : ℕ) (start : List Frame) (core next : Core D) (event : Event) (n limit : ℕ)
@@ -40,18 +53,28 @@ meets_limit : {D : Type 0} (moment_of : D → ℕ) (left_since : D → ℕ → L
     → MeetsLimit (limit_in core) start (object_of next) (front_of next)
 meets_limit moment_of left_since told_by image since start core next event n limit serving full delivered same =
     let asked = full.only n limit refl in
+    let frame : Frame = asked.0 in
+    let one : (batch : List Op) × (frame.batches ≡ batch ∷ []) = one_batch frame.batches asked.1.2 in
+    let told_before : List (List Op) = line_told start (front_of core).delivered.items in
+    let is_line : line (back_of core) ≡ told_before = ap batches_of (ap spoken serving.history.taken ∙ serving.history.said) in
+    let named : NameOnly (Some frame.object) serving.frames = subst (λ (object : Option (List ℕ × List ℕ)). NameOnly object serving.frames) asked.1.0 serving.named in
+    let frame_is : frame ≡ frame_of frame.object (one.0 ∷ []) = asked_frame frame frame.object one.0 refl (sym one.1) in
+    let frames : serving.frames ++ frame ∷ [] ≡ frames_after start frame.object (told_before ++ one.0 ∷ []) =
+    ap (λ (all : List Frame). all ++ frame ∷ []) (each_named start frame.object (line (back_of core)) serving.frames serving.one_each named)
+    ∙ ap (λ (last : Frame). frames_after start frame.object (line (back_of core)) ++ last ∷ []) frame_is
+    ∙ frames_on start frame.object (line (back_of core)) one.0
+    ∙ ap (λ (all : List (List Op)). frames_after start frame.object (all ++ one.0 ∷ [])) is_line in
+    let values : (key : List ℕ) → value_in (map_of core) key ≡ stored_by (operations (batches_in start ++ told_before)) key =
+    λ key. serving.values key ∙ ap (λ (all : List (List Op)). stored_by (operations (batches_in start ++ all)) key) is_line in
     record {
       before = (front_of core).delivered.items;
       event = event;
       last = delivered;
-      frames = serving.frames;
-      of_grammar = serving.at_rest.of_grammar;
-      named = subst (λ object. NameOnly object serving.frames) (sym same) serving.named;
-      batches = serving.batches ∙ ap (λ said. batches_in start ++ batches_of said) (ap spoken serving.history.taken ∙ serving.history.said);
-      frame = asked.0;
-      frame_named = same ∙ asked.1.0;
-      asked = sym asked.1.1 ∙ ap batches_of (event_says-same _ _ event (λ key. serving.values key ∙ ap (λ batches. stored_by (operations batches) key) (sym serving.batches)));
-      past = omega (arith, asked.2, serving.at_rest.end, length-journal_push serving.frames asked.0);
+      named = frame.object;
+      object_is = same ∙ asked.1.0;
+      batch = one.0;
+      asked = sym (ap batches_of (event_says-same (value_in (map_of core)) (stored_by (operations (batches_in start ++ told_before))) event values)) ∙ asked.1.1 ∙ one.1;
+      past = omega (arith, asked.2, serving.at_rest.end, length-journal_push serving.frames frame, ap (λ (all : List Frame). length (journal_bytes all)) frames);
     }
 
 -- a call that ends as what isn't built was refused as Full, and meets the journal's limit
@@ -86,7 +109,7 @@ row_not_built moment_of left_since told_by image left content core next log more
     line = odd.line;
     next = λ whole told. odd.next whole (reading whole told);
     odd = odd.odd (object_in opened.start) (stands_first (object_in opened.start) core log opened.object fresh blank);
-  })) (λ full. inr (subst (λ limit. MeetsLimit limit opened.start (object_of next) (front_of next)) opened.limit (full 0 opened.start opened.serving))) cause;
+  })) (λ full. inr (subst (λ limit. MeetsLimit limit opened.start (object_of next) (front_of next)) opened.limit (full synced_at opened.start opened.serving))) cause;
 }
 
 -- a line more of the first form
@@ -115,7 +138,7 @@ row_formed moment_of left_since told_by image content core log more opened fresh
 }
 
 -- the line at which a run stops was accepted as one of the first form, or it wasn't
-pub formed_at_stop : {D : Type 0} (core : Core D) (log more : SwitchLog) (line : Line) (stop : Stop) (first : Option (List ℕ × List ℕ)) → Stands first core log [] [] → StopsAt (object_of core) line log more stop
+pub formed_at_stop : {D : Type 0} (core : Core D) (log more : SwitchLog) (line : Line) (stop : RunEnd) (first : Option (List ℕ × List ℕ)) → Stands first core log [] [] → StopsAt (object_of core) line log more stop
     → AreFirstLines first log.accepted.items → AreFirstLines first more.accepted.items
 formed_at_stop core log more line stop first stands stops are =
     ⊎_elim (λ same. subst (AreFirstLines first) (sym same.0) are) (λ one. formed_on core log more line first stands one.0 are one.1) stops

@@ -10,8 +10,8 @@ use Rattle.do_host.specs.SlotLines.{bad_slot_line}
 use Rattle.do_host.specs.Status.{status_of}
 use Rattle.do_host.specs.declared.early_end.EarlyEnd.{EarlyEnd}
 use Rattle.do_host.specs.declared.early_end.EarlyEnd.TheVariants.{Refused, BadSlot, Stopped}
-use Rattle.do_host.specs.declared.stop.Stop.{Stop}
-use Rattle.do_host.specs.declared.stop.Stop.TheVariants.{DiskFailed, NoMemory, NotBuilt}
+use Rattle.do_host.specs.declared.run_end.RunEnd.{RunEnd}
+use Rattle.do_host.specs.declared.run_end.RunEnd.TheVariants.{DiskFailed, NoMemory, NotBuilt}
 
 -- the run ends so, as its script is refused with this line
 abbrev pub IsRefusedBy : {T : Type 0} → Result T EarlyEnd → List ℕ → Type 0
@@ -22,7 +22,7 @@ abbrev pub IsBarredBy : {T : Type 0} → Result T EarlyEnd → List ℕ → Type
 IsBarredBy result line = (bytes : Vec ℕ Global) × (result ≡ Err (BadSlot bytes)) × (bytes.items ≡ line)
 
 -- the run ends so, for this reason
-abbrev pub IsStoppedBy : {T : Type 0} → Result T EarlyEnd → Stop → Type 0
+abbrev pub IsStoppedBy : {T : Type 0} → Result T EarlyEnd → RunEnd → Type 0
 IsStoppedBy result stop = result ≡ Err (Stopped stop)
 
 -- opening a slot stops: its file is bad, the depot or the disk failed, or memory was wanting

@@ -1,3 +1,4 @@
+pub mod Limits
 pub mod FirstForm
 pub mod Scripts
 pub mod ScriptLines
@@ -12,3 +13,4 @@ pub mod SlotLines
 pub mod Dump
 pub mod Opened
 pub mod NotBuilt
+pub mod Runs

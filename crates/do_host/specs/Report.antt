@@ -5,10 +5,11 @@ use Rattle.batch_journal.specs.Frames.{Frame}
 use Rattle.batch_journal.specs.Recovery.{Recovers}
 use Rattle.object_core.specs.Said.{spoken, messages_in}
 use Rattle.object_core.specs.History.{IsHistory, line, needs_of}
+pub use Rattle.object_core.specs.Named.{object_in}
 use Rattle.object_core.specs.Within.{RecoversWithin}
 use Rattle.do_host.specs.Switch.{of_slot, posts_of, lines_of, events_in, messages_of, IsSwitchRun, IsServedBy}
+use Rattle.do_host.specs.Limits.{most_journal_bytes, synced_at}
 use Rattle.do_host.specs.Served.{IsBlank}
-use Rattle.do_host.specs.declared.TheConstants.{MOST_JOURNAL_BYTES}
 use Rattle.do_host.specs.declared.report.Report.{Report}
 use Rattle.do_host.specs.declared.report.SlotReport.{SlotReport}
 use Rattle.do_host.specs.declared.switch_log.SwitchLog.{SwitchLog}
@@ -56,26 +57,22 @@ pub record IsEmpty {S : Type 0} (report : Report S) : Type 0 where
   pub switch : IsBlank report.switch
   pub lines : report.lines ≡ 0
 
--- the object that the frames name, where there are any
-abbrev pub object_in : List Frame → Option (List ℕ × List ℕ)
-object_in [] = None
-object_in (frame ∷ frames) = Some frame.object
-
 -- What a row tells of a slot whose file had this content when its disk was handed out: the logs are the history of its
--- object since then, from the frames that the file recovers to, and they fit the switch's log, as that is one.
+-- object since the mounting's first sync, from the frames that the file recovers to, and they fit the switch's log, as that is
+-- one.
 pub record IsSlotHistory {S : Type 0} (moment_of : S → ℕ) (left_since : S → ℕ → List ℕ → Type 0) (image : S → List ℕ → Type 0) (content : Option (List ℕ)) (switch : SwitchLog) (row : SlotReport S) : Type 0 where
   pub start : List Frame
   pub recovered : IfTold content (λ c. Recovers c start)
-  pub history : IsHistory moment_of left_since image 0 start row.store row.identity row.front row.back
+  pub history : IsHistory moment_of left_since image synced_at start row.store row.identity row.front row.back
   pub run : IsSwitchRun (object_in start) switch
   pub served : IsServedBy 0 switch row.front row.back
 
--- The slot's file recovered to these frames, and whatever a crash has left since its disk was handed out has no further frame
+-- The slot's file recovered to these frames, and whatever a crash has left since the mounting's first sync has no further frame
 -- that passes the limit of a journal.
 pub record StaysWithin {S : Type 0} (left_since : S → ℕ → List ℕ → Type 0) (content : Option (List ℕ)) (row : SlotReport S) : Type 0 where
   pub start : List Frame
   pub recovered : IfTold content (λ c. Recovers c start)
-  pub within : (c : List ℕ) → left_since row.store 0 c → RecoversWithin MOST_JOURNAL_BYTES start row.identity (line row.back) c
+  pub within : (c : List ℕ) → left_since row.store synced_at c → RecoversWithin most_journal_bytes start row.identity (line row.back) c
 
 -- Nothing is under way: all that the accepted lines post was posted, each post was delivered, each batch is durable, each
 -- message left and was routed, and each routed message has its line.

@@ -3,7 +3,7 @@ use Rattle.std.specs.Prelude.{◌≡◌, ◌≤◌, ◌<◌, ◌⊎◌, ℕ, Lis
 use Rattle.do_lex.specs.Cut.{IsCut}
 use Rattle.do_lex.specs.declared.kind.Kind.{Kind}
 use Rattle.do_lex.specs.declared.pieces.Span.{Span}
-use Rattle.do_lex.specs.declared.pieces.TheConstants.{LONGEST_SCRIPT}
+use Rattle.do_lex.specs.Limits.{most_script_bytes}
 use Rattle.do_parse.specs.Fault.{IsFaultAt}
 use Rattle.do_parse.specs.declared.fault.ParseKind.{ParseKind}
 use Rattle.do_parse.specs.declared.fault.ParseKind.TheVariants as wrong
@@ -16,7 +16,7 @@ use Rattle.do_host.specs.declared.script.TheConstants.{PUT_AND_READ}
 
 -- The text is this script and no other one, and the check finds no fault in it.
 pub record IsAccepted (text : List ℕ) (tree : Script) : Type 0 where
-  pub short : length text ≤ LONGEST_SCRIPT
+  pub short : length text ≤ most_script_bytes
   pub read : IsScriptText text tree
   pub only : (other : Script) → IsScriptText text other → other ≡ tree
   pub faultless : IsFaultless tree
@@ -52,7 +52,7 @@ check_word kind.NoMemory = None
 pub record IsUnread (text : List ℕ) (place : ℕ) (word : List ℕ) : Type 0 where
   pub kind : ParseKind
   pub named : parse_word kind ≡ Some word
-  pub at_once : LONGEST_SCRIPT < length text → kind ≡ wrong.TooLong
+  pub at_once : most_script_bytes < length text → kind ≡ wrong.TooLong
   pub fault : IsFaultAt text kind place
 
 -- The text is one script, in which the check finds this first fault.
@@ -60,7 +60,7 @@ pub record IsFaulty (text : List ℕ) (place : ℕ) (word : List ℕ) : Type 0 w
   pub kind : CheckKind
   pub named : check_word kind ≡ Some word
   pub tree : Script
-  pub short : length text ≤ LONGEST_SCRIPT
+  pub short : length text ≤ most_script_bytes
   pub read : IsScriptText text tree
   pub only : (other : Script) → IsScriptText text other → other ≡ tree
   pub fault : IsFirstFault tree place kind

@@ -1,6 +1,7 @@
 -- The one slot between the steps of a run, and at its end.
 use Rattle.std.specs.Prelude.{◌≡◌, ◌⊎◌, ◌≤◌, ◌+◌, ℕ, List, [], ◌∷◌, ◌++◌, length, take, Option, option_map, vec_len}
 use Rattle.std.specs.Vec.{vec_capacity}
+use Rattle.std.specs.List.{All}
 use Rattle.object_core.specs.Serving.{object_of, front_of, back_of}
 use Rattle.object_core.specs.declared.object.Core.{Core}
 use Rattle.object_core.specs.declared.timeline.Event.{Event}
@@ -9,24 +10,33 @@ use Rattle.do_host.specs.FirstForm.{IsFirstLine}
 use Rattle.do_host.specs.Switch.{of_slot, object_through, posts_of, line_of, lines_of, text_of, events_in, messages_of, IsSwitchRun, IsServedBy}
 use Rattle.line_server.specs.declared.line.Line.{Line}
 use Rattle.line_server.specs.declared.out_line.OutLine.{OutLine}
-use Rattle.do_host.specs.declared.stop.Stop.{Stop}
-use Rattle.do_host.specs.declared.stop.Stop.TheVariants.{NoMemory, NotBuilt}
+use Rattle.do_host.specs.declared.run_end.RunEnd.{RunEnd}
+use Rattle.do_host.specs.declared.run_end.RunEnd.TheVariants.{NoMemory, NotBuilt}
 use Rattle.do_host.specs.declared.switch_log.SwitchLog.{SwitchLog}
 
 -- Between two steps of a slot that had this object at first: its object is that of the accepted lines, all that they post
--- was posted, all of that but these events was delivered, all that was released but these messages was routed, and each
--- routed message has its line.
+-- was posted, all of that but these events was delivered, all that was released but these messages was routed, each routed
+-- message is of slot 0, and each has its line.
 pub record Stands {D : Type 0} (first : Option (List ℕ × List ℕ)) (core : Core D) (log : SwitchLog) (given : List Event) (waiting : List Message) : Type 0 where
   pub object : object_of core ≡ object_through first log.accepted.items
   pub posts : log.posts.items ≡ posts_of first log.accepted.items
   pub delivered : of_slot 0 log.posts.items ≡ events_in (front_of core) ++ given
   pub routed : messages_of (back_of core) ≡ of_slot 0 log.routed.items ++ waiting
+  pub own : All (λ item. item.0 ≡ 0) log.routed.items
   pub lines : log.lines.items ≡ lines_of log.routed.items
+
+-- where it stood between two steps, it does so again
+abbrev pub KeepsStanding : {D : Type 0} → Core D → Core D → SwitchLog → SwitchLog → Type 0
+KeepsStanding old new log more = (first : Option (List ℕ × List ℕ)) → Stands first old log [] [] → Stands first new more [] []
 
 -- At any end: the log is one of the switch, and the slot's logs fit it.
 pub record IsLogged {D : Type 0} (first : Option (List ℕ × List ℕ)) (core : Core D) (log : SwitchLog) : Type 0 where
   pub switch : IsSwitchRun first log
   pub slot : IsServedBy 0 log (front_of core) (back_of core)
+
+-- where it stood between two steps, this is an end
+abbrev pub KeepsLogged : {D : Type 0} → Core D → Core D → SwitchLog → SwitchLog → Type 0
+KeepsLogged old new log more = (first : Option (List ℕ × List ℕ)) → Stands first old log [] [] → IsLogged first new more
 
 -- the log says the same, in other memory
 pub record SameSwitch (old new : SwitchLog) : Type 0 where
@@ -54,7 +64,7 @@ pub record Routes (message : Message) (old new : SwitchLog) : Type 0 where
 
 -- The line at which a run stops wasn't accepted, for want of memory or as what isn't built yet; or it was, as one of the first
 -- form for the slot's object.
-abbrev pub StopsAt : Option (List ℕ × List ℕ) → Line → SwitchLog → SwitchLog → Stop → Type 0
+abbrev pub StopsAt : Option (List ℕ × List ℕ) → Line → SwitchLog → SwitchLog → RunEnd → Type 0
 StopsAt object line old new stop =
     ((new.accepted.items ≡ old.accepted.items) × ((stop ≡ NoMemory) ⊎ (stop ≡ NotBuilt)))
     ⊎ ((new.accepted.items ≡ old.accepted.items ++ line ∷ []) × IsFirstLine object line)

@@ -8,8 +8,8 @@ use Rattle.object_core.specs.declared.object.CallEnd.{CallEnd}
 use Rattle.object_core.specs.declared.object.CallEnd.TheVariants.{DiskFailed as CallFailed, Full, NoMemory as NoCallMemory}
 use Rattle.line_server.specs.declared.fault.LineFault.{LineFault}
 use Rattle.line_server.specs.declared.fault.LineFault.TheVariants.{ReadFailed as LineFailed, NoMemory as NoLineMemory}
-use Rattle.do_host.specs.declared.stop.Stop.{Stop}
-use Rattle.do_host.specs.declared.stop.Stop.TheVariants.{DiskFailed, NoMemory, ReadFailed, WriteFailed, NotBuilt}
+use Rattle.do_host.specs.declared.run_end.RunEnd.{RunEnd}
+use Rattle.do_host.specs.declared.run_end.RunEnd.TheVariants.{DiskFailed, NoMemory, ReadFailed, WriteFailed, NotBuilt}
 
 -- a status that a run may end with: 0 for all lines served or a script that is accepted, 1 for words that aren't taken, and
 -- those above
@@ -37,7 +37,7 @@ IsSilentStatus status = (status ≢ 0) × (status ≢ 1) × (status ≢ 2) × (s
 abbrev pub most_waiting : ℕ → ℕ
 most_waiting status = if (status == 4) || (status == 8) then 1 else 0
 
-abbrev pub status_of : Stop → ℕ
+abbrev pub status_of : RunEnd → ℕ
 status_of DiskFailed = 3
 status_of NoMemory = 4
 status_of ReadFailed = 5
@@ -45,20 +45,20 @@ status_of WriteFailed = 6
 status_of NotBuilt = 8
 
 -- the status of a run of lines
-abbrev pub status_in : Result (Unit {0}) Stop → ℕ
+abbrev pub status_in : Result (Unit {0}) RunEnd → ℕ
 status_in (Ok done) = 0
 status_in (Err stop) = status_of stop
 
-abbrev pub line_stop : LineFault → Stop
+abbrev pub line_stop : LineFault → RunEnd
 line_stop LineFailed = ReadFailed
 line_stop NoLineMemory = NoMemory
 
 -- a full journal is what isn't built yet
-abbrev pub call_stop : CallEnd → Stop
+abbrev pub call_stop : CallEnd → RunEnd
 call_stop CallFailed = DiskFailed
 call_stop (Full needed limit) = NotBuilt
 call_stop NoCallMemory = NoMemory
 
-abbrev pub depot_stop : DepotFault → Stop
+abbrev pub depot_stop : DepotFault → RunEnd
 depot_stop Failed = DiskFailed
 depot_stop NoDepotMemory = NoMemory

@@ -1,7 +1,7 @@
 -- What passes between the lines and the one slot: posts from lines, and lines from messages. This project's profile: a
 -- call is posted to its object's slot, behind a `Bind` where the slot is new; a routed reply to a request gives one line.
-use Rattle.std.specs.Prelude.{ℕ, List, [], ◌∷◌, ◌++◌, map, Option, Some, None, Result, Ok, Err, if◌then◌else◌, ◌==◌, pos, codes}
-use Rattle.std.specs.List.{flat_map}
+use Rattle.std.specs.Prelude.{◌≡◌, ℕ, List, [], ◌∷◌, ◌++◌, map, Option, Some, None, Result, Ok, Err, if◌then◌else◌, ◌==◌, pos, codes}
+use Rattle.std.specs.List.{All, flat_map}
 use Rattle.std.specs.Str.{bytes_eq}
 use Rattle.object_core.specs.Said.{IsPrefix}
 use Rattle.object_core.specs.declared.timeline.Caller.{Caller}
@@ -110,10 +110,11 @@ events_in front = map (λ delivered. delivered.1) front.delivered.items
 abbrev pub messages_of : BackLog → List Message
 messages_of back = map (λ release. release.message) back.released.items
 
--- The log is one of a switch whose slot had this object at first: its posts begin those of the accepted lines, and its lines
--- those of the routed messages.
+-- The log is one of a switch with slot 0 alone, which had this object at first: its posts begin those of the accepted lines,
+-- each routed message is of that slot, and its lines begin those of the routed messages.
 pub record IsSwitchRun (first : Option (List ℕ × List ℕ)) (log : SwitchLog) : Type 0 where
   pub posts : IsPrefix log.posts.items (posts_of first log.accepted.items)
+  pub own : All (λ item. item.0 ≡ 0) log.routed.items
   pub lines : IsPrefix log.lines.items (lines_of log.routed.items)
 
 -- What was delivered to the slot's object begins what was posted to the slot, and what was routed from it begins what it

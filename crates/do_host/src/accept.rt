@@ -7,8 +7,8 @@ ghost use Rattle.do_host.specs.Scripts as spec;
 ghost use Rattle.do_host.specs.Scripts.{IsAccepted};
 
 use crate::early_end::EarlyEnd;
+use crate::run_end::RunEnd;
 use crate::script_lines::refused_line;
-use crate::stop::Stop;
 use do_check::check;
 use do_parse::{ParseKind, parse};
 use do_tree::{CheckKind, Checked};
@@ -18,10 +18,10 @@ use std::alloc::Global;
 pub(crate) fn accept(alloc: Global, text: &[u8]) -> Result<Checked, EarlyEnd>
     ensures accepted { IfOk result (λ checked. IsAccepted text.now (tree_of checked)) }
     ensures refused { (line : List ℕ) → IsRefusedBy result line → IsRefusalLine text.now line }
-    ensures stopped { OnErr result (((line : List ℕ) × IsRefusedBy result line) ⊎ IsStoppedBy result Stop.NoMemory) }
+    ensures stopped { OnErr result (((line : List ℕ) × IsRefusedBy result line) ⊎ IsStoppedBy result RunEnd.NoMemory) }
 {
     match parse(alloc, text) {
-        Ok(script) => match check(script) {
+        Ok(script) => match check(alloc, script) {
             Ok(checked) => Ok(checked),
             Err(fault) => Err(refuse(alloc, fault.place, check_word(fault.kind))),
         },
@@ -34,11 +34,11 @@ fn refuse(alloc: Global, place: u32, word: Option<&'static str>) -> EarlyEnd
     ensures { Refuses place (option_map (λ text. text.now) word.entry) result }
 {
     let Some(word) = word else {
-        return EarlyEnd::Stopped(Stop::NoMemory);
+        return EarlyEnd::Stopped(RunEnd::NoMemory);
     };
     match refused_line(alloc, place, word) {
         Ok(line) => EarlyEnd::Refused(line),
-        Err(_) => EarlyEnd::Stopped(Stop::NoMemory),
+        Err(_) => EarlyEnd::Stopped(RunEnd::NoMemory),
     }
 }
 

@@ -4,8 +4,8 @@ ghost use Rattle.batch_journal.specs.Mounting.{disk_left};
 ghost use Rattle.do_host.specs.EarlyEnds.{Bars, EndsMounting};
 
 use crate::early_end::EarlyEnd;
+use crate::run_end::RunEnd;
 use crate::slot_lines::{mixed_line, place_line};
-use crate::stop::Stop;
 use batch_journal::MountFault;
 use do_value::Mem;
 use std::alloc::Global;
@@ -28,11 +28,11 @@ fn end_for<D>(alloc: Global, fault: &MountFault<D>) -> EarlyEnd
     ensures { EndsMounting fault.now result }
 {
     match fault {
-        MountFault::DiskFailed(_) => EarlyEnd::Stopped(Stop::DiskFailed),
+        MountFault::DiskFailed(_) => EarlyEnd::Stopped(RunEnd::DiskFailed),
         MountFault::Foreign { place, .. } => bar(place_line(alloc, "foreign", *place)),
         MountFault::Damaged { place, .. } => bar(place_line(alloc, "damaged", *place)),
         MountFault::Mixed { first, other, .. } => bar(mixed_line(alloc, first, other)),
-        MountFault::NoMemory(_) => EarlyEnd::Stopped(Stop::NoMemory),
+        MountFault::NoMemory(_) => EarlyEnd::Stopped(RunEnd::NoMemory),
     }
 }
 
@@ -42,7 +42,7 @@ fn bar(line: Mem<Vec<u8>>) -> EarlyEnd
 {
     match line {
         Ok(line) => EarlyEnd::BadSlot(line),
-        Err(_) => EarlyEnd::Stopped(Stop::NoMemory),
+        Err(_) => EarlyEnd::Stopped(RunEnd::NoMemory),
     }
 }
 

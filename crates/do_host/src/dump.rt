@@ -4,8 +4,8 @@ ghost use Rattle.std.specs.FinMap.{entries};
 ghost use Rattle.do_disk.specs.Disk.{Rose};
 ghost use Rattle.do_host.specs.Dump.{dump_text, pairs_text, alarm_text, Writes};
 
+use crate::run_end::RunEnd;
 use crate::slot_lines::{alarm_line, object_line, pair_line};
-use crate::stop::Stop;
 use do_disk::Sink;
 use do_value::Mem;
 use line_server::put;
@@ -19,27 +19,27 @@ pub(crate) fn dump<W: Sink>(
     object: Option<&Identity>,
     map: Map,
     out: &mut W,
-) -> Result<(), Stop>
+) -> Result<(), RunEnd>
     ensures writes { Writes (W.taken out.old) (W.taken out.new) (dump_text (option_map (λ object. object.now) object.entry) map) result }
-    ensures stop { OnErr result ((result ≡ Err Stop.WriteFailed) ⊎ (result ≡ Err Stop.NoMemory)) }
-    ensures failed { IsErrOf result Stop.WriteFailed → Rose (W.faults_of out.old) (W.faults_of out.new) }
+    ensures stop { OnErr result ((result ≡ Err RunEnd.WriteFailed) ⊎ (result ≡ Err RunEnd.NoMemory)) }
+    ensures failed { IsErrOf result RunEnd.WriteFailed → Rose (W.faults_of out.old) (W.faults_of out.new) }
     ensures steady { OnOk result (W.faults_of out.new ≡ W.faults_of out.old) }
 {
     let Some(object) = object else {
         return Ok(());
     };
     let alarm = map.alarm();
-    let cache = Cache::new(alloc, map);
+    let cache = Cache::new(map);
     put_line(object_line(alloc, object), out)?;
     dump_pairs(alloc, &cache, out)?;
     dump_alarm(alloc, alarm, out)
 }
 
 // Writes the pairs, ascending by key.
-fn dump_pairs<W: Sink>(alloc: Global, cache: &Cache, out: &mut W) -> Result<(), Stop>
+fn dump_pairs<W: Sink>(alloc: Global, cache: &Cache, out: &mut W) -> Result<(), RunEnd>
     ensures writes { Writes (W.taken out.old) (W.taken out.new) (pairs_text (entries cache.now.values)) result }
-    ensures stop { OnErr result ((result ≡ Err Stop.WriteFailed) ⊎ (result ≡ Err Stop.NoMemory)) }
-    ensures failed { IsErrOf result Stop.WriteFailed → Rose (W.faults_of out.old) (W.faults_of out.new) }
+    ensures stop { OnErr result ((result ≡ Err RunEnd.WriteFailed) ⊎ (result ≡ Err RunEnd.NoMemory)) }
+    ensures failed { IsErrOf result RunEnd.WriteFailed → Rose (W.faults_of out.old) (W.faults_of out.new) }
     ensures steady { OnOk result (W.faults_of out.new ≡ W.faults_of out.old) }
 {
     let all = Options {
@@ -56,10 +56,10 @@ fn dump_pairs<W: Sink>(alloc: Global, cache: &Cache, out: &mut W) -> Result<(), 
     Ok(())
 }
 
-fn dump_alarm<W: Sink>(alloc: Global, alarm: Option<Alarm>, out: &mut W) -> Result<(), Stop>
+fn dump_alarm<W: Sink>(alloc: Global, alarm: Option<Alarm>, out: &mut W) -> Result<(), RunEnd>
     ensures writes { Writes (W.taken out.old) (W.taken out.new) (alarm_text alarm) result }
-    ensures stop { OnErr result ((result ≡ Err Stop.WriteFailed) ⊎ (result ≡ Err Stop.NoMemory)) }
-    ensures failed { IsErrOf result Stop.WriteFailed → Rose (W.faults_of out.old) (W.faults_of out.new) }
+    ensures stop { OnErr result ((result ≡ Err RunEnd.WriteFailed) ⊎ (result ≡ Err RunEnd.NoMemory)) }
+    ensures failed { IsErrOf result RunEnd.WriteFailed → Rose (W.faults_of out.old) (W.faults_of out.new) }
     ensures steady { OnOk result (W.faults_of out.new ≡ W.faults_of out.old) }
 {
     match alarm {
@@ -69,10 +69,10 @@ fn dump_alarm<W: Sink>(alloc: Global, alarm: Option<Alarm>, out: &mut W) -> Resu
 }
 
 // Writes a line, where there was memory for it.
-fn put_line<W: Sink>(line: Mem<Vec<u8>>, out: &mut W) -> Result<(), Stop>
+fn put_line<W: Sink>(line: Mem<Vec<u8>>, out: &mut W) -> Result<(), RunEnd>
     ensures writes { (text : List ℕ) → IfOk line (λ bytes. bytes.items ≡ text) → Writes (W.taken out.old) (W.taken out.new) text result }
-    ensures stop { OnErr result ((result ≡ Err Stop.WriteFailed) ⊎ (result ≡ Err Stop.NoMemory)) }
-    ensures failed { IsErrOf result Stop.WriteFailed → Rose (W.faults_of out.old) (W.faults_of out.new) }
+    ensures stop { OnErr result ((result ≡ Err RunEnd.WriteFailed) ⊎ (result ≡ Err RunEnd.NoMemory)) }
+    ensures failed { IsErrOf result RunEnd.WriteFailed → Rose (W.faults_of out.old) (W.faults_of out.new) }
     ensures steady { OnOk result (W.faults_of out.new ≡ W.faults_of out.old) }
 {
     let line = line?;

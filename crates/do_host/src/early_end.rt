@@ -1,5 +1,5 @@
 // Why a run ends before it serves or prints a slot.
-use crate::stop::Stop;
+use crate::run_end::RunEnd;
 use do_disk::DepotFault;
 use do_value::NoMemory;
 
@@ -9,16 +9,16 @@ pub(crate) enum EarlyEnd {
     Refused(Vec<u8>),
     // The slot's file is foreign, damaged or mixed. The line says which, and where or with which objects.
     BadSlot(Vec<u8>),
-    Stopped(Stop),
+    Stopped(RunEnd),
 }
 
-impl From<Stop> for EarlyEnd {
+impl From<RunEnd> for EarlyEnd {
     ghost use Rattle.std.specs.Prelude.{◌≡◌};
     ghost use Rattle.do_host.specs.declared.early_end.EarlyEnd.TheVariants.{Stopped};
 
     ghost from_gives = { λ stop end. end ≡ Stopped stop };
 
-    fn from(stop: Stop) -> EarlyEnd {
+    fn from(stop: RunEnd) -> EarlyEnd {
         EarlyEnd::Stopped(stop)
     }
 }
@@ -26,12 +26,12 @@ impl From<Stop> for EarlyEnd {
 impl From<NoMemory> for EarlyEnd {
     ghost use Rattle.std.specs.Prelude.{◌≡◌};
     ghost use Rattle.do_host.specs.declared.early_end.EarlyEnd.TheVariants.{Stopped};
-    ghost use Rattle.do_host.specs.declared.stop.Stop.TheVariants.{NoMemory as Wanting};
+    ghost use Rattle.do_host.specs.declared.run_end.RunEnd.TheVariants.{NoMemory as Wanting};
 
     ghost from_gives = { λ _ end. end ≡ Stopped Wanting };
 
     fn from(_: NoMemory) -> EarlyEnd {
-        EarlyEnd::Stopped(Stop::NoMemory)
+        EarlyEnd::Stopped(RunEnd::NoMemory)
     }
 }
 
@@ -43,6 +43,6 @@ impl From<DepotFault> for EarlyEnd {
     ghost from_gives = { λ fault end. end ≡ Stopped (depot_stop fault) };
 
     fn from(fault: DepotFault) -> EarlyEnd {
-        EarlyEnd::Stopped(Stop::from(fault))
+        EarlyEnd::Stopped(RunEnd::from(fault))
     }
 }

@@ -1,6 +1,6 @@
 // Whether a script is the one that is served so far, but for separators and comments.
 ghost use Rattle.std.specs.Prelude.{◌≡◌, ◌↔◌, ◌≤◌, IsTrue, Ok, Some, length};
-ghost use Rattle.do_lex.specs.declared.pieces.TheConstants.{LONGEST_SCRIPT};
+ghost use Rattle.do_lex.specs.Limits.{most_script_bytes};
 ghost use Rattle.do_host.specs.Scripts.{HasFirstForm};
 ghost use Rattle.do_host.specs.Steps.{IsStep, IsCompared};
 
@@ -9,7 +9,7 @@ use do_lex::{LexFault, Token, Tokens};
 
 // Whether the text's tokens are those of the script `PUT_AND_READ`, but for their places.
 pub(crate) fn has_first_form(text: &[u8]) -> bool
-    requires { length text.now ≤ LONGEST_SCRIPT }
+    requires { length text.now ≤ most_script_bytes }
     ensures { IsTrue result ↔ HasFirstForm text.now }
 {
     let mut tokens = Tokens::new(text);

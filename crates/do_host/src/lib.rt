@@ -12,11 +12,11 @@ mod posting;
 mod program;
 mod report;
 mod routing;
+mod run_end;
 mod script;
 mod script_lines;
 mod serving;
 mod slot_lines;
-mod stop;
 mod switch_log;
 mod words;
 

@@ -1,9 +1,8 @@
 // From an accepted line to its posts.
 ghost use Rattle.std.specs.Prelude.{◌≡◌, ◌++◌, ◌∷◌, [], ◌+◌, ◌≤◌, ℕ, List, map, IsSome, Option, IfOk, IfSome, OnOk, OnErr, None, Some, option_map, vec_len};
-ghost use Rattle.batch_journal.specs.Frames.{Frame};
-ghost use Rattle.object_core.specs.Serving.{IsFirstForm, IsServing, IsWithinLimit, SameLogs, limit_in, object_of, disk_of, front_of, back_of};
+ghost use Rattle.object_core.specs.Serving.{IsFirstForm, KeepsServing, KeepsWithin, SameReleased, SameLogs, limit_in, object_of, disk_of, front_of};
 ghost use Rattle.do_host.specs.FirstForm.{IsFirstLine};
-ghost use Rattle.do_host.specs.Switch.{binds, call_posts, object_of_body};
+ghost use Rattle.do_host.specs.Switch.{binds, call_posts, events_in, object_of_body};
 ghost use Rattle.do_host.specs.Served.{Stands, SameSwitch, HasPostRoom};
 
 use crate::first_form::call_event;
@@ -18,16 +17,17 @@ use storage_map::Identity;
 // to the object. After `NoMemory` nothing was accepted or posted.
 pub(crate) fn post<D: Disk>(core: &mut Core<D>, log: &mut SwitchLog, line: Line) -> Mem<Event>
     requires form { IsFirstLine (object_of core.old) line }
-    ensures stands { IfOk result (λ event. (first : Option (List ℕ × List ℕ)) → Stands first core.old log.old [] [] → Stands first core.new log.new (event ∷ []) []) }
+    ensures stands { IfOk result (λ event. (first : Option (List ℕ × List ℕ)) → Stands first core.old log.old [] []
+        → Stands first core.new log.new (event ∷ []) []) }
     ensures form { IfOk result IsFirstForm }
     ensures bound { OnOk result (IsSome (object_of core.new)) }
     ensures accepted { OnOk result (log.new.accepted.items ≡ log.old.accepted.items ++ line ∷ []) }
     ensures same_lines { OnOk result (log.new.lines.items ≡ log.old.lines.items) }
     ensures same { OnErr result (SameSwitch log.old log.new) }
     ensures same_logs { OnErr result (SameLogs core.old core.new) }
-    ensures same_released { (back_of core.new).released.items ≡ (back_of core.old).released.items }
-    ensures serving { (since : ℕ) (start : List Frame) → IsServing D.moment_of D.left_since D.told D.image since start core.old → IsServing D.moment_of D.left_since D.told D.image since start core.new }
-    ensures within { (since : ℕ) (start : List Frame) → IsWithinLimit D.left_since since start core.old → IsWithinLimit D.left_since since start core.new }
+    ensures same_released { SameReleased core.old core.new }
+    ensures serving { KeepsServing D.moment_of D.left_since D.told D.image core.old core.new }
+    ensures within { KeepsWithin D.left_since core.old core.new }
     ensures same_disk { disk_of core.new ≡ disk_of core.old }
     ensures same_limit { limit_in core.new ≡ limit_in core.old }
 {
@@ -60,7 +60,8 @@ struct Bound {
 
 fn posting_of(object: Option<&Identity>, line: &Line) -> Mem<Posting>
     requires { IsFirstLine (option_map (λ identity. identity.now) object) line.now }
-    ensures bound { IfOk result (λ posting. binds (option_map (λ identity. identity.now) object.entry) (object_of_body line.now.body) ≡ binds None (option_map (λ bound. bound.posted) posting.bound)) }
+    ensures bound { IfOk result (λ posting. binds (option_map (λ identity. identity.now) object.entry) (object_of_body line.now.body)
+        ≡ binds None (option_map (λ bound. bound.posted) posting.bound)) }
     ensures named { IfOk result (λ posting. IfSome posting.bound (λ bound. bound.given ≡ bound.posted)) }
     ensures posted { IfOk result (λ posting. call_posts line.now ≡ posting.posted ∷ []) }
     ensures given { IfOk result (λ posting. posting.given ≡ posting.posted) }
@@ -74,7 +75,8 @@ fn posting_of(object: Option<&Identity>, line: &Line) -> Mem<Posting>
 
 fn bound_by(object: Option<&Identity>, line: &Line) -> Mem<Option<Bound>>
     requires { IsFirstLine (option_map (λ identity. identity.now) object) line.now }
-    ensures bound { IfOk result (λ bound. binds (option_map (λ identity. identity.now) object.entry) (object_of_body line.now.body) ≡ binds None (option_map (λ b. b.posted) bound)) }
+    ensures bound { IfOk result (λ bound. binds (option_map (λ identity. identity.now) object.entry) (object_of_body line.now.body)
+        ≡ binds None (option_map (λ b. b.posted) bound)) }
     ensures named { IfOk result (λ bound. IfSome bound (λ b. b.given ≡ b.posted)) }
 {
     match (object, &line.body) {
@@ -93,11 +95,11 @@ fn bind<D: Disk>(core: &mut Core<D>, bound: Option<Bound>) -> Mem<Option<Identit
     ensures posted { IfOk result (λ posted. posted ≡ option_map (λ b. b.posted) bound) }
     ensures object { IfOk result (λ posted. IfSome posted (λ object. object_of core.new ≡ Some object)) }
     ensures same_object { IfOk result (λ posted. posted ≡ None → object_of core.new ≡ object_of core.old) }
-    ensures delivered { IfOk result (λ posted. map (λ event. event.1) (front_of core.new).delivered.items ≡ map (λ event. event.1) (front_of core.old).delivered.items ++ binds None posted) }
+    ensures delivered { IfOk result (λ posted. events_in (front_of core.new) ≡ events_in (front_of core.old) ++ binds None posted) }
     ensures same_logs { OnErr result (SameLogs core.old core.new) }
-    ensures same_released { (back_of core.new).released.items ≡ (back_of core.old).released.items }
-    ensures serving { (since : ℕ) (start : List Frame) → IsServing D.moment_of D.left_since D.told D.image since start core.old → IsServing D.moment_of D.left_since D.told D.image since start core.new }
-    ensures within { (since : ℕ) (start : List Frame) → IsWithinLimit D.left_since since start core.old → IsWithinLimit D.left_since since start core.new }
+    ensures same_released { SameReleased core.old core.new }
+    ensures serving { KeepsServing D.moment_of D.left_since D.told D.image core.old core.new }
+    ensures within { KeepsWithin D.left_since core.old core.new }
     ensures same_disk { disk_of core.new ≡ disk_of core.old }
     ensures same_limit { limit_in core.new ≡ limit_in core.old }
 {

@@ -6,7 +6,7 @@ ghost use Rattle.line_server.specs.Text.{text as text_in};
 ghost use Rattle.do_host.specs.Served.{SameSwitch, HasRouteRoom, HasWritten, WritesFirstOf, Routes};
 ghost use Rattle.std.specs.Option.{option_to_list};
 
-use crate::stop::Stop;
+use crate::run_end::RunEnd;
 use crate::switch_log::SwitchLog;
 use do_disk::Sink;
 use do_value::{Mem, NoMemory};
@@ -20,14 +20,16 @@ pub(crate) fn route<W: Sink>(
     log: &mut SwitchLog,
     out: &mut W,
     message: Message,
-) -> Result<(), Stop>
+) -> Result<(), RunEnd>
     ensures routed { OnOk result (Routes message log.old log.new) }
     ensures stopped { OnErr result (SameSwitch log.old log.new ⊎ Routes message log.old log.new) }
-    ensures written { OnOk result ((before : Option (List ℕ)) → HasWritten before (W.taken out.old) log.old.lines.items → HasWritten before (W.taken out.new) log.new.lines.items) }
-    ensures front { OnErr result ((before : Option (List ℕ)) → HasWritten before (W.taken out.old) log.old.lines.items → WritesFirstOf before (W.taken out.new) (text_of log.new.lines.items)) }
-    ensures stop { OnErr result ((result ≡ Err Stop.WriteFailed) ⊎ (result ≡ Err Stop.NoMemory)) }
-    ensures failed { IsErrOf result Stop.WriteFailed → Rose (W.faults_of out.old) (W.faults_of out.new) }
-    ensures steady { (IsErrOf result Stop.WriteFailed → ⊥) → W.faults_of out.new ≡ W.faults_of out.old }
+    ensures written { OnOk result ((before : Option (List ℕ)) → HasWritten before (W.taken out.old) log.old.lines.items
+        → HasWritten before (W.taken out.new) log.new.lines.items) }
+    ensures front { OnErr result ((before : Option (List ℕ)) → HasWritten before (W.taken out.old) log.old.lines.items
+        → WritesFirstOf before (W.taken out.new) (text_of log.new.lines.items)) }
+    ensures stop { OnErr result ((result ≡ Err RunEnd.WriteFailed) ⊎ (result ≡ Err RunEnd.NoMemory)) }
+    ensures failed { IsErrOf result RunEnd.WriteFailed → Rose (W.faults_of out.old) (W.faults_of out.new) }
+    ensures steady { (IsErrOf result RunEnd.WriteFailed → ⊥) → W.faults_of out.new ≡ W.faults_of out.old }
 {
     let line = print_reply(alloc, &message)?;
     log.make_route_room()?;

@@ -10,8 +10,8 @@ ghost use Rattle.do_host.specs.Scripts.{IsFirstScript, IsOtherScript};
 use crate::accept::accept;
 use crate::early_end::EarlyEnd;
 use crate::form::has_first_form;
+use crate::run_end::RunEnd;
 use crate::script_lines::script_line;
-use crate::stop::Stop;
 use do_disk::Depot;
 use std::alloc::Global;
 
@@ -30,10 +30,10 @@ pub(crate) fn first_script<P: Depot>(
     ensures whole { OnOk result (P.asked depot.new ≡ P.asked depot.old ++ for_text path.now ∷ []) }
     ensures same_slots { (folder : List ℕ) (number : ℕ) → P.slot_at depot.new folder number ≡ P.slot_at depot.old folder number }
     ensures end { OnErr result (IsScriptEnd result) }
-    ensures failed { IsStoppedBy result Stop.DiskFailed → Rose (P.faults_of depot.old) (P.faults_of depot.new) }
+    ensures failed { IsStoppedBy result RunEnd.DiskFailed → Rose (P.faults_of depot.old) (P.faults_of depot.new) }
     ensures steady { OnOk result (P.faults_of depot.new ≡ P.faults_of depot.old) }
     ensures first_script { OnOk result (IfTold (P.text_at depot.old path.now) IsFirstScript) }
-    ensures not_built { IsStoppedBy result Stop.NotBuilt → IfTold (P.text_at depot.old path.now) IsOtherScript }
+    ensures not_built { IsStoppedBy result RunEnd.NotBuilt → IfTold (P.text_at depot.old path.now) IsOtherScript }
     ensures refused { (line : List ℕ) → IsRefusedBy result line → IfTold (P.text_at depot.old path.now) (λ text. IsRefusalLine text line) }
     ensures refused_whole { (line : List ℕ) → IsRefusedBy result line → P.asked depot.new ≡ P.asked depot.old ++ for_text path.now ∷ [] }
 {
@@ -44,16 +44,16 @@ pub(crate) fn first_script<P: Depot>(
 // Tests that a text is accepted and of the first form.
 fn test_form(alloc: Global, text: &[u8]) -> Result<(), EarlyEnd>
     ensures first { OnOk result (IsFirstScript text.now) }
-    ensures other { IsStoppedBy result Stop.NotBuilt → IsOtherScript text.now }
+    ensures other { IsStoppedBy result RunEnd.NotBuilt → IsOtherScript text.now }
     ensures refused { (line : List ℕ) → IsRefusedBy result line → IsRefusalLine text.now line }
-    ensures end { OnErr result (((line : List ℕ) × IsRefusedBy result line) ⊎ IsStoppedBy result Stop.NoMemory ⊎ IsStoppedBy result Stop.NotBuilt) }
+    ensures end { OnErr result (((line : List ℕ) × IsRefusedBy result line) ⊎ IsStoppedBy result RunEnd.NoMemory ⊎ IsStoppedBy result RunEnd.NotBuilt) }
 {
     match accept(alloc, text) {
         Ok(_checked) => {
             if has_first_form(text) {
                 Ok(())
             } else {
-                Err(EarlyEnd::Stopped(Stop::NotBuilt))
+                Err(EarlyEnd::Stopped(RunEnd::NotBuilt))
             }
         }
         Err(end) => Err(end),
@@ -68,8 +68,8 @@ pub(crate) fn told_script<P: Depot>(
 ) -> Result<Vec<u8>, EarlyEnd>
     ensures asked { Asks (P.asked depot.old) (P.asked depot.new) (for_text path.now ∷ []) }
     ensures whole { OnOk result (P.asked depot.new ≡ P.asked depot.old ++ for_text path.now ∷ []) }
-    ensures end { OnErr result (((line : List ℕ) × IsRefusedBy result line) ⊎ IsStoppedBy result Stop.DiskFailed ⊎ IsStoppedBy result Stop.NoMemory) }
-    ensures failed { IsStoppedBy result Stop.DiskFailed → Rose (P.faults_of depot.old) (P.faults_of depot.new) }
+    ensures end { OnErr result (((line : List ℕ) × IsRefusedBy result line) ⊎ IsStoppedBy result RunEnd.DiskFailed ⊎ IsStoppedBy result RunEnd.NoMemory) }
+    ensures failed { IsStoppedBy result RunEnd.DiskFailed → Rose (P.faults_of depot.old) (P.faults_of depot.new) }
     ensures told { IfOk result (λ line. IfTold (P.text_at depot.old path.now) (λ text. IsScriptLine text line.items)) }
     ensures refused { (line : List ℕ) → IsRefusedBy result line → IfTold (P.text_at depot.old path.now) (λ text. IsRefusalLine text line) }
     ensures refused_whole { (line : List ℕ) → IsRefusedBy result line → P.asked depot.new ≡ P.asked depot.old ++ for_text path.now ∷ [] }
@@ -82,12 +82,12 @@ pub(crate) fn told_script<P: Depot>(
 fn accepted_line(alloc: Global, text: &[u8]) -> Result<Vec<u8>, EarlyEnd>
     ensures told { IfOk result (λ line. IsScriptLine text.now line.items) }
     ensures refused { (line : List ℕ) → IsRefusedBy result line → IsRefusalLine text.now line }
-    ensures end { OnErr result (((line : List ℕ) × IsRefusedBy result line) ⊎ IsStoppedBy result Stop.NoMemory) }
+    ensures end { OnErr result (((line : List ℕ) × IsRefusedBy result line) ⊎ IsStoppedBy result RunEnd.NoMemory) }
 {
     match accept(alloc, text) {
         Ok(checked) => match script_line(alloc, checked.script()) {
             Ok(line) => Ok(line),
-            Err(_) => Err(EarlyEnd::Stopped(Stop::NoMemory)),
+            Err(_) => Err(EarlyEnd::Stopped(RunEnd::NoMemory)),
         },
         Err(end) => Err(end),
     }

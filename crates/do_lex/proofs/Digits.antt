@@ -7,7 +7,8 @@ use Rattle.std.proofs.lemmas.Bool.{and_parts, and_from}
 use Rattle.std.proofs.lemmas.Bool.Decides.{nat_tests}
 use Rattle.std.proofs.lemmas.Str.{IsUtf8-from_ascii}
 use Rattle.std.proofs.lemmas.Str.Parse.{IsNumeralModel, numerals_by_value, parse_digits}
-use Rattle.do_lex.specs.Lexemes.{IsNumber, number_value, greatest_number}
+use Rattle.do_value.specs.Limits.{most_number}
+use Rattle.do_lex.specs.Lexemes.{IsNumber, number_value}
 
 -- a digit is ASCII
 digit_small : (b : ℕ) → is_ascii_digit b ≡ true → b < 128
@@ -37,5 +38,5 @@ number_some [] h = absurd h
 number_some (b ∷ bs) h = omega arith
 
 -- a number that `parse` refuses is past the greatest
-pub past_greatest : {E : Type 0} (xs : List ℕ) (e : E) → IsNumber xs → ParsesUnsigned {E = E} 64 10 xs (Err e) → number_value xs ≤ greatest_number → ⊥
+pub past_greatest : {E : Type 0} (xs : List ℕ) (e : E) → IsNumber xs → ParsesUnsigned {E = E} 64 10 xs (Err e) → number_value xs ≤ most_number → ⊥
 past_greatest {E} xs e h parsed small = parse_digits own {E = E} 64 xs (Err e) parsed (number_passes xs h) (number_some xs h, omega arith)

@@ -4,7 +4,8 @@ use Rattle.std.proofs.lemmas.Bool.Decides.{nat_tests}
 use Rattle.std.proofs.lemmas.List.{drop-drop}
 use Rattle.do_lex.specs.Bytes.{is_letter_or_digit}
 use Rattle.do_lex.specs.Kind.{kind_of, keyword_of, word_kind, mark_at, mark_text}
-use Rattle.do_lex.specs.Lexemes.{IsNumber, number_value, greatest_number}
+use Rattle.do_value.specs.Limits.{most_number}
+use Rattle.do_lex.specs.Lexemes.{IsNumber, number_value}
 use Rattle.do_lex.specs.Next.{Answer, opening_of, begins, token, IsWordAnswer, IsNumberAnswer, IsTextAnswer, mark_answer, Stands, StandsBy, Gives}
 use Rattle.do_lex.specs.Next.Gives.{skip, here}
 use Rattle.do_lex.specs.declared.kind.Kind.{Kind}
@@ -24,7 +25,7 @@ pub record NumberAt (bytes : List ℕ) (at : ℕ) (span : Span) : Type 0 where
   pub start : span.at ≡ at + before
   pub stop : span.end ≡ at + before + n
   pub number : IsNumber (take n (drop before bytes))
-  pub small : number_value (take n (drop before bytes)) ≤ greatest_number
+  pub small : number_value (take n (drop before bytes)) ≤ most_number
 
 abbrev pub IsNumberAt : List ℕ → ℕ → Span → Type 0
 IsNumberAt bytes at span = span.kind ≡ kinds.Number → NumberAt bytes at span
@@ -67,9 +68,9 @@ number_at bytes at span h k =
     (λ (small, e). ⊎_elim (λ (_, d). absurd (cc))
     (λ (_, d).
     let t = token_is kinds.Number at h.n span d in
-    record { before = 0; n = h.n; start = t.1 ∙ omega arith; stop = t.2 ∙ omega arith; number = h.longest.holds; small = not_greater greatest_number (number_value (take h.n bytes)) small })
+    record { before = 0; n = h.n; start = t.1 ∙ omega arith; stop = t.2 ∙ omega arith; number = h.longest.holds; small = not_greater most_number (number_value (take h.n bytes)) small })
     (chosen (begins is_letter_or_digit (drop h.n bytes)) (Err (BadChar (at + h.n))) (token kinds.Number at h.n) (Ok (Some span)) e))
-    (chosen (ltb greatest_number (number_value (take h.n bytes))) (Err (LongNumber at)) (cond (begins is_letter_or_digit (drop h.n bytes)) (Err (BadChar (at + h.n))) (token kinds.Number at h.n)) (Ok (Some span)) (sym h.answer_is))
+    (chosen (ltb most_number (number_value (take h.n bytes))) (Err (LongNumber at)) (cond (begins is_letter_or_digit (drop h.n bytes)) (Err (BadChar (at + h.n))) (token kinds.Number at h.n)) (Ok (Some span)) (sym h.answer_is))
 
 stands_at : (bytes : List ℕ) (at : ℕ) (span : Span) (o : Opening) → StandsBy o bytes at (Ok (Some span)) → IsNumberAt bytes at span
 stands_at bytes at span opens.End h k = absurd (cc)
@@ -89,7 +90,7 @@ number_behind bytes at n span w = record {
   start = w.start ∙ omega arith;
   stop = w.stop ∙ omega arith;
   number = subst (λ xs. IsNumber (take w.n xs)) (drop-drop w.before n bytes) w.number;
-  small = subst (λ xs. number_value (take w.n xs) ≤ greatest_number) (drop-drop w.before n bytes) w.small;
+  small = subst (λ xs. number_value (take w.n xs) ≤ most_number) (drop-drop w.before n bytes) w.small;
 }
 
 -- where the bytes from a place on give a number, it is one

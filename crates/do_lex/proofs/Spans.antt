@@ -10,7 +10,8 @@ use Rattle.std.proofs.lemmas.List.{length-drop, length-take, length-take-le, get
 use Rattle.std.specs.List.{slice_range}
 use Rattle.do_lex.specs.Bytes.{is_quote, is_letter_or_digit, is_word_start, is_word_byte}
 use Rattle.do_lex.specs.Kind.{word_kind, mark_at, mark_text, marks}
-use Rattle.do_lex.specs.Lexemes.{IsWord, IsNumber, number_value, greatest_number}
+use Rattle.do_value.specs.Limits.{most_number}
+use Rattle.do_lex.specs.Lexemes.{IsWord, IsNumber, number_value}
 use Rattle.do_lex.specs.Next.{Answer, opening_of, begins, token, IsWordAnswer, IsNumberAnswer, IsTextAnswer, mark_answer, Stands, StandsBy, Gives}
 use Rattle.do_lex.specs.Next.Gives.{skip, here}
 use Rattle.do_lex.specs.declared.kind.Kind.{Kind}
@@ -174,7 +175,7 @@ number_within bytes at span h =
     let stands = token_span kinds.Number at h.n span d in
     front_within bytes at h.n span h.longest.in_range (number_bytes (take h.n bytes) h.longest.holds) stands.0 stands.1)
     (chosen (begins is_letter_or_digit (drop h.n bytes)) (Err (BadChar (at + h.n))) (token kinds.Number at h.n) (Ok (Some span)) e))
-    (chosen (ltb greatest_number (number_value (take h.n bytes))) (Err (LongNumber at)) (cond (begins is_letter_or_digit (drop h.n bytes)) (Err (BadChar (at + h.n))) (token kinds.Number at h.n)) (Ok (Some span)) (sym h.answer_is))
+    (chosen (ltb most_number (number_value (take h.n bytes))) (Err (LongNumber at)) (cond (begins is_letter_or_digit (drop h.n bytes)) (Err (BadChar (at + h.n))) (token kinds.Number at h.n)) (Ok (Some span)) (sym h.answer_is))
 
 -- a word's token
 word_within : (bytes : List ℕ) (at : ℕ) (span : Span) → IsWordAnswer bytes at (Ok (Some span)) → IsWithin bytes at span

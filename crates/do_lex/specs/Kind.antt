@@ -1,5 +1,5 @@
 -- Keywords and marks, as they are written (this project's profile of ECMA-262, section 12).
-use Rattle.std.specs.Prelude.{ℕ, List, [], ◌∷◌, Option, Some, None, nat_eq, codes}
+use Rattle.std.specs.Prelude.{ℕ, Bool, is_some, List, [], ◌∷◌, Option, Some, None, nat_eq, codes}
 use Rattle.std.specs.List.{find, starts_with}
 use Rattle.std.specs.Str.{bytes_eq}
 use Rattle.do_lex.specs.declared.kind.Kind.{Kind}
@@ -82,6 +82,9 @@ marks = mark.Same ∷ mark.Differs ∷ mark.Arrow ∷ mark.LessEq ∷ mark.Great
 -- The keyword that is this word.
 abbrev pub keyword_of : List ℕ → Option Keyword
 keyword_of word = find (λ k. bytes_eq (keyword_text k) word) keywords
+
+abbrev pub is_keyword : List ℕ → Bool
+is_keyword word = is_some (keyword_of word)
 
 -- A word that is one of the keywords is that keyword.
 abbrev pub kind_of : Option Keyword → Kind

@@ -22,10 +22,6 @@ IsNumber (b ∷ bs) = IsTrue (is_ascii_digit b) × IsTrue (list_all is_ascii_dig
 abbrev pub number_value : List ℕ → ℕ
 number_value digits = digits_value 10 digits
 
--- The greatest number: 2^53 - 1.
-abbrev pub greatest_number : ℕ
-greatest_number = 9007199254740991
-
 -- A line comment: everything from its two slashes to the end of the line.
 abbrev pub IsLineComment : List ℕ → Type 0
 IsLineComment bytes = IsTrue (list_all is_in_line bytes)

@@ -5,7 +5,8 @@ use Rattle.std.specs.Char.{is_ascii_digit}
 use Rattle.std.specs.Str.Lossy.{utf8_valid_len}
 use Rattle.do_lex.specs.Bytes.{is_blank, is_in_line, is_quote, is_word_start, is_letter_or_digit}
 use Rattle.do_lex.specs.Kind.{word_kind, mark_at, mark_text}
-use Rattle.do_lex.specs.Lexemes.{IsWord, IsNumber, number_value, greatest_number, IsLineComment, EndsAt, IsFirst, IsInside, is_escape}
+use Rattle.do_value.specs.Limits.{most_number}
+use Rattle.do_lex.specs.Lexemes.{IsWord, IsNumber, number_value, IsLineComment, EndsAt, IsFirst, IsInside, is_escape}
 use Rattle.do_lex.specs.Longest.{IsLongest}
 use Rattle.do_lex.specs.declared.kind.Kind.{Kind}
 use Rattle.do_lex.specs.declared.kind.Kind.TheVariants as kinds
@@ -78,7 +79,7 @@ pub record IsWordAnswer (bytes : List ℕ) (at : ℕ) (answer : Answer) : Type 0
 -- is one.
 abbrev pub number_answer : List ℕ → ℕ → ℕ → Answer
 number_answer bytes at n =
-    if nat_lt greatest_number (number_value (take n bytes)) then Err (LongNumber at)
+    if nat_lt most_number (number_value (take n bytes)) then Err (LongNumber at)
     else (if begins is_letter_or_digit (drop n bytes) then Err (BadChar (at + n))
     else token kinds.Number at n)
 

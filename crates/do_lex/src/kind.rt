@@ -271,6 +271,13 @@ fn keyword_of(word: &[u8]) -> Option<Keyword>
         .find(|keyword| keyword.text().as_bytes() == word)
 }
 
+/// Whether the word is a keyword.
+pub fn is_keyword(word: &str) -> bool
+    ensures { result ≡ spec.is_keyword word.now }
+{
+    keyword_of(word.as_bytes()).is_some()
+}
+
 /// The kind of a word.
 pub(crate) fn word_kind(word: &[u8]) -> Kind
     ensures { result ≡ spec.word_kind word.now }

@@ -14,6 +14,6 @@ mod pieces;
 mod tokens;
 
 pub use fault::LexFault;
-pub use kind::{Keyword, Kind, Mark};
-pub use pieces::{LONGEST_SCRIPT, Span};
+pub use kind::{Keyword, Kind, Mark, is_keyword};
+pub use pieces::{LONGEST_SCRIPT, Span, end_of_text};
 pub use tokens::{Token, Tokens};

@@ -1,10 +1,13 @@
 //! Separators and tokens, one at a time, in bytes that need not be UTF-8.
-ghost use Rattle.std.specs.Prelude.{◌≡◌, ◌==◌, ℕ, ◌+◌, ◌<◌, ◌≤◌, ◌^◌, ◌↔◌, drop, length, slice_index, IsTrue, IfSome, IfNone};
+ghost use Rattle.std.specs.Prelude.{◌≡◌, ◌==◌, ℕ, ◌+◌, ◌<◌, ◌≤◌, ◌^◌, ◌↔◌, drop, length, reverse, slice_index, IsTrue, IfSome, IfNone};
 ghost use Rattle.std.specs.Char.{is_ascii_digit};
 ghost use Rattle.std.specs.List.{prefix_len};
+ghost use Rattle.do_value.specs.Limits.{most_number};
 ghost use Rattle.do_lex.specs.Bytes as spec;
 ghost use Rattle.do_lex.specs.Kind as spec_kind;
-ghost use Rattle.do_lex.specs.Lexemes.{IsNumber, IsFirst, EndsAt, number_value, greatest_number};
+ghost use Rattle.do_lex.specs.Lexemes.{IsNumber, IsFirst, EndsAt, number_value};
+ghost use Rattle.do_lex.specs.Ending.{end_of_text};
+ghost use Rattle.do_lex.specs.Limits.{most_script_bytes};
 ghost use Rattle.do_lex.specs.Longest.{IsLongest};
 ghost use Rattle.do_lex.specs.Next.{opening_of, token, begins, IsSeparator, NoSeparator, IsWordAnswer, IsNumberAnswer, IsTextAnswer, mark_answer, Stands, Gives};
 
@@ -14,13 +17,11 @@ use crate::bytes::{
 use crate::fault::LexFault;
 use crate::inside::{Escapes, inside_len};
 use crate::kind::{Kind, mark_at, word_kind};
+use do_value::MOST_NUMBER;
 use std::str;
 
 /// The most bytes that a script has.
 pub const LONGEST_SCRIPT: usize = 262_144;
-
-/// The greatest number: 2^53 - 1.
-const GREATEST: u64 = 9_007_199_254_740_991;
 
 /// Where a token stands.
 #[derive(Clone, Copy)]
@@ -105,13 +106,13 @@ fn number_len(bytes: &[u8]) -> usize
 /// Whether the digits stand for a number that is not too great.
 fn fits(digits: &[u8]) -> bool
     requires { IsNumber digits.now }
-    ensures { IsTrue result ↔ (number_value digits.now ≤ greatest_number) }
+    ensures { IsTrue result ↔ (number_value digits.now ≤ most_number) }
 {
     let Ok(text) = str::from_utf8(digits) else {
         return false;
     };
     match text.parse::<u64>() {
-        Ok(value) => value <= GREATEST,
+        Ok(value) => value <= MOST_NUMBER as u64,
         Err(_) => false,
     }
 }
@@ -173,7 +174,7 @@ fn goes_on(bytes: &[u8]) -> bool
 
 fn word(bytes: &[u8], at: usize) -> Answer
     requires opening { opening_of bytes.now ≡ Opening.Letter }
-    requires room { at + length bytes.now ≤ LONGEST_SCRIPT }
+    requires room { at + length bytes.now ≤ most_script_bytes }
     ensures { IsWordAnswer bytes.now at result }
 {
     let n = word_len(bytes);
@@ -182,7 +183,7 @@ fn word(bytes: &[u8], at: usize) -> Answer
 
 fn number(bytes: &[u8], at: usize) -> Answer
     requires opening { opening_of bytes.now ≡ Opening.Digit }
-    requires room { at + length bytes.now ≤ LONGEST_SCRIPT }
+    requires room { at + length bytes.now ≤ most_script_bytes }
     ensures { IsNumberAnswer bytes.now at result }
 {
     let n = number_len(bytes);
@@ -197,7 +198,7 @@ fn number(bytes: &[u8], at: usize) -> Answer
 
 fn text(bytes: &[u8], at: usize) -> Answer
     requires opening { opening_of bytes.now ≡ Opening.Quote }
-    requires room { at + length bytes.now ≤ LONGEST_SCRIPT }
+    requires room { at + length bytes.now ≤ most_script_bytes }
     ensures { IsTextAnswer (slice_index bytes.now 0) (drop 1 bytes.now) at result }
 {
     let quote = bytes[0];
@@ -214,7 +215,7 @@ fn text(bytes: &[u8], at: usize) -> Answer
 }
 
 fn mark(bytes: &[u8], at: usize) -> Answer
-    requires { at + length bytes.now ≤ LONGEST_SCRIPT }
+    requires { at + length bytes.now ≤ most_script_bytes }
     ensures { result ≡ mark_answer (spec_kind.mark_at bytes.now) at }
 {
     match mark_at(bytes) {
@@ -226,7 +227,7 @@ fn mark(bytes: &[u8], at: usize) -> Answer
 /// What the bytes at a place give, where no separator comes first.
 fn answer_at(bytes: &[u8], at: usize) -> Answer
     requires no_separator { NoSeparator bytes.now }
-    requires room { at + length bytes.now ≤ LONGEST_SCRIPT }
+    requires room { at + length bytes.now ≤ most_script_bytes }
     ensures { Stands bytes.now at result }
 {
     match opening_of(bytes) {
@@ -243,7 +244,7 @@ fn answer_at(bytes: &[u8], at: usize) -> Answer
 /// What a script gives from a place on, taken byte by byte.
 pub(crate) fn answer_from(text: &[u8], from: usize) -> Answer
     requires within { from ≤ length text.now }
-    requires room { length text.now ≤ LONGEST_SCRIPT }
+    requires room { length text.now ≤ most_script_bytes }
     ensures { Gives (drop from text.now) from result }
 {
     let mut at = from;
@@ -251,4 +252,20 @@ pub(crate) fn answer_from(text: &[u8], from: usize) -> Answer
         at += n;
     }
     answer_at(&text[at..], at)
+}
+
+/// How many bytes a text has, without the blanks that it ends in. A comment is no blank.
+pub fn end_of_text(text: &[u8]) -> usize
+    ensures value { result ≡ end_of_text text.now }
+    ensures within { result ≤ length text.now }
+{
+    text.len() - blanks_behind(text)
+}
+
+/// How many blanks a text ends in.
+fn blanks_behind(text: &[u8]) -> usize
+    ensures blanks { result ≡ prefix_len spec.is_blank (reverse text.now) }
+    ensures within { result ≤ length text.now }
+{
+    text.iter().rev().take_while(|b| is_blank(**b)).count()
 }

@@ -1,11 +1,12 @@
 //! The reader of tokens.
 ghost use Rattle.std.specs.Prelude.{◌≡◌, ◌-◌, ◌<◌, ◌≤◌, length, take, slice_index, slice_range};
 ghost use Rattle.std.specs.Str.Lossy.{utf8_valid_len};
+ghost use Rattle.do_lex.specs.Limits.{most_script_bytes};
 ghost use Rattle.do_lex.specs.Next.{IsNext, reach};
 
 use crate::fault::LexFault;
 use crate::kind::Kind;
-use crate::pieces::{Answer, LONGEST_SCRIPT, answer_from};
+use crate::pieces::{Answer, answer_from};
 use std::marker::Model;
 use std::str;
 
@@ -31,7 +32,7 @@ impl<'a> Model for Tokens<'a> {
     ghost use Rattle.std.specs.Prelude.{◌≡◌, ◌≤◌, length, take};
     ghost use Rattle.std.specs.Str.Lossy.{utf8_valid_len};
     ghost use Rattle.do_lex.specs.Place.{Cursor};
-    ghost use Rattle.do_lex.specs.declared.pieces.TheConstants.{LONGEST_SCRIPT};
+    ghost use Rattle.do_lex.specs.Limits.{most_script_bytes};
 
     ghost Value = { Cursor };
 
@@ -41,7 +42,7 @@ impl<'a> Model for Tokens<'a> {
         × (length t.front.now ≡ utf8_valid_len t.text.now)
         × (t.at ≤ length t.front.now)
         × (length t.front.now ≤ length t.text.now)
-        × (length t.text.now ≤ LONGEST_SCRIPT) };
+        × (length t.text.now ≤ most_script_bytes) };
 }
 
 /// How far one has to read for an answer, in a script of `len` bytes.
@@ -84,9 +85,9 @@ impl<'a> Tokens<'a> {
     ghost use Rattle.do_lex.specs.Place.{Cursor};
     ghost use Rattle.do_lex.specs.Cursor.{answer_of, IfToken, IfNoToken};
 
-    /// A reader that begins at the first byte. The text may be any bytes, at most `LONGEST_SCRIPT`.
+    /// A reader that begins at the first byte. The text may be any bytes, at most [`LONGEST_SCRIPT`](crate::LONGEST_SCRIPT).
     pub fn new(text: &'a [u8]) -> Tokens<'a>
-        requires { length text.now ≤ LONGEST_SCRIPT }
+        requires { length text.now ≤ most_script_bytes }
         ensures text { result.text ≡ text.now }
         ensures start { result.at ≡ 0 }
     {

@@ -8,9 +8,8 @@ use Rattle.do_lex.specs.Next.{IsNext}
 use Rattle.do_lex.specs.declared.pieces.Span.{Span}
 use Rattle.do_lex.specs.declared.fault.LexFault.{LexFault}
 use Rattle.do_lex.specs.declared.tokens.Token.{Token}
-use Rattle.do_tree.specs.Accepts.{end_of}
 use Rattle.do_parse.specs.Cuts.{AreSlices, IsLexed}
-use Rattle.do_parse.proofs.Top.{slices_more, end_more}
+use Rattle.do_parse.proofs.Top.{slices_more}
 
 -- What is still cut goes on with these tokens.
 abbrev pub GoesOn : List ℕ → ℕ → List Token → Type 0
@@ -32,6 +31,3 @@ cut_more text from at next ts us t h u e goes n spans last c =
 
 pub slices_on : (text from : List ℕ) (ts us : List Token) (t : Token) → from ≡ text → us ≡ ts ++ t ∷ [] → AreSlices text ts → t.text.now ≡ slice_range from t.at t.end → AreSlices text us
 slices_on text from ts us t h u s e = subst (λ xs. AreSlices text xs) (sym u) (slices_more text ts t s (e ∙ ap (λ x. slice_range x t.at t.end) h))
-
-pub end_on : (ts us : List Token) (t : Token) → us ≡ ts ++ t ∷ [] → t.end ≡ end_of (map span_of us)
-end_on ts us t u = sym (ap end_of (spans_more ts us t u) ∙ end_more (map span_of ts) (span_of t))

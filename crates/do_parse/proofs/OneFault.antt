@@ -8,8 +8,8 @@ use Rattle.do_lex.specs.Cut.{IsCut}
 use Rattle.do_lex.specs.declared.fault.LexFault.{LexFault}
 use Rattle.do_lex.specs.declared.fault.LexFault.TheVariants as lex
 use Rattle.do_lex.specs.declared.pieces.Span.{Span}
-use Rattle.do_lex.specs.declared.pieces.TheConstants.{LONGEST_SCRIPT}
-use Rattle.do_tree.specs.Accepts.{most_inside, AreLexemes, IsShallow, IsScriptText, Begins, BeginsAt, IsUnexpected, EndsEarly, IsTokenFault, end_of}
+use Rattle.do_lex.specs.Limits.{most_script_bytes}
+use Rattle.do_tree.specs.Accepts.{most_inside, AreLexemes, IsShallow, IsScriptText, Begins, BeginsAt, IsUnexpected, EndsEarly, IsTokenFault}
 use Rattle.do_tree.specs.Grammar.{IsScript}
 use Rattle.do_tree.specs.Lexeme.{Lexeme}
 use Rattle.do_tree.specs.Tree.{Script}
@@ -203,7 +203,7 @@ some_none f h = cc
 
 -- What a fault comes of.
 data Cause (text : List ℕ) (a : ParseFault) : Type 0 where
-  too_long : LONGEST_SCRIPT < length text → a ≡ record { place = LONGEST_SCRIPT; kind = kind.TooLong } → Cause text a
+  too_long : most_script_bytes < length text → a ≡ record { place = most_script_bytes; kind = kind.TooLong } → Cause text a
   token : (f : LexFault) → IsWithinLimit text → IsTokenFault text f → a ≡ of_token f → Cause text a
   unexpected : IsWithinLimit text → IsUnexpected text a.place → a.kind ≡ kind.Unexpected → Cause text a
   early : IsWithinLimit text → EndsEarly text a.place → a.kind ≡ kind.Unexpected → Cause text a
@@ -230,7 +230,7 @@ alike : (a b : ParseFault) → a.place ≡ b.place → a.kind ≡ b.kind → a �
 alike a b p k i = record { place = p i; kind = k i }
 
 one_early : (text : List ℕ) (a b : ℕ) → EndsEarly text a → EndsEarly text b → a ≡ b
-one_early text a b e f = e.at_is ∙ ap (λ xs. end_of xs) (one_cut text 0 e.spans f.spans None None e.cut f.cut).0 ∙ sym f.at_is
+one_early text a b e f = e.at_is ∙ sym f.at_is
 
 one : (text : List ℕ) (a b : ParseFault) → Cause text a → Cause text b → a.kind ≢ kind.NoMemory → b.kind ≢ kind.NoMemory → a ≡ b
 one text a b (memory p) d n m = absurd (n p)

@@ -9,13 +9,14 @@ use Rattle.do_lex.proofs.Openings.{chosen}
 use Rattle.do_lex.proofs.Spans.{IsTokenOf, IsTokenOf-gives}
 use Rattle.do_lex.specs.Cursor.{span_of}
 use Rattle.do_lex.specs.Cut.{IsCut}
-use Rattle.do_lex.specs.Lexemes.{IsNumber, number_value, greatest_number}
+use Rattle.do_value.specs.Limits.{most_number}
+use Rattle.do_lex.specs.Lexemes.{IsNumber, number_value}
 use Rattle.do_lex.specs.Next.{Answer, Gives, IsNext, reach, unless_malformed}
 use Rattle.do_lex.specs.declared.fault.LexFault.{LexFault}
 use Rattle.do_lex.specs.declared.fault.LexFault.TheVariants.{BadChar}
 use Rattle.do_lex.specs.declared.kind.Kind.TheVariants as kinds
 use Rattle.do_lex.specs.declared.pieces.Span.{Span}
-use Rattle.do_lex.specs.declared.pieces.TheConstants.{LONGEST_SCRIPT}
+use Rattle.do_lex.specs.Limits.{most_script_bytes}
 use Rattle.do_lex.specs.declared.tokens.Token.{Token}
 use Rattle.do_parse.specs.Cuts.{AreSlices, IsLexed}
 use Rattle.do_parse.specs.Sound.{IsSound, AreSound}
@@ -47,7 +48,7 @@ record SoundAt (text : List ℕ) (at : ℕ) (t : Token) : Type 0 where
   some : t.at < t.end
   within : t.end ≤ length text
 
-sound_at : (text : List ℕ) (at : ℕ) (t : Token) → length text ≤ LONGEST_SCRIPT → at ≤ length text → IsNext text at (Ok (Some (span_of t))) → t.text.now ≡ slice_range text t.at t.end → SoundAt text at t
+sound_at : (text : List ℕ) (at : ℕ) (t : Token) → length text ≤ most_script_bytes → at ≤ length text → IsNext text at (Ok (Some (span_of t))) → t.text.now ≡ slice_range text t.at t.end → SoundAt text at t
 sound_at text at t small in_range n slice =
     let g : Gives (drop at text) at (Ok (Some (span_of t))) = subst (λ a. Gives (drop at text) at a) (given_is text n.given (span_of t) n.answer_is) n.gives in
     let w = IsTokenOf-gives text at (span_of t) in_range g in
@@ -57,14 +58,14 @@ sound_at text at t small in_range n slice =
     let number = λ (k : t.kind ≡ kinds.Number). gives_number (drop at text) at (Ok (Some (span_of t))) g (span_of t) refl k in
     record {
       sound = record {
-        short = subst (λ (xs : List ℕ). length xs ≤ LONGEST_SCRIPT) (sym slice) (omega (arith, len, small, w.within));
+        short = subst (λ (xs : List ℕ). length xs ≤ most_script_bytes) (sym slice) (omega (arith, len, small, w.within));
         first = subst (λ (xs : List ℕ). get_or xs 0 0 < 128) (sym slice)
             (subst (λ b. b < 128) (sym (slice_at text t.at t.end 0 (omega (arith, w.some)))) (subst (λ i. get_or text i 0 < 128) (sym zeroed) w.first));
         last = subst (λ (xs : List ℕ). get_or xs (length xs - 1) 0 < 128) (sym slice)
             (subst (λ m. get_or (slice_range text t.at t.end) (m - 1) 0 < 128) (sym len)
             (subst (λ b. b < 128) (sym (slice_at text t.at t.end (t.end - t.at - 1) (omega (arith, w.some)))) (subst (λ i. get_or text i 0 < 128) (sym final) w.last)));
         number = λ k. subst (λ xs. IsNumber xs) (number_slice text at t.at t.end (number k).before (number k).n (number k).start (number k).stop ∙ sym slice) (number k).number;
-        small = λ k. subst (λ xs. number_value xs ≤ greatest_number) (number_slice text at t.at t.end (number k).before (number k).n (number k).start (number k).stop ∙ sym slice) (number k).small;
+        small = λ k. subst (λ xs. number_value xs ≤ most_number) (number_slice text at t.at t.end (number k).before (number k).n (number k).start (number k).stop ∙ sym slice) (number k).small;
       };
       behind = w.behind;
       some = w.some;
@@ -76,14 +77,14 @@ record SoundFrom (text : List ℕ) (at : ℕ) (ts : List Token) : Type 0 where
   each : All IsSound ts
   few : at + length ts ≤ length text
 
-sound_from : (text : List ℕ) (at : ℕ) (ts : List Token) (last : Option LexFault) → length text ≤ LONGEST_SCRIPT → at ≤ length text → IsCut text at (map span_of ts) last → AreSlices text ts → SoundFrom text at ts
+sound_from : (text : List ℕ) (at : ℕ) (ts : List Token) (last : Option LexFault) → length text ≤ most_script_bytes → at ≤ length text → IsCut text at (map span_of ts) last → AreSlices text ts → SoundFrom text at ts
 sound_from text at [] last small in_range cut slices = record { each = All-nil IsSound; few = omega (arith, in_range) }
 sound_from text at (t ∷ ts) last small in_range cut slices =
     let one = sound_at text at t small in_range cut.0 slices.0 in
     let rest = sound_from text t.end ts last small one.within cut.1 slices.1 in
     record { each = All-cons IsSound t ts one.sound rest.each; few = omega (arith, one.behind, one.some, rest.few) }
 
-pub lexed_sound : (text : List ℕ) (ts : List Token) (last : Option LexFault) → length text ≤ LONGEST_SCRIPT → IsLexed text ts last → AreSound ts
+pub lexed_sound : (text : List ℕ) (ts : List Token) (last : Option LexFault) → length text ≤ most_script_bytes → IsLexed text ts last → AreSound ts
 lexed_sound text ts last small l =
     let s = sound_from text 0 ts last small (omega arith) l.cut l.slices in
     record { each = s.each; few = omega (arith, s.few, small) }

@@ -5,9 +5,9 @@ use Rattle.do_lex.proofs.OneAnswer.{one_cut}
 use Rattle.do_lex.specs.Cursor.{span_of}
 use Rattle.do_lex.specs.declared.fault.LexFault.{LexFault}
 use Rattle.do_lex.specs.declared.fault.LexFault.TheVariants as lex
-use Rattle.do_lex.specs.declared.pieces.Span.{Span}
 use Rattle.do_lex.specs.declared.tokens.Token.{Token}
-use Rattle.do_tree.specs.Accepts.{IsTokenFault, IsScriptText, EndsEarly, end_of}
+use Rattle.do_lex.specs.Ending.{end_of_text}
+use Rattle.do_tree.specs.Accepts.{IsTokenFault, IsScriptText, EndsEarly}
 use Rattle.do_tree.specs.Tree.{Script}
 use Rattle.do_parse.specs.Cuts.{AreSlices, IsLexed}
 use Rattle.do_parse.specs.Fault.{IsFault, IsNestedTooFar, IsWithinLimit, of_token, wrong_at}
@@ -23,7 +23,7 @@ token_fault text (lex.BadChar at) w h = (w, h)
 token_fault text (lex.OpenText at) w h = (w, h)
 token_fault text (lex.LongNumber at) w h = (w, h)
 
-pub top_unexpected : (text : List ℕ) (tokens left : List Token) (last : Option LexFault) (end : ℕ) → IsWithinLimit text → end ≡ end_of (map span_of tokens) → IsLexed text tokens last
+pub top_unexpected : (text : List ℕ) (tokens left : List Token) (last : Option LexFault) (end : ℕ) → IsWithinLimit text → end ≡ end_of_text text → IsLexed text tokens last
     → Parses IsWhole NothingLeft tokens left (Err Unexpected) → IsFault text (wrong_at (at_next left) last end)
 top_unexpected text tokens (t ∷ rest) last end w h l p = (w, inl (unexpected_at text tokens rest t last l p))
 top_unexpected text tokens [] (Some f) end w h l p = token_fault text f w (fault_early text tokens f l p)
@@ -42,11 +42,6 @@ top_behind text tokens left s f w l h p = token_fault text f w (fault_behind tex
 pub slices_more : (text : List ℕ) (ts : List Token) (t : Token) → AreSlices text ts → t.text.now ≡ slice_range text t.at t.end → AreSlices text (ts ++ t ∷ [])
 slices_more text [] t s h = (h, tt)
 slices_more text (x ∷ ts) t s h = (s.0, slices_more text ts t s.1 h)
-
-pub end_more : (xs : List Span) (x : Span) → end_of (xs ++ x ∷ []) ≡ x.end
-end_more [] x = refl
-end_more (y ∷ []) x = refl
-end_more (y ∷ z ∷ xs) x = end_more (z ∷ xs) x
 
 -- The same with the tokens as the parser got them.
 pub top_accepts : (text : List ℕ) (tokens start left : List Token) (last : Option LexFault) (s : Script) → IsLexed text tokens last → last ≡ None → start ≡ tokens → left ≡ [] → Parses IsWhole NothingLeft start left (Ok s) → IsScriptText text s

@@ -1,12 +1,13 @@
 -- What the parser's answer for all tokens says of the text.
 use Rattle.std.proofs.Common.{◌≡◌, ◌≢◌, ◌<◌, ◌≤◌, ℕ, List, [], ◌∷◌, ◌++◌, map, Option, Some, None, Result, Ok, Err, inl, inr, refl, sym, ◌∙◌, ap, subst, append_assoc}
 use Rattle.std.proofs.lemmas.List.{append-nil, map-append}
+use Rattle.do_lex.specs.Ending.{end_of_text}
 use Rattle.do_lex.specs.Cursor.{span_of}
 use Rattle.do_lex.specs.Cut.{IsCut}
 use Rattle.do_lex.specs.declared.pieces.Span.{Span}
 use Rattle.do_lex.specs.declared.fault.LexFault.{LexFault}
 use Rattle.do_lex.specs.declared.tokens.Token.{Token}
-use Rattle.do_tree.specs.Accepts.{most_inside, AreLexemes, IsShallow, IsScriptText, Begins, BeginsAt, IsUnexpected, EndsEarly, IsTokenFault, end_of}
+use Rattle.do_tree.specs.Accepts.{most_inside, AreLexemes, IsShallow, IsScriptText, Begins, BeginsAt, IsUnexpected, EndsEarly, IsTokenFault}
 use Rattle.do_tree.specs.Accepts as accepts
 use Rattle.do_tree.specs.Grammar.{IsScript}
 use Rattle.do_tree.specs.Lexeme.{Lexeme}
@@ -107,7 +108,7 @@ fault_early text tokens f l p =
       begun = subst (λ fs. BeginsAt text (map span_of fs)) front (begun_at text tokens r.front [] p.so.used l.slices r.split r.are r.shallow (begins p.so.used p.so.begun));
     }
 
-pub ends_early : (text : List ℕ) (tokens : List Token) → IsLexed text tokens None → Parses IsWhole NothingLeft tokens [] (Err Unexpected) → EndsEarly text (end_of (map span_of tokens))
+pub ends_early : (text : List ℕ) (tokens : List Token) → IsLexed text tokens None → Parses IsWhole NothingLeft tokens [] (Err Unexpected) → EndsEarly text (end_of_text text)
 ends_early text tokens l p =
     let r = p.so.read in
     let front : r.front ≡ tokens = all_read text tokens r.front l.slices r.split in

@@ -2,7 +2,7 @@
 use Rattle.std.specs.Prelude.{◌≡◌, ◌<◌, ◌≤◌, ◌⊎◌, ℕ, List, [], ◌∷◌, ◌++◌, length, Option, Some, None}
 use Rattle.do_lex.specs.declared.fault.LexFault.{LexFault}
 use Rattle.do_lex.specs.declared.fault.LexFault.TheVariants as lex
-use Rattle.do_lex.specs.declared.pieces.TheConstants.{LONGEST_SCRIPT}
+use Rattle.do_lex.specs.Limits.{most_script_bytes}
 use Rattle.do_tree.specs.Accepts.{most_inside, AreLexemes, Begins, IsTokenFault, IsUnexpected, EndsEarly, IsTooNested}
 use Rattle.do_tree.specs.Lexeme.{Lexeme}
 use Rattle.do_parse.specs.declared.fault.ParseFault.{ParseFault}
@@ -18,12 +18,12 @@ pub record IsNestedTooFar (text : List ℕ) (at : ℕ) : Type 0 where
 
 -- The text has no more bytes than a script may have.
 abbrev pub IsWithinLimit : List ℕ → Type 0
-IsWithinLimit text = length text ≤ LONGEST_SCRIPT
+IsWithinLimit text = length text ≤ most_script_bytes
 
 -- The fault at this place of this text. That the text is too long comes first. Of want of memory nothing is said but the
 -- place.
 abbrev pub IsFaultAt : List ℕ → ParseKind → ℕ → Type 0
-IsFaultAt text kind.TooLong at = (LONGEST_SCRIPT < length text) × (at ≡ LONGEST_SCRIPT)
+IsFaultAt text kind.TooLong at = (most_script_bytes < length text) × (at ≡ most_script_bytes)
 IsFaultAt text kind.BadChar at = IsWithinLimit text × IsTokenFault text (lex.BadChar at)
 IsFaultAt text kind.OpenText at = IsWithinLimit text × IsTokenFault text (lex.OpenText at)
 IsFaultAt text kind.LongNumber at = IsWithinLimit text × IsTokenFault text (lex.LongNumber at)
@@ -40,8 +40,7 @@ of_token (lex.BadChar at) = record { place = at; kind = kind.BadChar }
 of_token (lex.OpenText at) = record { place = at; kind = kind.OpenText }
 of_token (lex.LongNumber at) = record { place = at; kind = kind.LongNumber }
 
--- Where no script begins with what is left: at the next token, else at the fault behind the tokens, else at the end of the
--- last one.
+-- Where no script begins with what is left: at the next token, else at the fault behind the tokens, else at the text's end.
 abbrev pub wrong_at : Option ℕ → Option LexFault → ℕ → ParseFault
 wrong_at (Some at) last end = record { place = at; kind = kind.Unexpected }
 wrong_at None (Some fault) end = of_token fault

@@ -1,6 +1,6 @@
 //! The public call.
 ghost use Rattle.std.specs.Prelude.{◌≡◌, ◌<◌, IfOk, IfErr, Err, length};
-ghost use Rattle.do_lex.specs.declared.pieces.TheConstants.{LONGEST_SCRIPT};
+ghost use Rattle.do_lex.specs.Limits.{most_script_bytes};
 ghost use Rattle.do_parse.specs.Fault.{IsFault, of_token, wrong_at};
 ghost use Rattle.do_tree.specs.Accepts.{IsScriptText};
 ghost use Rattle.do_tree.specs.Seen.{script_of};
@@ -10,7 +10,7 @@ use crate::cursor::Cursor;
 use crate::cut::cut;
 use crate::fault::{ParseFault, ParseKind};
 use crate::stop::Stop;
-use do_lex::{LONGEST_SCRIPT, LexFault};
+use do_lex::{LONGEST_SCRIPT, LexFault, end_of_text};
 use do_tree::Script;
 use std::alloc::Global;
 
@@ -21,7 +21,8 @@ pub fn parse(alloc: Global, text: &[u8]) -> Result<Script, ParseFault>
     ensures accepts { IfOk result (λ script. IsScriptText text.now (script_of script)) }
     ensures only { IfOk result (λ script. (other : tree.Script) → IsScriptText text.now other → other ≡ script_of script) }
     ensures refuses { IfErr result (λ fault. IsFault text.now fault) }
-    ensures too_long { LONGEST_SCRIPT < length text.now → result ≡ Err (record { place = LONGEST_SCRIPT; kind = ParseKind.TooLong }) }
+    ensures too_long { most_script_bytes < length text.now
+        → result ≡ Err (record { place = most_script_bytes; kind = ParseKind.TooLong }) }
 {
     if text.len() > LONGEST_SCRIPT {
         return Err(ParseFault {
@@ -38,7 +39,10 @@ pub fn parse(alloc: Global, text: &[u8]) -> Result<Script, ParseFault>
             None => Ok(script),
             Some(fault) => Err(of_token(fault)),
         },
-        Err(Stop::Unexpected) => Err(wrong_at(cursor.next(), lexed.fault, lexed.end)),
+        Err(Stop::Unexpected) => {
+            let end = end_of_text(text) as u32;
+            Err(wrong_at(cursor.next(), lexed.fault, end))
+        }
         Err(Stop::TooNested) => Err(ParseFault {
             place: cursor.place(),
             kind: ParseKind::TooNested,
@@ -77,7 +81,7 @@ fn of_token(fault: LexFault) -> ParseFault
 }
 
 /// The fault where no script begins with what is left: at the token that is next, else at the text's own fault, else at
-/// the end of the last token.
+/// the text's end.
 fn wrong_at(next: Option<u32>, fault: Option<LexFault>, end: u32) -> ParseFault
     ensures { result ≡ wrong_at next fault end }
 {

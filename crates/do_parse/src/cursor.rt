@@ -2,7 +2,7 @@
 ghost use Rattle.std.specs.Prelude.{◌≡◌, ◌<◌, ◌≤◌, ◌↔◌, ◌^◌, ℕ, List, Option, Some, IsTrue, drop, length, Ok, codes};
 ghost use Rattle.do_lex.specs.declared.tokens.Token.{Token};
 ghost use Rattle.do_lex.specs.declared.kind.Kind.TheVariants as kinds;
-ghost use Rattle.do_lex.specs.declared.pieces.TheConstants.{LONGEST_SCRIPT};
+ghost use Rattle.do_lex.specs.Limits.{most_script_bytes};
 ghost use Rattle.do_parse.specs.Parsed.{Parses, Anything};
 ghost use Rattle.do_parse.specs.Sound.{AreSound};
 ghost use Rattle.do_parse.specs.Starts as starts;
@@ -260,7 +260,7 @@ fn is_word(kind: Kind) -> bool
 
 /// A name in memory of its own, which is no longer than a script may be.
 pub(crate) fn name_of(alloc: Global, at: u32, text: &str) -> Result<Name, Stop>
-    requires { length text.now ≤ LONGEST_SCRIPT }
+    requires { length text.now ≤ most_script_bytes }
     ensures { IsMade (λ name. named_of name) (record { at = at; text = text.now }) result }
 {
     match new_text(alloc, text) {

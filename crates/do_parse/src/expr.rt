@@ -113,7 +113,8 @@ impl<'a> Cursor<'a> {
     #[cycle(parser)]
     fn chain_rest(&mut self, chain: Chain, depth: u32) -> Result<Vec<Arc<Expr>>, Stop>
         requires { depth ≤ 64 }
-        ensures { Parses (Repeat (IsNextOperand chain depth)) (ends_by (behind_chain chain)) self.old self.new (with_tree (λ rest. exprs_at rest.items) result) }
+        ensures { Parses (Repeat (IsNextOperand chain depth)) (ends_by (behind_chain chain))
+            self.old self.new (with_tree (λ rest. exprs_at rest.items) result) }
     {
         let mut rest = Vec::new(self.alloc());
         while self.next_is(Kind::Mark(chain_mark(chain))) {
@@ -166,7 +167,8 @@ impl<'a> Cursor<'a> {
     #[cycle(parser)]
     fn operands(&mut self, level: Level, depth: u32) -> Result<Vec<Operand>, Stop>
         requires { depth ≤ 64 }
-        ensures { Parses (Repeat (IsOperand (level_of level) depth)) (ends_by (behind_strict (level_of level))) self.old self.new (with_tree (λ rest. operands_at rest.items) result) }
+        ensures { Parses (Repeat (IsOperand (level_of level) depth)) (ends_by (behind_strict (level_of level)))
+            self.old self.new (with_tree (λ rest. operands_at rest.items) result) }
     {
         let mut rest = Vec::new(self.alloc());
         while let Some(op) = operator_next(level, self.kind()) {

@@ -25,8 +25,8 @@ pub enum ParseKind {
     /// A number past 9007199254740991 (2^53 - 1).
     #[error("a number that is too great")]
     LongNumber,
-    /// A token for which no script begins with the tokens up to it. Where the text ends too early, the place is the end
-    /// of its last token.
+    /// A token for which no script begins with the tokens up to it. Where the text ends too early, the place is its end,
+    /// without the space, tabs, CR and LF that it ends in.
     #[error("a token that cannot stand there")]
     Unexpected,
     /// A token that more than 64 statements, expressions and operands hold.

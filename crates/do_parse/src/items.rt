@@ -42,7 +42,8 @@ impl<'a> Cursor<'a> {
     #[cycle(parser)]
     pub(crate) fn items(&mut self, depth: u32) -> Result<Vec<Item>, Stop>
         requires { depth ≤ 64 }
-        ensures { Parses (Repeat (IsItem depth)) (BeginsWith (kinds.Mark marks.CloseBrace)) self.old self.new (with_tree (λ items. items_at items.items) result) }
+        ensures { Parses (Repeat (IsItem depth)) (BeginsWith (kinds.Mark marks.CloseBrace))
+            self.old self.new (with_tree (λ items. items_at items.items) result) }
     {
         let mut items = Vec::new(self.alloc());
         while !self.next_is(Kind::Mark(Mark::CloseBrace)) {

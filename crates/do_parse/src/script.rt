@@ -114,7 +114,8 @@ impl<'a> Cursor<'a> {
 
     /// The members of a class, up to its closing brace.
     fn members(&mut self) -> Result<Vec<Method>, Stop>
-        ensures parses { Parses (Repeat IsMember) (BeginsWith (kinds.Mark marks.CloseBrace)) self.old self.new (with_tree (λ methods. map method_of methods.items) result) }
+        ensures parses { Parses (Repeat IsMember) (BeginsWith (kinds.Mark marks.CloseBrace))
+            self.old self.new (with_tree (λ methods. map method_of methods.items) result) }
         // Each method has a token.
         ensures few { IfOk result (λ methods. length methods.items ≤ length self.old) }
     {

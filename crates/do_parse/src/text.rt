@@ -1,7 +1,8 @@
 //! What the tokens of texts and numbers stand for.
 ghost use Rattle.std.specs.Prelude.{◌≡◌, ◌<◌, ◌≤◌, ◌-◌, ◌++◌, ◌∷◌, [], length, slice_index, take, drop, pos};
-ghost use Rattle.do_lex.specs.Lexemes.{IsNumber, escaped, text_value, number_value, greatest_number};
-ghost use Rattle.do_lex.specs.declared.pieces.TheConstants.{LONGEST_SCRIPT};
+ghost use Rattle.do_value.specs.Limits.{most_number};
+ghost use Rattle.do_lex.specs.Lexemes.{IsNumber, escaped, text_value, number_value};
+ghost use Rattle.do_lex.specs.Limits.{most_script_bytes};
 ghost use Rattle.do_parse.specs.Then.{IsMade};
 
 use crate::stop::Stop;
@@ -81,7 +82,7 @@ fn between_quotes(quoted: &str) -> &str
 
 /// What the token of a text stands for.
 pub(crate) fn text_of(alloc: Global, token: &str) -> Result<Text, Stop>
-    requires short { length token.now ≤ LONGEST_SCRIPT }
+    requires short { length token.now ≤ most_script_bytes }
     requires first { slice_index token.now 0 < 128 }
     requires last { slice_index token.now (length token.now - 1) < 128 }
     ensures { IsMade (λ text. text) (text_value (take (length token.now - 2) (drop 1 token.now))) result }
@@ -97,7 +98,7 @@ pub(crate) fn text_of(alloc: Global, token: &str) -> Result<Text, Stop>
 
 /// A text in memory of its own, which is no longer than a script may be.
 pub(crate) fn new_text(alloc: Global, text: &str) -> Result<Text, Stop>
-    requires { length text.now ≤ LONGEST_SCRIPT }
+    requires { length text.now ≤ most_script_bytes }
     ensures { IsMade (λ made. made) text.now result }
 {
     match Text::new(alloc, text) {
@@ -111,7 +112,7 @@ pub(crate) fn new_text(alloc: Global, text: &str) -> Result<Text, Stop>
 /// The number that the digits write, which is one of this language.
 pub(crate) fn number_of(digits: &str) -> Num
     requires number { IsNumber digits.now }
-    requires small { number_value digits.now ≤ greatest_number }
+    requires small { number_value digits.now ≤ most_number }
     ensures { result ≡ pos (number_value digits.now) }
 {
     let Ok(value) = digits.parse::<u64>() else {

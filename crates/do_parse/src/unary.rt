@@ -159,7 +159,8 @@ impl<'a> Cursor<'a> {
     #[cycle(parser)]
     fn args(&mut self, depth: u32) -> Result<Vec<Arg>, Stop>
         requires { depth ≤ 64 }
-        ensures { Parses (CommaList (IsOneArg depth) depth) (BeginsWith (kinds.Mark marks.CloseParen)) self.old self.new (with_tree (λ args. args_at args.items) result) }
+        ensures { Parses (CommaList (IsOneArg depth) depth) (BeginsWith (kinds.Mark marks.CloseParen))
+            self.old self.new (with_tree (λ args. args_at args.items) result) }
     {
         let mut args = Vec::new(self.alloc());
         while !self.next_is(Kind::Mark(Mark::CloseParen)) {

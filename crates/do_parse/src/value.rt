@@ -124,7 +124,8 @@ impl<'a> Cursor<'a> {
     #[cycle(parser)]
     fn exprs(&mut self, depth: u32) -> Result<Vec<Arc<Expr>>, Stop>
         requires { depth ≤ 64 }
-        ensures { Parses (CommaList (IsExpr (depth + 1)) depth) (BeginsWith (kinds.Mark marks.CloseBracket)) self.old self.new (with_tree (λ items. exprs_at items.items) result) }
+        ensures { Parses (CommaList (IsExpr (depth + 1)) depth) (BeginsWith (kinds.Mark marks.CloseBracket))
+            self.old self.new (with_tree (λ items. exprs_at items.items) result) }
     {
         let mut items = Vec::new(self.alloc());
         while !self.next_is(Kind::Mark(Mark::CloseBracket)) {
@@ -153,7 +154,8 @@ impl<'a> Cursor<'a> {
     #[cycle(parser)]
     fn pairs(&mut self, depth: u32) -> Result<Vec<Pair>, Stop>
         requires { depth ≤ 64 }
-        ensures { Parses (CommaList (IsOnePair depth) depth) (BeginsWith (kinds.Mark marks.CloseBrace)) self.old self.new (with_tree (λ pairs. pairs_at pairs.items) result) }
+        ensures { Parses (CommaList (IsOnePair depth) depth) (BeginsWith (kinds.Mark marks.CloseBrace))
+            self.old self.new (with_tree (λ pairs. pairs_at pairs.items) result) }
     {
         let mut pairs = Vec::new(self.alloc());
         while !self.next_is(Kind::Mark(Mark::CloseBrace)) {

@@ -3,7 +3,8 @@ use Rattle.std.proofs.Common.{if◌then◌else◌, ◌==◌, ◌≡◌, ◌≢�
 use Rattle.std.proofs.lemmas.Bool.{false≢true}
 use Rattle.std.proofs.lemmas.Bool.Decides.{nat_tests}
 use Rattle.do_lex.specs.Kind.{keyword_of, kind_of, mark_at, mark_text, word_kind}
-use Rattle.do_lex.specs.Lexemes.{IsInside, IsNumber, IsWord, greatest_number, is_escape, number_value}
+use Rattle.do_value.specs.Limits.{most_number}
+use Rattle.do_lex.specs.Lexemes.{IsInside, IsNumber, IsWord, is_escape, number_value}
 use Rattle.do_lex.specs.Next.{begins, opening_of}
 use Rattle.do_lex.specs.declared.kind.Kind.{Kind}
 use Rattle.do_lex.specs.declared.kind.Kind.TheVariants as kind
@@ -20,7 +21,7 @@ use Rattle.do_tree.proofs.Spelled.{IsOneQuote}
 pub data IsToken : Kind → List ℕ → Type 0 where
   of_mark : (m : Mark) → IsToken (kind.Mark m) (mark_text m)
   of_word : {text : List ℕ} → IsWord text → IsToken (word_kind text) text
-  of_number : {text : List ℕ} → IsNumber text → number_value text ≤ greatest_number → IsToken kind.Number text
+  of_number : {text : List ℕ} → IsNumber text → number_value text ≤ most_number → IsToken kind.Number text
   of_text : {q : ℕ} {inside : List ℕ} → IsOneQuote q → IsInside q is_escape inside → IsUtf8 inside → IsToken kind.Text (q ∷ (inside ++ q ∷ []))
 
 abbrev pub edge_of : Kind → Edge

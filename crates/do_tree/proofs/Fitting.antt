@@ -9,7 +9,8 @@ use Rattle.std.proofs.lemmas.List.{length-append}
 use Rattle.std.proofs.lemmas.Slice.Eq.{bytes_eq-Decides}
 use Rattle.do_lex.specs.Bytes.{is_word_byte, is_word_start}
 use Rattle.do_lex.specs.Kind.{keyword_of, keyword_text, keywords, kind_of, mark_text, word_kind}
-use Rattle.do_lex.specs.Lexemes.{IsInside, IsNumber, IsWord, escaped, greatest_number, is_escape, number_value, text_value}
+use Rattle.do_value.specs.Limits.{most_number}
+use Rattle.do_lex.specs.Lexemes.{IsInside, IsNumber, IsWord, escaped, is_escape, number_value, text_value}
 use Rattle.do_lex.specs.Lexemes.IsInside.{none, plain, escape}
 use Rattle.do_lex.specs.declared.kind.Kind.{Kind}
 use Rattle.do_lex.specs.declared.kind.Kind.TheVariants as kind
@@ -47,7 +48,7 @@ mark_in (of_word {text} w) e = elim (word_kind_is text) [ inl a ↦ cc | inr a �
 mark_in (of_number w s) e = cc
 mark_in (of_text q x u) e = cc
 
-number_in : {k : Kind} {t : List ℕ} → IsToken k t → k ≡ kind.Number → IsNumber t × (number_value t ≤ greatest_number)
+number_in : {k : Kind} {t : List ℕ} → IsToken k t → k ≡ kind.Number → IsNumber t × (number_value t ≤ most_number)
 number_in (of_mark m) e = cc
 number_in (of_word {text} w) e = elim (word_kind_is text) [ inl a ↦ cc | inr a ↦ let b = a.1 in cc ]
 number_in (of_number w s) e = (w, s)
@@ -93,7 +94,7 @@ is_word_so (b ∷ bs) h =
     (p.0, (and_parts (is_word_byte b) (list_all is_word_byte bs) p.1).1)
 
 -- the digits of a number's value
-digits_back : (t : List ℕ) → IsNumber t → number_value t ≤ greatest_number → digits_text (number_value t) ≡ t
+digits_back : (t : List ℕ) → IsNumber t → number_value t ≤ most_number → digits_text (number_value t) ≡ t
 digits_back [] w small = absurd w
 digits_back (b ∷ bs) w small =
     let v = number_value (b ∷ bs) in

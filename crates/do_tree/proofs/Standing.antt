@@ -8,7 +8,8 @@ use Rattle.std.proofs.lemmas.Bool.Decides.{nat_tests}
 use Rattle.std.proofs.lemmas.List.{length-append}
 use Rattle.do_lex.specs.Bytes.{is_blank, is_in_line, is_letter_or_digit, is_quote, is_word_byte, is_word_start}
 use Rattle.do_lex.specs.Kind.{mark_text, word_kind}
-use Rattle.do_lex.specs.Lexemes.{IsInside, IsNumber, IsUnit, IsWord, greatest_number, is_escape, number_value}
+use Rattle.do_value.specs.Limits.{most_number}
+use Rattle.do_lex.specs.Lexemes.{IsInside, IsNumber, IsUnit, IsWord, is_escape, number_value}
 use Rattle.do_lex.specs.Lexemes.IsInside.{none, plain, escape}
 use Rattle.do_lex.specs.Longest.{IsLongest}
 use Rattle.do_lex.specs.Next.{Answer, Stands, StandsBy, after_slash, begins, mark_answer, number_answer, opening_of, text_answer, token}
@@ -99,14 +100,14 @@ longest_number b bs more w h = by (eqb b 48) refl
         let n : prefix_len is_ascii_digit (b ∷ (bs ++ more)) ≡ length (b ∷ bs) = run_is is_ascii_digit (b ∷ bs) more all no_digit in
         subst (IsLongest IsNumber (b ∷ (bs ++ more))) n (IsLongest-number b (bs ++ more) w.0 (λ z. grind (arith, nat_tests)))
 
-number_stands : (text more : List ℕ) (at : ℕ) → IsNumber text → number_value text ≤ greatest_number → begins is_letter_or_digit more ≡ false
+number_stands : (text more : List ℕ) (at : ℕ) → IsNumber text → number_value text ≤ most_number → begins is_letter_or_digit more ≡ false
     → Stands (text ++ more) at (token kind.Number at (length text))
 number_stands [] more at w small h = absurd w
 number_stands (b ∷ bs) more at w small h =
     let text = b ∷ bs in
     let front : take (length text) (text ++ more) ≡ text = take-append_seam text more in
     let back : drop (length text) (text ++ more) ≡ more = drop-append_seam text more in
-    let not_long : ltb greatest_number (number_value (take (length text) (text ++ more))) ≡ false = ap (λ xs. ltb greatest_number (number_value xs)) front ∙ not_less (number_value text) greatest_number small in
+    let not_long : ltb most_number (number_value (take (length text) (text ++ more))) ≡ false = ap (λ xs. ltb most_number (number_value xs)) front ∙ not_less (number_value text) most_number small in
     let no_letter : begins is_letter_or_digit (drop (length text) (text ++ more)) ≡ false = ap (begins is_letter_or_digit) back ∙ h in
     let e : number_answer (text ++ more) at (length text) ≡ token kind.Number at (length text) =
     (λ i. cond (not_long i) (Err (LongNumber at)) (cond (no_letter i) (Err (BadChar (at + length text))) (token kind.Number at (length text)))) in

@@ -12,7 +12,8 @@ use Rattle.std.proofs.lemmas.Str.{IsCharBoundary-after_ascii, IsCharBoundary-bef
 use Rattle.do_lex.specs.Bytes.{is_letter_or_digit, is_quote, is_word_byte}
 use Rattle.do_lex.specs.Cut.{IsCut}
 use Rattle.do_lex.specs.Kind.{mark_at, mark_text, marks, word_kind}
-use Rattle.do_lex.specs.Lexemes.{IsInside, IsWord, greatest_number, is_escape, number_value}
+use Rattle.do_value.specs.Limits.{most_number}
+use Rattle.do_lex.specs.Lexemes.{IsInside, IsWord, is_escape, number_value}
 use Rattle.do_lex.specs.Longest.{IsLongest}
 use Rattle.do_lex.specs.Next.{Answer, Gives, IsNext, IsNumberAnswer, IsTextAnswer, IsWordAnswer, Stands, StandsBy, begins, mark_answer, reach, token, unless_malformed}
 use Rattle.do_lex.specs.Next.Gives.{skip, here}
@@ -114,9 +115,9 @@ number_cut bytes at span h =
     let letter = begins is_letter_or_digit (drop h.n bytes) in
     ⊎_elim (λ (_, e). cc)
     (λ (small, e). ⊎_elim (λ (_, d). cc)
-    (λ (no_letter, d). cut_so kind.Number bytes at h.n span (sym d) h.longest.in_range (of_number h.longest.holds (not_more greatest_number value small)) no_letter)
+    (λ (no_letter, d). cut_so kind.Number bytes at h.n span (sym d) h.longest.in_range (of_number h.longest.holds (not_more most_number value small)) no_letter)
     (chosen letter (Err (BadChar (at + h.n))) (token kind.Number at h.n) (Ok (Some span)) e))
-    (chosen (ltb greatest_number value) (Err (LongNumber at)) (cond letter (Err (BadChar (at + h.n))) (token kind.Number at h.n)) (Ok (Some span)) (sym h.answer_is))
+    (chosen (ltb most_number value) (Err (LongNumber at)) (cond letter (Err (BadChar (at + h.n))) (token kind.Number at h.n)) (Ok (Some span)) (sym h.answer_is))
 
 -- a text
 one_quote : (b : ℕ) → is_quote b ≡ true → IsOneQuote b

@@ -1,6 +1,7 @@
 -- Which texts are scripts, and where a text that is none goes wrong first.
 use Rattle.std.specs.Prelude.{◌≡◌, ℕ, ◌<◌, ◌≤◌, List, [], ◌∷◌, ◌++◌, length, slice_range, Option, Some, None, All}
 use Rattle.do_lex.specs.Cut.{IsCut}
+use Rattle.do_lex.specs.Ending.{end_of_text}
 use Rattle.do_lex.specs.declared.pieces.Span.{Span}
 use Rattle.do_lex.specs.declared.fault.LexFault.{LexFault}
 use Rattle.do_tree.specs.Grammar.{IsScript}
@@ -75,19 +76,14 @@ pub record IsTooNested (text : List ℕ) (at : ℕ) : Type 0 where
   pub begins : Begins (tokens ++ token ∷ [])
   pub at_is : at ≡ span.at
 
--- The text ends where no script does, though one begins with its tokens: the fault stands at the end of the
--- text's last token, 0 where it has none.
-abbrev pub end_of : List Span → ℕ
-end_of [] = 0
-end_of (s ∷ []) = s.end
-end_of (s ∷ t ∷ ss) = end_of (t ∷ ss)
-
+-- The text ends where no script does, though one begins with its tokens: the fault stands at the text's end, without the
+-- blanks that it ends in.
 pub record EndsEarly (text : List ℕ) (at : ℕ) : Type 0 where
   pub spans : List Span
   pub cut : IsCut text 0 spans None
   pub begun : BeginsAt text spans
   pub none : (tokens : List Lexeme) (script : Script) → AreLexemes text spans tokens → ¬ IsScript tokens script
-  pub at_is : at ≡ end_of spans
+  pub at_is : at ≡ end_of_text text
 
 -- A token's fault, where a script begins with the tokens before it.
 pub record IsTokenFault (text : List ℕ) (fault : LexFault) : Type 0 where

@@ -4,6 +4,7 @@
 use Rattle.std.specs.Prelude.{ℕ, Bool, true, false, ◌&&◌, ◌||◌, not, if◌then◌else◌, List, [], ◌∷◌, Option, Some, None, codes}
 use Rattle.std.specs.List.{list_any}
 use Rattle.std.specs.Str.{bytes_eq}
+use Rattle.do_lex.specs.Kind.{is_keyword}
 use Rattle.do_tree.specs.Tree as tree
 use Rattle.do_tree.specs.Tree.{Named, Expr, Links, Args}
 
@@ -156,12 +157,13 @@ abbrev pub field_of_called : Form → List ℕ → Stage
 field_of_called (opens class) name = callee reaches
 field_of_called f name = if gives_value f then part false name else lost
 
--- .NAME
+-- .NAME. The object's own fields and methods have names that are no keywords.
 abbrev pub after_field : Stage → Named → Stage
 after_field itself n =
     if bytes_eq (codes "ctx") n.text then context
     else (if bytes_eq (codes "env") n.text then environment
-    else own n)
+    else (if is_keyword n.text then lost
+    else own n))
 after_field context n =
     if bytes_eq (codes "storage") n.text then storage
     else (if bytes_eq (codes "blockConcurrencyWhile") n.text then callee blocks

@@ -1,10 +1,11 @@
 -- Faults of names, writes, loops and awaits, each as 'it stands at this place of this script' (this project's
 -- profile).
-use Rattle.std.specs.Prelude.{◌≡◌, ◌≢◌, ℕ, Bool, true, false, ◌&&◌, not, List, [], ◌∷◌, ◌++◌, map, Option, Some, None, Contains, codes}
+use Rattle.std.specs.Prelude.{◌≡◌, ◌≢◌, ℕ, Bool, true, false, ◌&&◌, not, List, [], ◌∷◌, ◌++◌, map, Option, Some, None, is_some, Contains, codes}
 use Rattle.std.specs.List.{list_any}
 use Rattle.std.specs.Str.{bytes_eq}
+use Rattle.do_lex.specs.Kind.{is_keyword}
 use Rattle.do_tree.specs.Forms as form
-use Rattle.do_tree.specs.Forms.{Role, Stage, among, is_call_first, language_words, sort_in}
+use Rattle.do_tree.specs.Forms.{Role, Stage, among, is_call_first, owner_form, sort_in, word_form}
 use Rattle.do_tree.specs.Lookup.{is_named}
 use Rattle.do_tree.specs.Scope.{Scope, Path, Use, written, root_of, ItemsIn, StmtIn, ExprIn, PathIn, LinksIn, ArgsIn}
 use Rattle.do_tree.specs.Tree as tree
@@ -71,17 +72,13 @@ pub data IsReserved (s : Script) : ℕ → Type 0 where
   outside : {c : Scope} {p : Path} {n : Named} → LinksIn s c p form.itself (tree.field n tree.no_links) → p.serves ≡ written
       → among outside_words n.text ≡ true → IsReserved s n.at
 
--- These steps call, or what is behind the first of them.
-abbrev pub is_called : Links → Bool
-is_called (tree.call at a ls) = true
-is_called (tree.field n ls) = is_call_first ls
-is_called _ = false
-
 -- Whether a name and these steps begin a call of the language's own: `fetch(..)`, `Object.keys(..)`.
 abbrev pub begins_call : List ℕ → Links → Bool
-begins_call name ls = among language_words name && is_called ls
+begins_call name (tree.call at a ls) = is_some (word_form name)
+begins_call name (tree.field n ls) = is_some (owner_form name n.text) && is_call_first ls
+begins_call name _ = false
 
--- A variable with no binding in sight.
+-- A variable with no binding in sight, where it doesn't begin a call of the language's own: `Object.values(..)` is none.
 pub record IsUnbound (s : Script) (at : ℕ) : Type 0 where
   pub scope : Scope
   pub path : Path
@@ -101,9 +98,9 @@ are_part_steps (tree.field n ls) = are_part_steps ls
 are_part_steps (tree.index at e ls) = are_part_steps ls
 are_part_steps (tree.call at a ls) = false
 
--- Steps from `this` to a place.
+-- Steps from `this` to a place: a name that is no keyword, and steps to a part.
 abbrev pub are_own_steps : Links → Bool
-are_own_steps (tree.field n ls) = are_part_steps ls
+are_own_steps (tree.field n ls) = not (is_keyword n.text) && are_part_steps ls
 are_own_steps _ = false
 
 abbrev pub is_place_from : Expr → Links → Bool

@@ -1,14 +1,18 @@
-//! Lists that are changed in place, so that a write into a large list copies none of it.
-ghost use Rattle.std.specs.Prelude.{◌≡◌, ◌==◌, ◌≤◌, ◌<◌, ◌++◌, ◌∷◌, [], Some, length, is_ok, option_map, slice_get, slice_set, if◌then◌else◌};
+//! Lists that are changed in place, so that a write into a large list copies none of it. A list that shares its items
+//! gets its own first, whose parts stay shared.
+ghost use Rattle.std.specs.Prelude.{◌≡◌, ◌==◌, ◌≤◌, ◌<◌, ◌++◌, ◌∷◌, [], IfOk, OnOk, OnErr, Some};
+ghost use Rattle.std.specs.Prelude.{length, is_ok, option_map, slice_get, slice_set, if◌then◌else◌};
+ghost use Rattle.std.specs.Arc.{arc_value};
 ghost use Rattle.do_value.specs.Limits.{most_bytes, most_levels};
 ghost use Rattle.do_value.specs.Tree.{items, size_of, depth_of, most_depth, undefined};
 ghost use Rattle.do_value.specs.Seen.{tree_of, trees_in};
-ghost use Rattle.do_value.specs.Changed.{fits, IsFit};
+ghost use Rattle.do_value.specs.Changed.{IsFit};
 
 use crate::build::within_limits;
-use crate::fault::BuildFault;
+use crate::fault::{BuildFault, Mem, NoMemory};
 use crate::value::{Items, Value};
 use std::mem;
+use std::sync::Arc;
 
 impl Items {
     /// How many items there are.
@@ -26,7 +30,8 @@ impl Items {
     }
 
     /// Puts the value behind the last item. The faults are those that [`Value::list`] has for the longer list, or want
-    /// of memory, and leave the items as they were. No other item is visited.
+    /// of memory, and leave the items as they were. The list may have to grow, and items that are shared are copied first,
+    /// one level of them. No other item is visited else.
     pub fn push(&mut self, value: Value) -> Result<(), BuildFault>
         ensures items { self.new ≡ (if is_ok result then self.old ++ tree_of value ∷ [] else self.old) }
         ensures exact { IsFit (items (self.old ++ tree_of value ∷ [])) result }
@@ -34,7 +39,7 @@ impl Items {
         let size = self.size + value.size();
         let levels = value.depth();
         within_limits(size, levels)?;
-        if self.values.push(value).is_err() {
+        if push_to(&mut self.values, value).is_err() {
             return Err(BuildFault::NoMemory);
         }
         self.size = size;
@@ -43,58 +48,95 @@ impl Items {
     }
 
     /// Takes the item at the place, counted from 0, and leaves `undefined` there. `None` is answered exactly where no
-    /// item is there. All items are visited only where none of the others is as deep as the one taken.
-    pub fn take(&mut self, place: usize) -> Option<Value>
-        ensures taken { option_map tree_of result ≡ slice_get self.old place }
-        ensures items { self.new ≡ slice_set self.old place undefined }
+    /// item is there. Items that are shared are copied first, one level of them, and that alone wants memory; want of it
+    /// leaves the items as they were. All items are visited only where they are shared, or none of the others is as deep as
+    /// the one taken.
+    pub fn take(&mut self, place: usize) -> Mem<Option<Value>>
+        ensures taken { IfOk result (λ taken. option_map tree_of taken ≡ slice_get self.old place) }
+        ensures items { self.new ≡ (if is_ok result then slice_set self.old place undefined else self.old) }
+        ensures wanted { OnErr result (place < length self.old) }
     {
         if place < self.values.len() {
-            Some(self.replace(place, Value::Undefined))
+            Ok(Some(self.replace(place, Value::Undefined)?))
         } else {
-            None
+            Ok(None)
         }
     }
 
     /// Puts the value in place of the item at the place, counted from 0. The faults are those that [`Value::list`] has
-    /// for the changed list, and leave the items as they were. All items are visited only where the item that goes is
-    /// deeper than the value and than the others.
+    /// for the changed list, or want of memory, and leave the items as they were. Items that are shared are copied first,
+    /// one level of them, and that alone wants memory. All items are visited only where they are shared, or the item that
+    /// goes is deeper than the value and than the others.
     pub fn put(&mut self, place: usize, value: Value) -> Result<(), BuildFault>
         requires { place < length self.old }
         ensures items { self.new ≡ (if is_ok result then slice_set self.old place (tree_of value) else self.old) }
-        ensures exact { result ≡ fits (items (slice_set self.old place (tree_of value))) }
+        ensures exact { IsFit (items (slice_set self.old place (tree_of value))) result }
     {
         let size = self.size - self.values[place].size() + value.size();
         within_limits(size, value.depth())?;
-        self.replace(place, value);
+        if self.replace(place, value).is_err() {
+            return Err(BuildFault::NoMemory);
+        }
         Ok(())
     }
 
-    /// The items in order.
-    pub fn into_values(self) -> Vec<Value>
-        ensures { trees_in result.items ≡ self }
+    /// The items in order. Where they are shared they are copied, each sharing its parts, and that alone wants memory; want
+    /// of it lets go of this owner's list.
+    pub fn into_values(self) -> Mem<Vec<Value>>
+        ensures { IfOk result (λ values. trees_in values.items ≡ self) }
     {
-        self.values
+        match Arc::unwrap_or_clone(self.values) {
+            Ok(values) => Ok(values),
+            Err(_) => Err(NoMemory),
+        }
     }
 
     // Puts the value in place of the item at the place, and gives that.
-    fn replace(&mut self, place: usize, value: Value) -> Value
+    fn replace(&mut self, place: usize, value: Value) -> Mem<Value>
         requires within { place < length self.old }
         requires small { size_of (items (slice_set self.old place (tree_of value))) ≤ most_bytes }
         requires shallow { depth_of (items (slice_set self.old place (tree_of value))) ≤ most_levels }
-        ensures replaced { slice_get self.old place ≡ Some (tree_of result) }
-        ensures items { self.new ≡ slice_set self.old place (tree_of value) }
+        ensures replaced { IfOk result (λ old. slice_get self.old place ≡ Some (tree_of old)) }
+        ensures items { self.new ≡ (if is_ok result then slice_set self.old place (tree_of value) else self.old) }
     {
         let size = value.size();
         let depth = value.depth();
-        let item = mem::replace(&mut self.values[place], value);
+        let item = replace_in(&mut self.values, place, value)?;
         self.size = self.size - item.size() + size;
         if depth < item.depth() && 1 + item.depth() == self.depth {
             self.depth = 1 + deepest(&self.values, item.depth());
         } else {
             self.depth = self.depth.max(1 + depth);
         }
-        item
+        Ok(item)
     }
+}
+
+// Puts the value behind the last one. Where the values are shared they are copied first, each sharing its parts.
+fn push_to(values: &mut Arc<Vec<Value>>, value: Value) -> Mem<()>
+    ensures pushed { OnOk result ((arc_value values.new).items ≡ (arc_value values.old).items ++ value ∷ []) }
+    ensures no_memory { OnErr result ((arc_value values.new).items ≡ (arc_value values.old).items) }
+{
+    let Ok(own) = Arc::make_mut(values) else {
+        return Err(NoMemory);
+    };
+    match own.push(value) {
+        Ok(()) => Ok(()),
+        Err(_) => Err(NoMemory),
+    }
+}
+
+// Puts the value in place of that at the place, and gives that. Where the values are shared they are copied first.
+fn replace_in(values: &mut Arc<Vec<Value>>, place: usize, value: Value) -> Mem<Value>
+    requires { place < length (arc_value values.old).items }
+    ensures replaced { IfOk result (λ old. slice_get (arc_value values.old).items place ≡ Some old) }
+    ensures put { OnOk result ((arc_value values.new).items ≡ slice_set (arc_value values.old).items place value) }
+    ensures no_memory { OnErr result ((arc_value values.new).items ≡ (arc_value values.old).items) }
+{
+    let Ok(own) = Arc::make_mut(values) else {
+        return Err(NoMemory);
+    };
+    Ok(mem::replace(&mut own[place], value))
 }
 
 // The depth of the deepest value. It is at most that given, at which the search ends.

@@ -1,11 +1,11 @@
 -- A value without undefined, printed and read again.
-use Rattle.std.proofs.Common.{◌≡◌, suc, ℤ, pos, negsuc, ◌^◌, true, List, ◌++◌, Some, None, Ok, refl, ap, ◌∙◌, arith}
+use Rattle.std.proofs.Common.{◌≡◌, suc, ℤ, pos, negsuc, true, List, ◌++◌, Some, None, Ok, refl, ap, ◌∙◌, arith}
 use Rattle.std.specs.Option.{option_or}
-use Rattle.std.proofs.lemmas.Bool.{lt-ltb, le-ltb}
+use Rattle.std.proofs.lemmas.Bool.{le-leb, le-ltb}
 use Rattle.std.proofs.lemmas.Int.{ints}
 use Rattle.serde_json.specs.Data as json
 use Rattle.serde_json.specs.Find.{of_integer, as_integer}
-use Rattle.do_value.specs.Limits.{IsSafe, most_bytes, most_levels}
+use Rattle.do_value.specs.Limits.{IsSafe, most_bytes, most_levels, most_number}
 use Rattle.do_value.specs.Tree.{Tree, undefined, null, boolean, number, text, list, rec, Trees, no_trees, tree, Pairs, no_pairs, pair, size_of, depth_of}
 use Rattle.do_value.specs.Sound.{IsSound, AreSound, ArePairsSound, IsValue}
 use Rattle.do_wire.specs.Json.{json_of, items_of, members_of}
@@ -26,8 +26,8 @@ as_integer-of_integer (negsuc n) = refl
 
 -- and is refused nowhere in the range
 is_safe-true : (z : ℤ) → IsSafe z → is_safe z ≡ true
-is_safe-true (pos n) h = lt-ltb n (2 ^ 53) (omega (arith, ints, h.1))
-is_safe-true (negsuc n) h = lt-ltb (suc n) (2 ^ 53) (omega (arith, ints, h.0))
+is_safe-true (pos n) h = le-leb n most_number (omega (arith, ints, h.1))
+is_safe-true (negsuc n) h = le-leb (suc n) most_number (omega (arith, ints, h.0))
 
 fault_of-safe : (z : ℤ) → IsSafe z → fault_of (of_integer z) ≡ None
 fault_of-safe z h = let tested = is_safe-true z h in rw (as_integer-of_integer z, tested) refl

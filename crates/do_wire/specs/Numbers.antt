@@ -1,6 +1,7 @@
 -- The numbers of JSON, and the first of them that no value has.
-use Rattle.std.specs.Prelude.{◌^◌, ◌++◌, ℤ, nat_abs, Bool, nat_lt, if◌then◌else◌, List, [], ◌∷◌, Option, Some, None}
+use Rattle.std.specs.Prelude.{◌++◌, ℤ, nat_abs, Bool, nat_le, if◌then◌else◌, List, [], ◌∷◌, Option, Some, None}
 use Rattle.std.specs.Option.{option_or}
+use Rattle.do_value.specs.Limits.{most_number}
 use Rattle.serde_json.specs.Data.{Num, Data, null, boolean, number, string, array, object, Items, no_items, item, Members, no_members, member}
 use Rattle.serde_json.specs.Find.{as_integer}
 use Rattle.do_wire.specs.declared.fault.WireFault.{WireFault}
@@ -24,9 +25,9 @@ abbrev mutual
   member_numbers no_members = []
   member_numbers (member k d ms) = numbers d ++ member_numbers ms
 
--- The number is from -(2^53 - 1) to 2^53 - 1: the integers on which all readers of JSON agree (RFC 8259, section 6).
+-- The number is one that values have.
 abbrev pub is_safe : ℤ → Bool
-is_safe z = nat_lt (nat_abs z) (2 ^ 53)
+is_safe z = nat_le (nat_abs z) most_number
 
 -- Why a number is refused that is this integer, or none since it is kept as neither an i64 nor a u64 (this project's profile).
 abbrev pub integer_fault : Option ℤ → Option WireFault

@@ -6,11 +6,14 @@ pub enum WireFault {
     /// The first number that is refused is kept as neither an `i64` nor a `u64`: it has a point or an
     /// exponent, or it is whole and past 64 bits.
     Float,
-    /// The first number that is refused is whole and lies outside -(2^53 - 1) to 2^53 - 1.
+    /// The first number that is refused is whole and lies farther from 0 than
+    /// [`MOST_NUMBER`](do_value::MOST_NUMBER).
     RangeNum,
-    /// No number is refused, and lists and records nest more than 16 deep.
+    /// No number is refused, and lists and records nest deeper than
+    /// [`MOST_LEVELS`](do_value::MOST_LEVELS).
     TooDeep,
-    /// No number is refused, nothing nests too deep, and the encoding has more than 4,194,304 bytes.
+    /// No number is refused, nothing nests too deep, and the encoding passes
+    /// [`MOST_BYTES`](do_value::MOST_BYTES).
     TooLarge,
     /// There is no memory left.
     NoMemory,

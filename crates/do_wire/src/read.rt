@@ -18,8 +18,8 @@ use std::alloc::Global;
 
 /// The value of the JSON. The first number that is no number of a value, with records walked in the order of
 /// their keys, is the fault `Float` or `RangeNum`. Else the fault is `TooDeep` exactly where lists and records
-/// nest more than 16 deep, else `TooLarge` exactly where the encoding has more than 4,194,304 bytes. Want of
-/// memory may come in place of a value or of `TooLarge`.
+/// nest deeper than [`MOST_LEVELS`], else `TooLarge` exactly where the encoding passes
+/// [`MOST_BYTES`](do_value::MOST_BYTES). Want of memory may come in place of a value or of `TooLarge`.
 pub fn from_json(alloc: Global, json: &Json) -> Result<Value, WireFault>
     ensures value { IfOk result (λ v. reading_of (view json.now) ≡ Ok (tree_of v)) }
     ensures same { IfOk result (λ v. json_of (tree_of v) ≡ view json.now) }

@@ -102,3 +102,20 @@ fn keys_and_values_have_limits(rt: HostRuntime) -> Result<(), Fail> {
     expect_letters(&rt, rt.alloc(), 1, 131_067, 0)?;
     expect_letters(&rt, rt.alloc(), 1, 131_068, 8)
 }
+
+// The run of a call of `set` on an object whose name has so many letters.
+fn expect_named(rt: &impl Abort, alloc: Global, name: usize, status: u8) -> Result<(), Fail> {
+    let mut line = String::from_str(alloc, "[\"call\",1,\"C\",\"")?;
+    add_letters(&mut line, name)?;
+    line.push_str("\",\"set\",[\"k\",5]]\n")?;
+    let outcome = served(alloc, lines(line.as_str()))?;
+    assert_eq!(rt; outcome.0.status, status);
+    Ok(())
+}
+
+// A name has at most 1,024 bytes; a line with a longer one is of no form.
+#[test]
+fn names_have_a_limit(rt: HostRuntime) -> Result<(), Fail> {
+    expect_named(&rt, rt.alloc(), 1_024, 0)?;
+    expect_named(&rt, rt.alloc(), 1_025, 8)
+}

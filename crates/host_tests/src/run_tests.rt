@@ -214,6 +214,39 @@ fn other_words_are_usage(rt: HostRuntime) -> Result<(), Fail> {
 
 const ONE_SET: &str = "[\"call\",1,\"C\",\"a\",\"set\",[\"k\",5]]\n";
 
+// No text stands at the path x.
+#[test]
+fn a_script_that_cannot_be_read_is_status_3(rt: HostRuntime) -> Result<(), Fail> {
+    let served = run_words(rt.alloc(), &["serve", "x", "f"], lines(ONE_SET), &[])?;
+    expect(&rt, &served, 3, "");
+    let checked = run_words(rt.alloc(), &["check", "x"], lines(""), &[])?;
+    expect(&rt, &checked, 3, "");
+    Ok(())
+}
+
+// The run of these words where the depot has the script and no disk.
+fn run_without_disk(alloc: Global, list: &[&str]) -> Result<Outcome, Fail> {
+    let words = words(alloc, list)?;
+    let path = String::from_str(alloc, "s")?;
+    let text = PUT_AND_READ.as_bytes().to_vec(alloc)?;
+    let depot = MemDepot::new(vec![in alloc; (path, text)]?, Vec::new(alloc));
+    let input = MemSource::new(ONE_SET.as_bytes().to_vec(alloc)?, 7, Fails::From(NEVER));
+    let out = MemSink::new(alloc, 5, Fails::From(NEVER));
+    Ok(run_over(alloc, &words, depot, input, out))
+}
+
+#[test]
+fn a_slot_that_cannot_be_handed_out_is_status_3(rt: HostRuntime) -> Result<(), Fail> {
+    expect(
+        &rt,
+        &run_without_disk(rt.alloc(), &["serve", "s", "f"])?,
+        3,
+        "",
+    );
+    expect(&rt, &run_without_disk(rt.alloc(), &["dump", "f"])?, 3, "");
+    Ok(())
+}
+
 pub(crate) fn expect_served(
     rt: &impl Abort,
     alloc: Global,

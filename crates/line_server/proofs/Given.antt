@@ -1,11 +1,11 @@
 -- Lines given, one after the other.
-use Rattle.std.proofs.Common.{◌≡◌, ◌≤◌, ◌+◌, ◌⊎◌, ⊎_elim, ℕ, suc, min, List, [], ◌∷◌, ◌++◌, length, Option, Some, refl, sym, ap, ◌∙◌, arith, append_assoc, Bool, true, false, nat_le}
+use Rattle.std.proofs.Common.{◌≡◌, ◌≤◌, ◌+◌, ◌⊎◌, ⊎_elim, inl, inr, ℕ, suc, min, List, [], ◌∷◌, ◌++◌, length, Option, Some, refl, sym, ap, ◌∙◌, arith, append_assoc, Bool, true, false, nat_le}
 use Rattle.std.proofs.lemmas.Grind.{common_steps}
 use Rattle.std.proofs.lemmas.List.{append-nil}
 use Rattle.std.proofs.lemmas.List.Elements.{filter-append}
 use Rattle.std.proofs.lemmas.List.Folds.{list_all-append}
 use Rattle.std.specs.List.{list_all}
-use Rattle.line_server.specs.Cut.{lines}
+use Rattle.line_server.specs.Cut.{lines, ended}
 use Rattle.line_server.specs.Reader.{Moved}
 use Rattle.line_server.specs.Taken.{IsLine}
 use Rattle.line_server.specs.Going.{HasGiven, GoesOn}
@@ -45,7 +45,7 @@ Ends taken line holds left = IsLine taken line ⊎ ((lines taken ≡ line ∷ []
 -- the line comes first, whatever of the rest is read next
 line_first : (taken line holds rest more beyond : List ℕ) (left : Option (List ℕ)) → Ends taken line holds left → left ≡ Some rest → rest ≡ more ++ beyond → lines (taken ++ (holds ++ more)) ≡ line ∷ lines (holds ++ more)
 line_first taken line holds rest more beyond left ends told e =
-    ⊎_elim (λ is. is (holds ++ more))
+    ⊎_elim (λ is. is.first (holds ++ more))
     (λ last.
     let none : more ≡ [] = front_of_nothing more beyond (sym (last.1.1 rest told) ∙ e) in
     rw (last.1.0, none, append-nil) last.0)
@@ -54,6 +54,21 @@ line_first taken line holds rest more beyond left ends told e =
 -- a line more
 one_more : (count a b c d : ℕ) → a ≡ b → b ≡ count + c → c ≡ suc d → a ≡ count + 1 + d
 one_more count a b c d same all one = omega arith
+
+-- the front of nothing, and what stands behind it
+pub both_nothing : (xs ys : List ℕ) → xs ++ ys ≡ [] → (xs ≡ []) × (ys ≡ [])
+both_nothing [] ys e = (refl, e)
+both_nothing (x ∷ xs) ys e = cc
+
+-- an input at its end, of which nothing is held, stays so
+stays_ended : (rest piece now held taken holds : List ℕ) → rest ≡ piece ++ now → held ++ piece ≡ taken ++ holds → (rest ≡ []) × (held ≡ []) → (now ≡ []) × (holds ≡ [])
+stays_ended rest piece now held taken holds whole reader none =
+    let parts : (piece ≡ []) × (now ≡ []) = both_nothing piece now (sym whole ∙ none.0) in
+    (parts.1, (both_nothing taken holds (sym reader ∙ ap (λ r. held ++ r) parts.0 ∙ append-nil held ∙ none.1)).1)
+
+-- a line more was ended
+one_ended_more : (count a b c d : ℕ) → a ≡ b → b ≡ count + c → c ≡ 1 + d → a ≡ count + 1 + d
+one_ended_more count a b c d same all one = omega arith
 
 -- a reader that took a line goes on with the next number
 pub goes_on : (whole : List ℕ) (given : List SeenLine) (count : ℕ) (held taken line holds : List ℕ) (old new : Option (List ℕ)) → GoesOn whole given count held old
@@ -78,6 +93,18 @@ goes_on whole given count held taken line holds old new going moves ends =
           ap (λ r. length (lines r)) holding ∙ ap length (line_first taken line holds moved.source.rest more beyond new ends moved.source.told e) in
           let same : length (lines ((going.read ++ moved.piece) ++ more)) ≡ length (lines (going.read ++ (moved.piece ++ more))) = ap (λ r. length (lines r)) (append_assoc going.read moved.piece more) in
           one_more count _ _ _ _ same all one;
+      ended_read =
+          ⊎_elim
+          (λ is. ⊎_elim
+          (λ so_far. inl (λ more beyond e.
+          let all : ended (going.read ++ (moved.piece ++ more)) ≡ count + ended (held ++ (moved.piece ++ more)) =
+          so_far (moved.piece ++ more) beyond (moved.source.whole ∙ ap (λ r. moved.piece ++ r) e ∙ sym (append_assoc moved.piece more beyond)) in
+          let holding : held ++ (moved.piece ++ more) ≡ taken ++ (holds ++ more) = sym (append_assoc held moved.piece more) ∙ ap (λ r. r ++ more) moved.reader ∙ append_assoc taken holds more in
+          one_ended_more count _ _ _ _ (ap ended (append_assoc going.read moved.piece more)) all (ap ended holding ∙ is.one_ended (holds ++ more))))
+          (λ none. inr (stays_ended going.source.rest moved.piece moved.source.rest held taken holds moved.source.whole moved.reader none))
+          going.ended_read)
+          (λ last. inr (last.1.1 moved.source.rest moved.source.told, last.1.0))
+          ends;
       counted = counted_on count given line going.counted;
     }
 
@@ -99,6 +126,15 @@ goes_on_still whole given count held holds old new going moves =
           going.lines_read (moved.piece ++ more) beyond (moved.source.whole ∙ ap (λ r. moved.piece ++ r) e ∙ sym (append_assoc moved.piece more beyond)) in
           let holding : held ++ (moved.piece ++ more) ≡ holds ++ more = sym (append_assoc held moved.piece more) ∙ ap (λ r. r ++ more) moved.reader in
           ap (λ r. length (lines r)) (append_assoc going.read moved.piece more) ∙ all ∙ ap (λ r. count + length (lines r)) holding;
+      ended_read =
+          ⊎_elim
+          (λ so_far. inl (λ more beyond e.
+          let all : ended (going.read ++ (moved.piece ++ more)) ≡ count + ended (held ++ (moved.piece ++ more)) =
+          so_far (moved.piece ++ more) beyond (moved.source.whole ∙ ap (λ r. moved.piece ++ r) e ∙ sym (append_assoc moved.piece more beyond)) in
+          let holding : held ++ (moved.piece ++ more) ≡ holds ++ more = sym (append_assoc held moved.piece more) ∙ ap (λ r. r ++ more) moved.reader in
+          ap ended (append_assoc going.read moved.piece more) ∙ all ∙ ap (λ r. count + ended r) holding))
+          (λ none. inr (stays_ended going.source.rest moved.piece moved.source.rest held [] holds moved.source.whole moved.reader none))
+          going.ended_read;
       counted = going.counted;
     }
 
@@ -166,6 +202,7 @@ goes_from whole left told = record {
   source = record { rest = whole; told = told; whole = refl };
   to_come = λ more beyond e. refl;
   lines_read = λ more beyond e. omega arith;
+  ended_read = inl (λ more beyond e. omega arith);
   counted = refl;
 }
 

@@ -4,7 +4,7 @@ use Rattle.std.proofs.lemmas.Grind.{common_steps}
 use Rattle.std.proofs.lemmas.List.Folds.{list_all-append}
 use Rattle.line_server.specs.Cut.{is_blank_byte}
 use Rattle.line_server.specs.Raw.{IsRaw}
-use Rattle.line_server.specs.declared.TheConstants.{MOST_LINE_BYTES}
+use Rattle.line_server.specs.Limits.{most_line_bytes}
 use Rattle.line_server.specs.declared.raw_line.RawLine.{RawLine}
 
 -- a list that is long enough keeps its front
@@ -18,10 +18,10 @@ take_front (suc n) [] ys = refl
 take_front (suc n) (x ∷ xs) ys = ap (λ r. x ∷ r) (take_front n xs ys)
 
 -- one byte more
-pub raw_on : (line : List ℕ) (raw more : RawLine) (b : ℕ) (blank : Bool) → IsRaw line raw → more.kept.items ≡ take MOST_LINE_BYTES (raw.kept.items ++ b ∷ [])
+pub raw_on : (line : List ℕ) (raw more : RawLine) (b : ℕ) (blank : Bool) → IsRaw line raw → more.kept.items ≡ take most_line_bytes (raw.kept.items ++ b ∷ [])
     → more.length ≡ raw.length + 1 → more.blank ≡ (raw.blank && blank) → blank ≡ is_blank_byte b → IsRaw (line ++ b ∷ []) more
 raw_on line raw more b blank is kept length_more still one = record {
-  kept = kept ∙ ap (λ r. take MOST_LINE_BYTES (r ++ b ∷ [])) is.kept ∙ take_front MOST_LINE_BYTES line (b ∷ []);
+  kept = kept ∙ ap (λ r. take most_line_bytes (r ++ b ∷ [])) is.kept ∙ take_front most_line_bytes line (b ∷ []);
   length_is = omega (arith, is.length_is, length-append line (b ∷ []));
   blank = still ∙ rw (is.blank, one) (rw list_all-append (grind (arith, common_steps)));
 }

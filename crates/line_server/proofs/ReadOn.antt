@@ -1,24 +1,31 @@
 -- Reading on, from a state that was reached by reading.
-use Rattle.std.proofs.Common.{◌≡◌, ◌≤◌, ◌+◌, inl, inr, ℕ, List, [], ◌∷◌, ◌++◌, length, Option, Some, None, Result, Ok, Err, refl, subst, ◌∙◌, arith, true, false}
+use Rattle.std.proofs.Common.{◌≡◌, ◌≤◌, ◌+◌, inl, inr, ℕ, List, [], ◌∷◌, ◌++◌, length, Option, Some, None, Result, Ok, Err, refl, sym, subst, ◌∙◌, arith, true, false}
 use Rattle.std.proofs.lemmas.List.{append-nil}
 use Rattle.line_server.specs.Cut.{is_blank}
 use Rattle.line_server.specs.Given.{Gives, IsAtEnd}
 use Rattle.line_server.specs.Requests.{SeenLine, seen_at, body_of}
 use Rattle.line_server.specs.Bodies.{body_seen}
 use Rattle.line_server.specs.Seen.{seen}
-use Rattle.line_server.specs.Taken.{TakesLine}
+use Rattle.line_server.specs.Taken.{TakesLine, StopsAmid}
 use Rattle.line_server.specs.Lines.{most_left, IsReading, LooksAt, ReadsOn}
 use Rattle.line_server.specs.declared.fault.LineFault.{LineFault}
-use Rattle.line_server.specs.declared.fault.LineFault.TheVariants.{NoMemory}
+use Rattle.line_server.specs.declared.fault.LineFault.TheVariants.{ReadFailed, NoMemory}
 use Rattle.line_server.specs.declared.line.Line.{Line}
 use Rattle.line_server.specs.declared.lines.Lines.{Lines}
-use Rattle.line_server.specs.declared.TheConstants.{MOST_LINES}
+use Rattle.line_server.specs.Limits.{most_lines}
 use Rattle.line_server.proofs.Given.{goes_on, goes_on_still, has_given, has_given_now, all_at_end, all_at_most, count_at_end, count_at_most}
-use Rattle.line_server.proofs.Looking.{looked_on, looked_now, looked_fewer, seen_one}
+use Rattle.line_server.proofs.Looking.{looked_on, read_all, looked_now, looked_fewer, seen_one}
 
 -- the answer of a fault
 abbrev fails : LineFault → Result (Option Line) LineFault
 fails fault = Err fault
+
+-- the fault of an answer of one
+fault_is : (fault other : LineFault) → fails fault ≡ fails other → fault ≡ other
+fault_is fault other e = cc
+
+wanting_not_failed : NoMemory ≡ ReadFailed → ⊥
+wanting_not_failed e = cc
 
 -- what is seen of a line that isn't blank
 seen_line : (line : List ℕ) (answer : Line) (n : ℕ) → is_blank line ≡ false → answer.number ≡ n → body_seen answer.body ≡ body_of line → seen_at n line ≡ seen answer ∷ []
@@ -53,6 +60,7 @@ module _ {S : Type 0} (left : S → Option (List ℕ)) where
         reading = on;
         first = λ whole given reading. has_given_now whole (given ++ seen answer ∷ []) new.count new.bytes.buffer _ (on whole given reading).1;
         looked = λ whole given reading. looked_now whole (given ++ seen answer ∷ []) new.count new.bytes.buffer _ (on whole given reading).1;
+        exact = λ is. cc;
         all = λ is. cc;
         total = λ is. cc;
         end = λ is. cc;
@@ -60,7 +68,7 @@ module _ {S : Type 0} (left : S → Option (List ℕ)) where
       }
 
   -- the input ends
-  pub reads_end : (old now new : Lines S) → Stays old now → Gives left now.bytes new.bytes [] × IsAtEnd left new.bytes → new.count ≡ now.count → new.fault ≡ None → old.count ≤ now.count → new.count ≤ MOST_LINES
+  pub reads_end : (old now new : Lines S) → Stays old now → Gives left now.bytes new.bytes [] × IsAtEnd left new.bytes → new.count ≡ now.count → new.fault ≡ None → old.count ≤ now.count → new.count ≤ most_lines
       → ReadsOn left old new (Ok None)
   reads_end old now new stays ends count good counted most =
       let on : (whole : List ℕ) (given : List SeenLine) → IsReading left whole given old → IsReading left whole given new =
@@ -69,20 +77,22 @@ module _ {S : Type 0} (left : S → Option (List ℕ)) where
         reading = λ whole given reading. rw append-nil (on whole given reading);
         first = λ whole given reading. rw append-nil (has_given_now whole given new.count new.bytes.buffer _ (on whole given reading).1);
         looked = λ whole given reading. rw append-nil (looked_now whole given new.count new.bytes.buffer _ (on whole given reading).1);
-        all = λ is whole given reading. all_at_end whole given new.count MOST_LINES new.bytes.buffer _ (on whole given reading).1 ends.1.0 ends.1.1 most;
-        total = λ is whole given reading. count_at_end whole given new.count MOST_LINES new.bytes.buffer _ (on whole given reading).1 ends.1.0 ends.1.1 most;
+        exact = λ is. cc;
+        all = λ is whole given reading. all_at_end whole given new.count most_lines new.bytes.buffer _ (on whole given reading).1 ends.1.0 ends.1.1 most;
+        total = λ is whole given reading. count_at_end whole given new.count most_lines new.bytes.buffer _ (on whole given reading).1 ends.1.0 ends.1.1 most;
         end = λ is. inr ends.1.1;
         count = omega arith;
       }
 
   -- the last line that is read was read
-  pub reads_most : (old now : Lines S) → Stays old now → now.count ≡ MOST_LINES → old.count ≤ now.count → ReadsOn left old now (Ok None)
+  pub reads_most : (old now : Lines S) → Stays old now → now.count ≡ most_lines → old.count ≤ now.count → ReadsOn left old now (Ok None)
   reads_most old now stays most counted = record {
     reading = λ whole given reading. rw append-nil (stays whole given reading);
     first = λ whole given reading. rw append-nil (has_given_now whole given now.count now.bytes.buffer _ (stays whole given reading).1);
     looked = λ whole given reading. rw append-nil (looked_now whole given now.count now.bytes.buffer _ (stays whole given reading).1);
-    all = λ is whole given reading. all_at_most whole given MOST_LINES now.bytes.buffer _ (rw most at (stays whole given reading).1);
-    total = λ is whole given reading. most ∙ count_at_most whole given MOST_LINES now.bytes.buffer _ (rw most at (stays whole given reading).1);
+    exact = λ is. cc;
+    all = λ is whole given reading. all_at_most whole given most_lines now.bytes.buffer _ (rw most at (stays whole given reading).1);
+    total = λ is whole given reading. most ∙ count_at_most whole given most_lines now.bytes.buffer _ (rw most at (stays whole given reading).1);
     end = λ is. inl most;
     count = counted;
   }
@@ -92,13 +102,16 @@ module _ {S : Type 0} (left : S → Option (List ℕ)) where
   looked_at_fault whole given back most more new few looked = rw append-nil (looked_fewer whole given back most more new.count (left new.bytes.source) few looked)
 
   -- a fault comes in the middle of a line
-  pub reads_fault : (old now new : Lines S) (fault : LineFault) (bytes : List ℕ) → Stays old now → Gives left now.bytes new.bytes bytes → new.count ≡ now.count → old.count ≤ now.count → ReadsOn left old new (Err fault)
-  reads_fault old now new fault bytes stays gives same counted = record {
+  pub reads_fault : (old now new : Lines S) (fault : LineFault) → Stays old now → StopsAmid left now.bytes new.bytes fault → new.count ≡ now.count → old.count ≤ now.count → ReadsOn left old new (Err fault)
+  reads_fault old now new fault stays stops same counted = record {
     reading = tt;
-    first = λ whole given reading. rw append-nil (has_given whole given now.count now.bytes.buffer bytes new.bytes.buffer _ _ (stays whole given reading).1 gives);
+    first = λ whole given reading. rw append-nil (has_given whole given now.count now.bytes.buffer stops.bytes new.bytes.buffer _ _ (stays whole given reading).1 stops.gives);
     looked = λ whole given reading.
         looked_at_fault whole given [] 0 (most_left (fails fault)) new (omega arith)
-        (rw (append-nil, same) (looked_on whole given now.count now.bytes.buffer bytes new.bytes.buffer _ _ (stays whole given reading).1 gives));
+        (rw (append-nil, same) (looked_on whole given now.count now.bytes.buffer stops.bytes new.bytes.buffer _ _ (stays whole given reading).1 stops.gives));
+    exact = λ is whole given reading.
+        let failed : fault ≡ ReadFailed = fault_is fault ReadFailed is in
+        rw same (read_all whole given now.count now.bytes.buffer stops.bytes new.bytes.buffer _ _ (stays whole given reading).1 stops.gives (stops.none_held failed) (stops.none_ended failed));
     all = λ is. cc;
     total = λ is. cc;
     end = λ is. cc;
@@ -115,6 +128,7 @@ module _ {S : Type 0} (left : S → Option (List ℕ)) where
         let on : IsReading left whole (given ++ seen_at (now.count + 1) line) new = taken_on now new line whole given (stays whole given reading) takes count good in
         looked_at_fault whole given (seen_at (now.count + 1) line) 0 (most_left (fails fault)) new (rw wanting (omega (arith, seen_one (now.count + 1) line)))
         (looked_now whole (given ++ seen_at (now.count + 1) line) new.count new.bytes.buffer _ on.1);
+    exact = λ is. absurd (wanting_not_failed (sym wanting ∙ fault_is fault ReadFailed is));
     all = λ is. cc;
     total = λ is. cc;
     end = λ is. cc;

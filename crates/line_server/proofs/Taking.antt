@@ -5,12 +5,14 @@ use Rattle.std.proofs.lemmas.List.Folds.{list_all-append}
 use Rattle.line_server.specs.Reader.{Moved}
 use Rattle.line_server.specs.Given.{Gives, IsAtEnd}
 use Rattle.line_server.specs.Raw.{IsRaw}
-use Rattle.line_server.specs.Cut.{lines, line_end}
-use Rattle.line_server.specs.Taken.{IsLine, TakesLine}
+use Rattle.line_server.specs.Cut.{lines, ended, line_end}
+use Rattle.line_server.specs.Taken.{IsLine, TakesLine, StopsAmid}
 use Rattle.line_server.specs.declared.bytes.Bytes.{Bytes}
+use Rattle.line_server.specs.declared.fault.LineFault.{LineFault}
+use Rattle.line_server.specs.declared.fault.LineFault.TheVariants.{ReadFailed, NoMemory}
 use Rattle.line_server.specs.declared.raw_line.RawLine.{RawLine}
-use Rattle.line_server.specs.declared.TheConstants.{MOST_CUT_BYTES}
-use Rattle.line_server.proofs.Cutting.{has_no_end, line_before_end, line_of_room, last_line, other_byte}
+use Rattle.line_server.specs.Limits.{most_cut_bytes}
+use Rattle.line_server.proofs.Cutting.{has_no_end, line_before_end, line_of_room, last_line, other_byte, ended_before_end, ended_of_room, none_ended}
 
 -- two moves, one after the other
 pub moved_on : (before : List ℕ) (mid after : Option (List ℕ)) (held given holds more has : List ℕ) → Moved before mid held given holds
@@ -28,17 +30,20 @@ more_no_end : (line : List ℕ) (b : ℕ) → has_no_end line ≡ true → (b ==
 more_no_end line b all other = rw list_all-append (rw (all, other) refl)
 
 -- the line with its LF, whatever follows
-ended : (line : List ℕ) → has_no_end line ≡ true → length line < MOST_CUT_BYTES → IsLine (line ++ line_end ∷ []) line
-ended line all short = λ more. ap lines (append_assoc line (line_end ∷ []) more) ∙ line_before_end MOST_CUT_BYTES MOST_CUT_BYTES line more all short
+with_end : (line : List ℕ) → has_no_end line ≡ true → length line < most_cut_bytes → IsLine (line ++ line_end ∷ []) line
+with_end line all short = record {
+  first = λ more. ap lines (append_assoc line (line_end ∷ []) more) ∙ line_before_end most_cut_bytes most_cut_bytes line more all short;
+  one_ended = λ more. ap ended (append_assoc line (line_end ∷ []) more) ∙ ended_before_end most_cut_bytes most_cut_bytes line more all short;
+}
 
 is_nil : (line : List ℕ) → length line ≡ 0 → line ≡ []
 is_nil [] e = refl
 is_nil (b ∷ bs) e = absurd (omega arith)
 
 -- the input's last line
-last : (line : List ℕ) → has_no_end line ≡ true → 0 < length line → length line < MOST_CUT_BYTES → lines line ≡ line ∷ []
+last : (line : List ℕ) → has_no_end line ≡ true → 0 < length line → length line < most_cut_bytes → lines line ≡ line ∷ []
 last [] all some short = absurd (omega arith)
-last (b ∷ bs) all some short = last_line MOST_CUT_BYTES MOST_CUT_BYTES b bs all short
+last (b ∷ bs) all some short = last_line most_cut_bytes most_cut_bytes b bs all short
 
 module _ {S : Type 0} (left : S → Option (List ℕ)) where
   -- nothing was given yet
@@ -67,12 +72,29 @@ module _ {S : Type 0} (left : S → Option (List ℕ)) where
     no_end = more_no_end taking.line b taking.no_end (other_byte b other);
   }
 
-  -- some bytes were given
-  pub given_on : (old mid new : Bytes S) (raw : RawLine) (more : List ℕ) → IsTaking old mid raw → Gives left mid new more → (given : List ℕ) × Gives left old new given
-  given_on old mid new raw more taking gives = (taking.line ++ more, gives_on old mid new taking.line more taking.gives gives)
+  -- the source fails
+  pub stops_failed : (old mid new : Bytes S) (raw : RawLine) (fault : LineFault) → IsTaking old mid raw → Gives left mid new [] → new.buffer ≡ [] → raw.length < most_cut_bytes → StopsAmid left old new fault
+  stops_failed old mid new raw fault taking gives held short = record {
+    bytes = taking.line;
+    gives = let all : Gives left old new (taking.line ++ []) = gives_on old mid new taking.line [] taking.gives gives in rw append-nil at all;
+    none_held = λ failed. held;
+    none_ended = λ failed. none_ended most_cut_bytes most_cut_bytes taking.line taking.no_end (rw (sym taking.raw_is.length_is) short);
+  }
+
+  -- memory is wanting
+  pub stops_wanting : (old mid new : Bytes S) (raw : RawLine) (more : List ℕ) (fault : LineFault) → IsTaking old mid raw → Gives left mid new more → fault ≡ NoMemory → StopsAmid left old new fault
+  stops_wanting old mid new raw more fault taking gives wanting = record {
+    bytes = taking.line ++ more;
+    gives = gives_on old mid new taking.line more taking.gives gives;
+    none_held = λ failed. absurd (apart (sym wanting ∙ failed));
+    none_ended = λ failed. absurd (apart (sym wanting ∙ failed));
+  }
+    where
+      apart : NoMemory ≡ ReadFailed → ⊥
+      apart e = cc
 
   -- an LF ends it
-  pub takes_at_end : (old mid new : Bytes S) (raw : RawLine) → IsTaking old mid raw → Gives left mid new (line_end ∷ []) → raw.length < MOST_CUT_BYTES
+  pub takes_at_end : (old mid new : Bytes S) (raw : RawLine) → IsTaking old mid raw → Gives left mid new (line_end ∷ []) → raw.length < most_cut_bytes
       → (line : List ℕ) × IsRaw line raw × TakesLine left old new line
   takes_at_end old mid new raw taking gives short = (
     taking.line,
@@ -80,12 +102,12 @@ module _ {S : Type 0} (left : S → Option (List ℕ)) where
     record {
       bytes = taking.line ++ line_end ∷ [];
       gives = gives_on old mid new taking.line (line_end ∷ []) taking.gives gives;
-      first = inl (ended taking.line taking.no_end (rw (sym taking.raw_is.length_is) short));
+      first = inl (with_end taking.line taking.no_end (rw (sym taking.raw_is.length_is) short));
     },
   )
 
   -- it has no room for another byte
-  pub takes_room : (old new : Bytes S) (raw : RawLine) → IsTaking old new raw → raw.length ≡ MOST_CUT_BYTES
+  pub takes_room : (old new : Bytes S) (raw : RawLine) → IsTaking old new raw → raw.length ≡ most_cut_bytes
       → (line : List ℕ) × IsRaw line raw × TakesLine left old new line
   takes_room old new raw taking full = (
     taking.line,
@@ -93,12 +115,15 @@ module _ {S : Type 0} (left : S → Option (List ℕ)) where
     record {
       bytes = taking.line;
       gives = taking.gives;
-      first = inl (λ more. line_of_room MOST_CUT_BYTES MOST_CUT_BYTES taking.line more taking.no_end (sym taking.raw_is.length_is ∙ full) (omega arith));
+      first = inl (record {
+        first = λ more. line_of_room most_cut_bytes most_cut_bytes taking.line more taking.no_end (sym taking.raw_is.length_is ∙ full) (omega arith);
+        one_ended = λ more. ended_of_room most_cut_bytes most_cut_bytes taking.line more taking.no_end (sym taking.raw_is.length_is ∙ full) (omega arith);
+      });
     },
   )
 
   -- the input ends, and it isn't empty
-  pub takes_last : (old mid new : Bytes S) (raw : RawLine) → IsTaking old mid raw → Gives left mid new [] → IsAtEnd left new → 0 < raw.length → raw.length < MOST_CUT_BYTES
+  pub takes_last : (old mid new : Bytes S) (raw : RawLine) → IsTaking old mid raw → Gives left mid new [] → IsAtEnd left new → 0 < raw.length → raw.length < most_cut_bytes
       → (line : List ℕ) × IsRaw line raw × TakesLine left old new line
   takes_last old mid new raw taking gives at_end some short = (
     taking.line,

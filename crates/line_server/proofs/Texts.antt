@@ -11,7 +11,7 @@ use Rattle.line_server.specs.Asked.{list_of, parts_ask, asked_in}
 use Rattle.line_server.specs.Raw.{IsRaw}
 use Rattle.line_server.specs.Requests.{json_of_line, or_json, body_of}
 use Rattle.line_server.specs.declared.raw_line.RawLine.{RawLine}
-use Rattle.line_server.specs.declared.TheConstants.{MOST_LINE_BYTES}
+use Rattle.line_server.specs.Limits.{most_line_bytes}
 use Rattle.line_server.proofs.Keeping.{take_short}
 
 not_true : (b : Bool) → (b ≡ true → ⊥) → b ≡ false
@@ -27,16 +27,16 @@ pub read_text : (line text : List ℕ) → text ≡ line → IsUtf8 line → jso
 read_text line text same utf8 = let is : is_utf8 line ≡ true = is_utf8-from_IsUtf8 line utf8 in rw (is, same) refl
 
 -- a line within the limit was kept whole
-pub kept_body : (line : List ℕ) (raw : RawLine) → IsRaw line raw → raw.length ≤ MOST_LINE_BYTES → or_json (json_of_line raw.kept.items) ≡ body_of line
+pub kept_body : (line : List ℕ) (raw : RawLine) → IsRaw line raw → raw.length ≤ most_line_bytes → or_json (json_of_line raw.kept.items) ≡ body_of line
 kept_body line raw is short =
-    let within : length line ≤ MOST_LINE_BYTES = omega (arith, is.length_is) in
-    let whole : raw.kept.items ≡ line = is.kept ∙ take_short MOST_LINE_BYTES line within in
-    let not_long : nat_lt MOST_LINE_BYTES (length line) ≡ false = grind (arith, common_steps) in
+    let within : length line ≤ most_line_bytes = omega (arith, is.length_is) in
+    let whole : raw.kept.items ≡ line = is.kept ∙ take_short most_line_bytes line within in
+    let not_long : nat_lt most_line_bytes (length line) ≡ false = grind (arith, common_steps) in
     rw (whole, not_long) refl
 
 -- a longer one is refused
-pub long_body : (line : List ℕ) (raw : RawLine) → IsRaw line raw → MOST_LINE_BYTES < raw.length → nat_lt MOST_LINE_BYTES (length line) ≡ true
-long_body line raw is long = let past : MOST_LINE_BYTES < length line = omega (arith, is.length_is) in grind (arith, common_steps)
+pub long_body : (line : List ℕ) (raw : RawLine) → IsRaw line raw → most_line_bytes < raw.length → nat_lt most_line_bytes (length line) ≡ true
+long_body line raw is long = let past : most_line_bytes < length line = omega (arith, is.length_is) in grind (arith, common_steps)
 
 -- the items of an array are its list
 pub list_of-items_of : (ds : List Data) → list_of (items_of ds) ≡ ds

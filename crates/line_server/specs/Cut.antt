@@ -1,7 +1,7 @@
 -- How bytes are cut into lines (this project's profile).
-use Rattle.std.specs.Prelude.{ℕ, ◌-◌, ◌==◌, ◌||◌, List, [], ◌∷◌, Bool, if◌then◌else◌}
+use Rattle.std.specs.Prelude.{ℕ, ◌+◌, ◌-◌, ◌==◌, ◌||◌, List, [], ◌∷◌, Bool, if◌then◌else◌}
 use Rattle.std.specs.List.{onto_first, list_all}
-use Rattle.line_server.specs.declared.TheConstants.{MOST_CUT_BYTES}
+use Rattle.line_server.specs.Limits.{most_cut_bytes}
 
 -- The byte LF, which ends a line.
 abbrev pub line_end : ℕ
@@ -20,7 +20,20 @@ lines_within most room (b ∷ bs) =
 -- The lines of the bytes: a line ends at LF, and where its first 4,294,967,296 bytes have none the next line begins after
 -- these (this project's profile).
 abbrev pub lines : List ℕ → List (List ℕ)
-lines = lines_within MOST_CUT_BYTES MOST_CUT_BYTES
+lines = lines_within most_cut_bytes most_cut_bytes
+
+-- How many lines the bytes end, where `room` bytes more may stand in the first line and `most` in each later one. What
+-- follows the last LF isn't ended.
+abbrev pub ended_within : ℕ → ℕ → List ℕ → ℕ
+ended_within most room [] = 0
+ended_within most room (b ∷ bs) =
+    if b == line_end then 1 + ended_within most most bs
+    else (if room == 1 then 1 + ended_within most most bs
+    else ended_within most (room - 1) bs)
+
+-- How many lines the bytes end, each by an LF or after its first 4,294,967,296 bytes.
+abbrev pub ended : List ℕ → ℕ
+ended = ended_within most_cut_bytes most_cut_bytes
 
 -- A space, a tab or a CR.
 abbrev pub is_blank_byte : ℕ → Bool

@@ -3,13 +3,13 @@ use Rattle.std.specs.Prelude.{◌≡◌, ◌≤◌, ◌⊎◌, ℕ, List, [], �
 use Rattle.do_disk.specs.Disk.{IfTold}
 use Rattle.line_server.specs.Requests.{SeenLine, requests, through}
 use Rattle.line_server.specs.Cut.{lines as lines_of}
-use Rattle.line_server.specs.Going.{HasGiven, HasLookedAt, GoesOn}
+use Rattle.line_server.specs.Going.{HasGiven, HasLookedAt, HasReadAll, GoesOn}
 use Rattle.line_server.specs.Seen.{seen}
 use Rattle.line_server.specs.declared.fault.LineFault.{LineFault}
 use Rattle.line_server.specs.declared.fault.LineFault.TheVariants.{ReadFailed, NoMemory}
 use Rattle.line_server.specs.declared.line.Line.{Line}
 use Rattle.line_server.specs.declared.lines.Lines.{Lines}
-use Rattle.line_server.specs.declared.TheConstants.{MOST_LINES}
+use Rattle.line_server.specs.Limits.{most_lines}
 
 -- the line of an answer
 abbrev pub lines_in : Result (Option Line) LineFault → List SeenLine
@@ -53,12 +53,17 @@ module _ {S : Type 0} (left : S → Option (List ℕ)) where
   abbrev pub LooksAt : List ℕ → List SeenLine → ℕ → Lines S → Type 0
   LooksAt whole given most lines = HasLookedAt whole given most lines.count (left lines.bytes.source)
 
+  -- The lines given are those of all that its source was read of, but for a line that isn't ended.
+  abbrev pub IsAllRead : List ℕ → List SeenLine → Lines S → Type 0
+  IsAllRead whole given lines = HasReadAll whole given lines.count (left lines.bytes.source)
+
   -- What reading on does where it stands at no fault.
   pub record ReadsOn (old new : Lines S) (result : Result (Option Line) LineFault) : Type 0 where
     pub reading : OnOk result ((whole : List ℕ) (given : List SeenLine) → IsReading whole given old → IsReading whole (given ++ lines_in result) new)
     pub first : (whole : List ℕ) (given : List SeenLine) → IsReading whole given old → IsFirstOf whole (given ++ lines_in result) new
     pub looked : (whole : List ℕ) (given : List SeenLine) → IsReading whole given old → LooksAt whole (given ++ lines_in result) (most_left result) new
-    pub all : result ≡ Ok None → (whole : List ℕ) (given : List SeenLine) → IsReading whole given old → given ≡ through MOST_LINES (requests whole)
-    pub total : result ≡ Ok None → (whole : List ℕ) (given : List SeenLine) → IsReading whole given old → count_of new ≡ min MOST_LINES (length (lines_of whole))
-    pub end : result ≡ Ok None → (count_of new ≡ MOST_LINES) ⊎ IfTold (left (source_of new)) (λ rest. rest ≡ [])
+    pub exact : result ≡ Err ReadFailed → (whole : List ℕ) (given : List SeenLine) → IsReading whole given old → IsAllRead whole given new
+    pub all : result ≡ Ok None → (whole : List ℕ) (given : List SeenLine) → IsReading whole given old → given ≡ through most_lines (requests whole)
+    pub total : result ≡ Ok None → (whole : List ℕ) (given : List SeenLine) → IsReading whole given old → count_of new ≡ min most_lines (length (lines_of whole))
+    pub end : result ≡ Ok None → (count_of new ≡ most_lines) ⊎ IfTold (left (source_of new)) (λ rest. rest ≡ [])
     pub count : count_of old ≤ count_of new

@@ -5,7 +5,7 @@ use Rattle.serde_json.specs.Data.{Data}
 use Rattle.serde_json.specs.Read.{read}
 use Rattle.line_server.specs.Cut.{lines, is_blank}
 use Rattle.line_server.specs.Asked.{Asked, asked_in}
-use Rattle.line_server.specs.declared.TheConstants.{MOST_LINE_BYTES}
+use Rattle.line_server.specs.Limits.{most_line_bytes}
 use Rattle.line_server.specs.declared.refusal.Refusal.{Refusal}
 use Rattle.line_server.specs.declared.refusal.Refusal.TheVariants.{Long, Json, Shape}
 
@@ -30,7 +30,7 @@ or_json (Some d) = or_shape (asked_in d)
 
 -- a line of more bytes than the limit is refused as `Long`, whatever it holds
 abbrev pub body_of : List ℕ → Result Asked Refusal
-body_of line = if nat_lt MOST_LINE_BYTES (length line) then Err Long else or_json (json_of_line line)
+body_of line = if nat_lt most_line_bytes (length line) then Err Long else or_json (json_of_line line)
 
 -- nothing of a blank line
 abbrev pub seen_at : ℕ → List ℕ → List SeenLine

@@ -1,5 +1,5 @@
 // The bytes of a source, one by one.
-ghost use Rattle.std.specs.Prelude.{◌≡◌, [], Ok, None};
+ghost use Rattle.std.specs.Prelude.{◌≡◌, [], Ok, None, OnErr};
 ghost use Rattle.do_disk.specs.Disk.{CountsFaults};
 
 use crate::buffer::Buffer;
@@ -28,6 +28,7 @@ impl<R: Source> Bytes<R> {
     // The next byte, or `None` at the input's end.
     pub(crate) fn next(&mut self) -> Result<Option<u8>, Failed>
         ensures gives { Gives R.left self.old self.new (byte_in result) }
+        ensures none_held { OnErr result (self.new.buffer ≡ []) }
         ensures end { result ≡ Ok None → IsAtEnd R.left self.new }
         ensures faults { CountsFaults (R.faults_of self.old.source) (R.faults_of self.new.source) result }
     {

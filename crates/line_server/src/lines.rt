@@ -1,7 +1,7 @@
 //! The lines of the input.
 ghost use Rattle.std.specs.Prelude.{◌≡◌, ◌<◌, ◌≤◌, ◌⊎◌, ◌++◌, [], List, ℕ, Ok, Err, None, Some, IfOk, IfSome, OnOk, length, min};
 ghost use Rattle.do_disk.specs.Disk.{IfTold};
-ghost use Rattle.line_server.specs.declared.TheConstants.{MOST_LINES};
+ghost use Rattle.line_server.specs.Limits.{most_lines};
 
 use crate::MOST_LINES;
 use crate::bytes::Bytes;
@@ -18,14 +18,14 @@ pub struct Lines<R> {
     bytes: Bytes<R>,
     count: u64,
     fault: Option<LineFault>,
-    ghost counted: { count ≤ MOST_LINES },
+    ghost counted: { count ≤ most_lines },
 }
 
 impl<R: Source> Lines<R> {
     ghost use Rattle.line_server.specs.Cut.{lines as all_lines};
     ghost use Rattle.line_server.specs.Given.{CountsReads};
     ghost use Rattle.line_server.specs.Requests.{SeenLine, requests, through};
-    ghost use Rattle.line_server.specs.Lines.{lines_in, fault_in, source_of, count_of, fault_of, most_left, IsReading, IsFirstOf, LooksAt, ReadsOn};
+    ghost use Rattle.line_server.specs.Lines.{lines_in, fault_in, source_of, count_of, fault_of, most_left, IsReading, IsFirstOf, LooksAt, IsAllRead, ReadsOn};
 
     /// The lines of the source from its first byte on. It takes no memory and reads nothing.
     pub fn new(alloc: Global, source: R) -> Lines<R>
@@ -51,14 +51,17 @@ impl<R: Source> Lines<R> {
             → IsFirstOf R.left whole (given ++ lines_in result) self.new }
         ensures looked_at { (whole : List ℕ) (given : List SeenLine) → IsReading R.left whole given self.old
             → LooksAt R.left whole (given ++ lines_in result) (most_left result) self.new }
+        // Where the source failed no whole line that was read is lost.
+        ensures exact { result ≡ Err LineFault.ReadFailed → (whole : List ℕ) (given : List SeenLine) → IsReading R.left whole given self.old
+            → IsAllRead R.left whole given self.new }
         ensures all { result ≡ Ok None → (whole : List ℕ) (given : List SeenLine) → IsReading R.left whole given self.old
-            → given ≡ through MOST_LINES (requests whole) }
+            → given ≡ through most_lines (requests whole) }
         ensures total { result ≡ Ok None → (whole : List ℕ) (given : List SeenLine) → IsReading R.left whole given self.old
-            → count_of self.new ≡ min MOST_LINES (length (all_lines whole)) }
-        ensures end { result ≡ Ok None → (count_of self.new ≡ MOST_LINES) ⊎ IfTold (R.left (source_of self.new)) (λ rest. rest ≡ []) }
+            → count_of self.new ≡ min most_lines (length (all_lines whole)) }
+        ensures end { result ≡ Ok None → (count_of self.new ≡ most_lines) ⊎ IfTold (R.left (source_of self.new)) (λ rest. rest ≡ []) }
         ensures number { IfOk result (λ o. IfSome o (λ line. line.number ≡ count_of self.new)) }
         ensures further { IfOk result (λ o. IfSome o (λ line. count_of self.old < count_of self.new)) }
-        ensures count { (count_of self.old ≤ count_of self.new) × (count_of self.new ≤ MOST_LINES) }
+        ensures count { (count_of self.old ≤ count_of self.new) × (count_of self.new ≤ most_lines) }
         ensures fault { fault_of self.new ≡ fault_in result }
         ensures again { (fault : LineFault) → fault_of self.old ≡ Some fault → (result ≡ Err fault) × (self.new ≡ self.old) }
         ensures reads { fault_of self.old ≡ None → CountsReads (R.faults_of (source_of self.old)) (R.faults_of (source_of self.new)) result }
@@ -78,7 +81,7 @@ impl<R: Source> Lines<R> {
     /// How many lines were read, blank ones included.
     pub fn count(&self) -> u64
         ensures value { result ≡ count_of self.now }
-        ensures limit { result ≤ MOST_LINES }
+        ensures limit { result ≤ most_lines }
     {
         self.count
     }

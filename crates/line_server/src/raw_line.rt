@@ -1,7 +1,7 @@
 // A line as it is read, of which no more is kept than the limit allows.
 ghost use Rattle.std.specs.Prelude.{◌≡◌, ◌+◌, ◌<◌, ◌≤◌, ◌^◌, ◌++◌, ◌∷◌, [], List, ℕ, OnOk, IfOk, IsTrue, take, vec_len};
 ghost use Rattle.line_server.specs.Cut.{is_blank_byte};
-ghost use Rattle.line_server.specs.declared.TheConstants.{MOST_LINE_BYTES};
+ghost use Rattle.line_server.specs.Limits.{most_line_bytes};
 
 use crate::MOST_LINE_BYTES;
 use crate::read_line::read_body;
@@ -18,7 +18,7 @@ pub(crate) struct RawLine {
     pub(crate) length: u64,
     // Whether it has only spaces, tabs and CR.
     pub(crate) blank: bool,
-    ghost bounded: { vec_len kept ≤ MOST_LINE_BYTES },
+    ghost bounded: { vec_len kept ≤ most_line_bytes },
 }
 
 impl RawLine {
@@ -61,9 +61,9 @@ impl RawLine {
 
 // Adds the byte unless there are as many as are read.
 fn keep(kept: &mut Vec<u8>, byte: u8) -> Result<(), AllocError>
-    requires { vec_len kept.old ≤ MOST_LINE_BYTES }
-    ensures kept { OnOk result (kept.new.items ≡ take MOST_LINE_BYTES (kept.old.items ++ byte ∷ [])) }
-    ensures bounded { vec_len kept.new ≤ MOST_LINE_BYTES }
+    requires { vec_len kept.old ≤ most_line_bytes }
+    ensures kept { OnOk result (kept.new.items ≡ take most_line_bytes (kept.old.items ++ byte ∷ [])) }
+    ensures bounded { vec_len kept.new ≤ most_line_bytes }
 {
     if kept.len() as u64 >= MOST_LINE_BYTES {
         return Ok(());

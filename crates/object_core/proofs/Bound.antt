@@ -6,7 +6,8 @@ use Rattle.storage_map.specs.declared.op.Op.{Op}
 use Rattle.object_core.specs.Said.{spoken, batches_of, operations}
 use Rattle.object_core.specs.Told.{told}
 use Rattle.object_core.specs.Turn.{entry}
-use Rattle.object_core.specs.Kept.{NameOnly, RecoversTo, RecoversToPrefix}
+use Rattle.object_core.specs.Kept.{NameOnly, RecoversToPrefix}
+use Rattle.object_core.specs.Named.{object_in, bound_to, object_told}
 use Rattle.object_core.specs.History.{line, AreNumbered, IsHistory}
 use Rattle.object_core.specs.Serving.{IsServing}
 use Rattle.object_core.specs.declared.timeline.Entry.{Entry}
@@ -16,7 +17,8 @@ use Rattle.object_core.specs.declared.back_log.BackLog.{BackLog}
 use Rattle.object_core.specs.declared.object.Core.{Core}
 use Rattle.object_core.proofs.Saying.{spoken-append, AreNumbered-append}
 use Rattle.object_core.proofs.Logged.{Logs, still_first}
-use Rattle.object_core.proofs.Histories.{goes_on, leaves_same}
+use Rattle.object_core.proofs.Histories.{NamesAnew, goes_on, leaves_same}
+use Rattle.object_core.proofs.Naming.{object_told-push}
 use Rattle.object_core.proofs.Served.{line_now, all_flown, tells}
 
 -- frames that name only an object that isn't there are none, so they name only any other
@@ -26,12 +28,6 @@ names_anew object (first ∷ frames) named = absurd (no_name first.object (named
   where
     no_name : (other : List ℕ × List ℕ) → None ≡ Some other → ⊥
     no_name other e = cc
-
--- what recovers to frames without an object recovers to frames of this one
-pub recovers_anew : (object : Option (List ℕ × List ℕ)) (start before : List (List Op)) (least : ℕ) (c : List ℕ) → RecoversToPrefix None start before least c → RecoversToPrefix object start before least c
-recovers_anew object start before least c held =
-    let found : RecoversTo None (start ++ take held.0 before) c = held.3 in
-    (held.0, held.1, held.2, (found.0, found.1, names_anew object found.0 found.2, found.3))
 
 module _ {D : Type 0} (moment_of : D → ℕ) (left_since : D → ℕ → List ℕ → Type 0) (told_by : D → Option (List ℕ)) (image : D → List ℕ → Type 0)
     (only_now : (disk : D) (c : List ℕ) → left_since disk (moment_of disk) c → image disk c)
@@ -55,29 +51,18 @@ module _ {D : Type 0} (moment_of : D → ℕ) (left_since : D → ℕ → List �
       let counted : length old.front.sent.items + 1 ≡ 1 + length old.front.sent.items = omega arith in
       let numbered : AreNumbered 1 (old.front.sent.items ++ entry (length old.front.sent.items + 1) (Bind object) ∷ []) = AreNumbered-append 1 old.front.sent.items _ h.numbered (refl, counted, tt) in
       let holds : (c : List ℕ) → image old.journal.disk c → RecoversToPrefix old.identity (batches_in start) (before ++ []) (length before) c = line_now moment_of left_since told_by image only_now counts_now since start old s [] in
-      let kept : IsHistory moment_of left_since image since start old.journal.disk old.identity new.front new.back =
-      goes_on moment_of left_since image since start old.identity old.journal.disk old.journal.disk old.front new.front old.back new.back [] h
+      let object_is : object_told (object_in start) new.front.delivered.items ≡ Some object =
+      ap (object_told (object_in start)) logs.delivered ∙ object_told-push (object_in start) old.front.delivered.items (1, Binds object)
+      ∙ ap (λ had. bound_to had (Binds object)) (sym h.object_is ∙ none) in
+      let anew : NamesAnew old.identity (Some object) = λ frames bare. names_anew (Some object) frames (subst (λ (had : Option (List ℕ × List ℕ)). NameOnly had frames) none bare) in
+      let named : IsHistory moment_of left_since image since start old.journal.disk (Some object) new.front new.back =
+      goes_on moment_of left_since image since start old.identity (Some object) old.journal.disk old.journal.disk old.front new.front old.back new.back [] h anew (sym object_is)
       (still_first old.front new.front old.back new.back (Binds object) _ _ h.first logs) silent
       (ap (told (operations (batches_in start))) logs.delivered ∙ tells moment_of left_since told_by image only_now counts_now since start old (Binds object) s)
       taken (rw logs.sent_more numbered) same_released
       ([], append-nil new.back.flights.items ∙ same_flights ∙ s.flown ∙ ap (map (λ ops. 1)) (sym same_line))
       (leaves_same moment_of left_since image old.journal.disk _ (λ c left. holds c (only_now old.journal.disk c left)))
       (λ c now. subst (λ n. RecoversToPrefix old.identity (batches_in start) (before ++ []) n c) (sym (ap sum same_flights ∙ all_flown moment_of left_since told_by image only_now counts_now since start old s)) (holds c now)) in
-      let bare : IsHistory moment_of left_since image since start old.journal.disk None new.front new.back = rw none at kept in
-      let named : IsHistory moment_of left_since image since start old.journal.disk (Some object) new.front new.back = record {
-        said = bare.said;
-        taken = bare.taken;
-        numbered = bare.numbered;
-        first = bare.first;
-        released = bare.released;
-        flown = bare.flown;
-        images = λ c left. recovers_anew (Some object) _ _ 0 c (bare.images c left);
-        needs = λ k d lt c left. recovers_anew (Some object) _ _ _ c (bare.needs k d lt c left);
-        durable = λ c now. recovers_anew (Some object) _ _ _ c (bare.durable c now);
-        later = bare.later;
-        earlier = bare.earlier;
-        below = bare.below;
-      } in
       let bare_names : NameOnly None s.frames = rw none at s.named in
       record {
         history = rw (journal, is) named;
@@ -87,7 +72,7 @@ module _ {D : Type 0} (moment_of : D → ℕ) (left_since : D → ℕ → List �
         at_rest = rw journal s.at_rest;
         within = rw journal s.within;
         named = rw is (names_anew (Some object) s.frames bare_names);
-        batches = rw same_line s.batches;
+        one_each = rw same_line s.one_each;
         staged = rw journal s.staged;
         values = rw (map_is, same_line) s.values;
       }

@@ -31,6 +31,7 @@ use Rattle.object_core.specs.declared.object.CallEnd.{CallEnd}
 use Rattle.object_core.specs.declared.object.CallEnd.TheVariants.{DiskFailed, Full, NoMemory}
 use Rattle.object_core.proofs.Fits.{one_more_within}
 use Rattle.object_core.proofs.Logged.{Logs, logs_turn}
+use Rattle.object_core.proofs.Naming.{asked_frame}
 use Rattle.object_core.proofs.Served.{logs_stay, core_stays, write_stops, write_serves}
 
 -- frames that name only this object name it
@@ -39,13 +40,6 @@ name_frames object identity frames is named = λ k frame lt. same (slice_index_o
   where
     same : (other : List ℕ × List ℕ) → Some object ≡ Some other → other ≡ object
     same other e = cc
-
--- one frame of one batch
-pub asked_frame : (frame : Frame) (object : List ℕ × List ℕ) (ops : List Op) → Some object ≡ Some frame.object → ops ∷ [] ≡ frame.batches → frame ≡ frame_of object (ops ∷ [])
-asked_frame frame object ops named is = sym (same_frame frame object frame.object (ops ∷ []) frame.batches named is)
-  where
-    same_frame : (frame : Frame) (object other : List ℕ × List ℕ) (batches more : List (List Op)) → Some object ≡ Some other → batches ≡ more → frame_of object batches ≡ frame_of other more
-    same_frame frame object other batches more named is = let one : object ≡ other = cc in rw (one, is) refl
 
 -- logs of a core that is as before say the same
 pub same_logs : {D : Type 0} (told : D → Option (List ℕ)) (image : D → List ℕ → Type 0) (old new : Core D) → SameCore told image old new → SameLogs old new

@@ -3,6 +3,7 @@ pub mod Crashes
 pub mod Histories
 pub mod Served
 pub mod Logged
+pub mod Naming
 pub mod Called
 pub mod Bound
 pub mod Fits

@@ -27,6 +27,7 @@ use Rattle.object_core.specs.declared.object.Core.{Core}
 use Rattle.object_core.proofs.Saying.{spoken-append, batches_of-append}
 use Rattle.object_core.proofs.Logged.{turn_spoken}
 use Rattle.object_core.proofs.Crashes.{at_rest_recovers}
+use Rattle.object_core.proofs.Naming.{each_batches}
 use Rattle.object_core.proofs.Histories.{leaves_same, leaves_weaker}
 use Rattle.object_core.proofs.Served.{names_more, more_batches}
 use Rattle.object_core.proofs.Bound.{names_anew}
@@ -108,7 +109,7 @@ module _ {D : Type 0} (moment_of : D → ℕ) (left_since : D → ℕ → List �
   here_within : (core : Core D) → (s : IsServing moment_of left_since told image since start core) → (more : List (List Op)) (c : List ℕ) → Recovers c s.frames → RecoversWithin core.journal.limit start core.identity (line core.back ++ more) c
   here_within core s more c recovers =
       longer_within core.journal.limit start core.identity (line core.back) more c
-      (whole_within core.journal.limit start core.identity (line core.back) s.frames c recovers s.within s.named s.batches)
+      (whole_within core.journal.limit start core.identity (line core.back) s.frames c recovers s.within s.named (each_batches start (line core.back) s.frames s.one_each))
 
   -- over an append a crash leaves no frame past the limit
   written_within : (core : Core D) (s : IsServing moment_of left_since told image since start core) (journal : Journal D) (disk : D) (object : List ℕ × List ℕ) (ops : List Op) (result : Result (Unit {0}) AppendFault)
@@ -122,7 +123,7 @@ module _ {D : Type 0} (moment_of : D → ℕ) (left_since : D → ℕ → List �
       let more : needed journal frame ≤ journal.limit → (c : List ℕ) → Recovers c (s.frames ++ frame ∷ []) → P c = λ within c recovers.
       whole_within core.journal.limit start core.identity (line core.back ++ ops ∷ []) (s.frames ++ frame ∷ []) c recovers
       (one_more_within told image core.journal s.frames start frame s.at_rest (omega (arith, within, same.end, same.limit)))
-      (names_more core.identity s.frames frame s.named is) (more_batches s.frames (batches_in start) (line core.back) object ops s.batches) in
+      (names_more core.identity s.frames frame s.named is) (more_batches s.frames (batches_in start) (line core.back) object ops (each_batches start (line core.back) s.frames s.one_each)) in
       ⊎_elim
       (λ past. subst (λ (d : D). LeavesOnly moment_of left_since core.journal.disk d P) (sym (drops _ _ (full.always past)))
       (leaves_same moment_of left_since image core.journal.disk P (λ c left. here_within core s (ops ∷ []) c (at_rest_recovers told image core.journal s.frames s.at_rest c (only_now core.journal.disk c left)))))

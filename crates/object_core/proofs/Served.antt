@@ -24,7 +24,9 @@ use Rattle.object_core.specs.declared.back_log.Release.{Release}
 use Rattle.object_core.specs.declared.object.Core.{Core}
 use Rattle.object_core.proofs.Saying.{spoken-append, batches_of-append, operations-append, told-push, event_says-same, sum-ones}
 use Rattle.object_core.proofs.Crashes.{batches_in-append, fewer, whole_line, part_of_line, at_rest_recovers}
+use Rattle.object_core.specs.Named.{object_in, bound_to, object_told}
 use Rattle.object_core.proofs.Logged.{Logs, still_first, turn_spoken, numbered_on, all_left}
+use Rattle.object_core.proofs.Naming.{object_told-push, keeps_object, each_batches, each_more}
 use Rattle.storage_map.proofs.Folds.{value_after-append}
 use Rattle.object_core.specs.declared.timeline.Entry.{Entry}
 use Rattle.object_core.proofs.Histories.{goes_on, releases, leaves_weaker, leaves_same}
@@ -57,6 +59,7 @@ module _ {D : Type 0} (moment_of : D → ℕ) (left_since : D → ℕ → List �
   fresh_history : (mounted : Mounted D) (front : FrontLog) (back : BackLog) → IsMounted moment_of left_since told_by image since start mounted → AreEmpty front back
       → IsHistory moment_of left_since image since start mounted.journal.disk mounted.identity front back
   fresh_history mounted front back m fresh = record {
+    object_is = rw fresh.delivered m.object;
     said = rw (fresh.sent, fresh.delivered) refl;
     taken = fresh.taken ∙ sym fresh.sent;
     numbered = rw fresh.sent tt;
@@ -95,7 +98,7 @@ module _ {D : Type 0} (moment_of : D → ℕ) (left_since : D → ℕ → List �
         at_rest = rw journal m.at_rest;
         within = inl refl;
         named = rw identity m.named;
-        batches = rw fresh.taken (sym (append-nil (batches_in start)));
+        one_each = record { more = []; all = sym (append-nil start); each = rw fresh.taken refl };
         staged = rw journal m.staged;
         values = rw (map_is, fresh.taken) (λ key. rw (append-nil (batches_in start)) (m.values key));
       }
@@ -103,7 +106,7 @@ module _ {D : Type 0} (moment_of : D → ℕ) (left_since : D → ℕ → List �
   -- the journal is at rest, so a crash now leaves the whole line
   pub line_now : (core : Core D) → IsServing moment_of left_since told_by image since start core → (more : List (List Op)) (c : List ℕ) → image core.journal.disk c
       → RecoversToPrefix core.identity (batches_in start) (line core.back ++ more) (length (line core.back)) c
-  line_now core s more c now = part_of_line core.identity (batches_in start) (line core.back) more s.frames c (at_rest_recovers told_by image core.journal s.frames s.at_rest c now) s.named s.batches
+  line_now core s more c now = part_of_line core.identity (batches_in start) (line core.back) more s.frames c (at_rest_recovers told_by image core.journal s.frames s.at_rest c now) s.named (each_batches start (line core.back) s.frames s.one_each)
 
   -- each batch of the line has flown
   pub all_flown : (core : Core D) → IsServing moment_of left_since told_by image since start core → sum core.back.flights.items ≡ length (line core.back)
@@ -137,7 +140,10 @@ module _ {D : Type 0} (moment_of : D → ℕ) (left_since : D → ℕ → List �
       ap (told (operations (batches_in start))) logs.delivered ∙ tells core event s ∙ ap (λ said. told (operations (batches_in start)) core.front.delivered.items ++ said) (sym says) in
       let taken : back.taken.items ≡ front.sent.items =
       logs.taken_more ∙ ap (λ (entries : List Entry). entries ++ turn_entries (length entries + 1) ops reply) s.history.taken ∙ sym logs.sent_more in
-      goes_on moment_of left_since image since start core.identity core.journal.disk disk core.front front core.back back (turn_says ops reply) s.history
+      let object_is : object_told (object_in start) front.delivered.items ≡ core.identity =
+      ap (object_told (object_in start)) logs.delivered ∙ object_told-push (object_in start) core.front.delivered.items (1, event)
+      ∙ ap (λ object. bound_to object event) (sym s.history.object_is) ∙ keeps_object (value_in core.map) core.identity event ops reply says in
+      goes_on moment_of left_since image since start core.identity core.identity core.journal.disk disk core.front front core.back back (turn_says ops reply) s.history (λ frames named. named) (sym object_is)
       (still_first core.front front core.back back event _ _ s.history.first logs) sent telling taken (rw logs.sent_more (numbered_on core.front.sent.items ops reply s.history.numbered))
       released flown leaves durable
 
@@ -193,7 +199,7 @@ module _ {D : Type 0} (moment_of : D → ℕ) (left_since : D → ℕ → List �
         at_rest = rw journal s.at_rest;
         within = rw journal s.within;
         named = rw identity s.named;
-        batches = rw new_line s.batches;
+        one_each = rw new_line s.one_each;
         staged = rw journal s.staged;
         values = rw (map_is, new_line) s.values;
       }
@@ -225,7 +231,7 @@ module _ {D : Type 0} (moment_of : D → ℕ) (left_since : D → ℕ → List �
       let flown : back.flights.items ++ 1 ∷ [] ≡ map (λ ops. 1) (line back) =
       ap (λ (flights : List ℕ). flights ++ 1 ∷ []) (same_flights ∙ s.flown) ∙ sym (map-append (λ ops. 1) before (ops ∷ [])) ∙ ap (map (λ ops. 1)) (sym longer) in
       let weaker : LeavesOnly moment_of left_since core.journal.disk disk (RecoversToPrefix core.identity (batches_in start) (before ++ ops ∷ []) (length before)) =
-      leaves_weaker moment_of left_since image core.journal.disk disk _ _ (λ c one. one_of core s object ops c is s.frames s.named s.batches one) leaves in
+      leaves_weaker moment_of left_since image core.journal.disk disk _ _ (λ c one. one_of core s object ops c is s.frames s.named (each_batches start (line core.back) s.frames s.one_each) one) leaves in
       turn_history core disk front back event (Some ops) reply s says logs (ap (λ (log : BackLog). log.released.items) took) (1 ∷ [], flown) weaker
       (λ c now. subst (λ n. RecoversToPrefix core.identity (batches_in start) (before ++ ops ∷ []) n c) (sym (ap sum same_flights ∙ all_flown core s)) (weaker.each c (counts_now disk (moment_of core.journal.disk) c weaker.later now)))
 
@@ -271,11 +277,11 @@ module _ {D : Type 0} (moment_of : D → ℕ) (left_since : D → ℕ → List �
       let total : sum flying.flights.items ≡ length after = ap sum flights ∙ sum-ones after in
       let needs_all : release.needs ≡ length after = needs ∙ ap length flights ∙ length-map after (λ ops. 1) in
       let named : NameOnly old.identity frames = names_more old.identity s.frames (frame_of object (ops ∷ [])) s.named is in
-      let batches : batches_in frames ≡ batches_in start ++ after = more_batches s.frames (batches_in start) before object ops s.batches in
+      let batches : batches_in frames ≡ batches_in start ++ after = more_batches s.frames (batches_in start) before object ops (each_batches start before s.frames s.one_each) in
       let holds : (c : List ℕ) → image disk c → RecoversToPrefix old.identity (batches_in start) after (length after) c =
       λ c now. whole_line old.identity (batches_in start) after frames c (at_rest_recovers told_by image new.journal frames rest c now) named batches in
       let weaker : LeavesOnly moment_of left_since old.journal.disk disk (RecoversToPrefix old.identity (batches_in start) after (length before)) =
-      leaves_weaker moment_of left_since image old.journal.disk disk _ _ (λ c one. one_of old s object ops c is s.frames s.named s.batches one) leaves in
+      leaves_weaker moment_of left_since image old.journal.disk disk _ _ (λ c one. one_of old s object ops c is s.frames s.named (each_batches start before s.frames s.one_each) one) leaves in
       let middle : IsHistory moment_of left_since image since start disk old.identity new.front flying =
       turn_history old disk new.front flying event (Some ops) reply s says flying_logs was_released ([], append-nil flying.flights.items ∙ flown) weaker
       (λ c now. subst (λ n. RecoversToPrefix old.identity (batches_in start) after n c) (sym total) (holds c now)) in
@@ -300,7 +306,7 @@ module _ {D : Type 0} (moment_of : D → ℕ) (left_since : D → ℕ → List �
         at_rest = rest;
         within = within;
         named = rw identity named;
-        batches = rw new_line batches;
+        one_each = rw new_line (each_more start before s.frames object ops s.one_each);
         staged = staged;
         values = rw new_line (λ key. values key ∙ ap (λ had. value_after key had ops) (s.values key) ∙ sym (value_after-append key None (operations (batches_in start ++ before)) ops)
             ∙ ap (λ all. value_after key None all) (sym all_ops));
@@ -313,6 +319,7 @@ module _ {D : Type 0} (moment_of : D → ℕ) (left_since : D → ℕ → List �
   logs_stay core disk front back s same_front same_back same_disk =
       let h : IsHistory moment_of left_since image since start core.journal.disk core.identity core.front core.back = s.history in
       let same : IsHistory moment_of left_since image since start core.journal.disk core.identity front back = record {
+        object_is = rw same_front.delivered h.object_is;
         said = rw (same_front.sent, same_front.delivered) h.said;
         taken = same_back.taken ∙ h.taken ∙ sym same_front.sent;
         numbered = rw same_front.sent h.numbered;
@@ -349,7 +356,7 @@ module _ {D : Type 0} (moment_of : D → ℕ) (left_since : D → ℕ → List �
         at_rest = rw journal s.at_rest;
         within = rw journal s.within;
         named = rw identity s.named;
-        batches = rw same_back.taken s.batches;
+        one_each = rw same_back.taken s.one_each;
         staged = rw journal s.staged;
         values = rw (map_is, same_back.taken) s.values;
       }

@@ -7,6 +7,7 @@ use Rattle.storage_map.specs.declared.op.Op.{Op}
 use Rattle.object_core.specs.Said.{spoken, batches_of, operations, messages_in, IsPrefix}
 use Rattle.object_core.specs.Told.{told}
 use Rattle.object_core.specs.Kept.{RecoversToPrefix}
+use Rattle.object_core.specs.Named.{object_in, object_told}
 use Rattle.object_core.specs.declared.timeline.Entry.{Entry}
 use Rattle.object_core.specs.declared.timeline.Message.{Message}
 use Rattle.object_core.specs.declared.front_log.FrontLog.{FrontLog}
@@ -54,6 +55,8 @@ pub record AreEmpty (front : FrontLog) (back : BackLog) : Type 0 where
 -- the start.
 pub record IsHistory {D : Type 0} (moment_of : D → ℕ) (left_since : D → ℕ → List ℕ → Type 0) (image : D → List ℕ → Type 0)
     (since : ℕ) (start : List Frame) (disk : D) (object : Option (List ℕ × List ℕ)) (front : FrontLog) (back : BackLog) : Type 0 where
+  -- it has the object that the frames of the start name, or else the one of the bind that was delivered
+  pub object_is : object ≡ object_told (object_in start) front.delivered.items
   -- what it said is what its script tells at the events that were delivered, and all of it was taken
   pub said : spoken front.sent.items ≡ told (operations (batches_in start)) front.delivered.items
   pub taken : back.taken.items ≡ front.sent.items

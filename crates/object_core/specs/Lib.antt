@@ -3,6 +3,7 @@ pub mod Told
 pub mod Fault
 pub mod Turn
 pub mod Kept
+pub mod Named
 pub mod Within
 pub mod History
 pub mod Serving

@@ -1,7 +1,9 @@
 -- A core that is ready to log a turn: what is to be said is copied, the logs have room, and the batch is staged.
 use Rattle.std.specs.Prelude.{◌≡◌, ℕ, ◌+◌, List, [], ◌∷◌, ◌++◌, length, Option, Some, None}
-use Rattle.batch_journal.specs.Frames.{Frame}
-use Rattle.batch_journal.specs.Rest.{IsAtRest, IsStaged}
+use Rattle.batch_journal.specs.Frames.{Frame, Name}
+use Rattle.batch_journal.specs.Moments.{LeavesOnly}
+use Rattle.batch_journal.specs.Rest.{IsAtRest, IsStaged, RecoversToOneOf}
+use Rattle.batch_journal.specs.Staged.{frame_of}
 use Rattle.storage_map.specs.Stored.{value_in, value_after}
 use Rattle.storage_map.specs.declared.op.Op.{Op}
 use Rattle.storage_map.specs.declared.map.Map.{Map}
@@ -53,3 +55,13 @@ pub record LogsTurn {D : Type 0} (old new : Core D) (event : Event) (turn : Turn
 pub record Lands {D : Type 0} (moment_of : D → ℕ) (old new : Core D) (copies : Copies) : Type 0 where
   pub flights : new.back.flights.items ≡ old.back.flights.items ++ 1 ∷ []
   pub released : new.back.released.items ≡ old.back.released.items ++ record { message = copies.released; needs = length new.back.flights.items; moment = moment_of new.journal.disk } ∷ []
+
+-- the frame that was staged is the journal's last
+abbrev pub Appends : {D : Type 0} → (D → Option (List ℕ)) → (D → List ℕ → Type 0) → Journal D → Journal D → Type 0
+Appends told image old new = (frames : List Frame) (object : List ℕ × List ℕ) (batches : List (List Op)) → IsAtRest told image old frames → IsStaged old object batches → Name object frames
+    → IsAtRest told image new (frames ++ frame_of object batches ∷ [])
+
+-- a crash since then leaves the journal's frames, or these and the one that was staged
+abbrev pub LeavesOneOf : {D : Type 0} → (D → ℕ) → (D → ℕ → List ℕ → Type 0) → (D → Option (List ℕ)) → (D → List ℕ → Type 0) → Journal D → D → Type 0
+LeavesOneOf moment_of left_since told image old disk = (frames : List Frame) (object : List ℕ × List ℕ) (batches : List (List Op)) → IsAtRest told image old frames → IsStaged old object batches → Name object frames
+    → LeavesOnly moment_of left_since old.disk disk (RecoversToOneOf frames (frame_of object batches))

@@ -13,6 +13,7 @@ use Rattle.batch_journal.specs.declared.mount.Mounted.{Mounted}
 use Rattle.object_core.specs.Said.{spoken, batches_of, operations, messages_in}
 use Rattle.object_core.specs.Told.{event_says, stored_by}
 use Rattle.object_core.specs.Kept.{NameOnly, RecoversTo}
+use Rattle.object_core.specs.Named.{object_in, IsOneEach}
 use Rattle.object_core.specs.Within.{AreWithin, RecoversWithin}
 use Rattle.object_core.specs.History.{line, needs_of, IsHistory}
 use Rattle.object_core.specs.declared.timeline.Event.{Event}
@@ -75,19 +76,20 @@ IsFirstForm (Tick at) = ⊥
 IsFirstForm (Evict at) = ⊥
 
 -- A slot that was just mounted: its journal is at rest with the frames of the start, which name its object alone, its map
--- has what they leave, and a crash since this moment leaves their batches.
+-- has what they leave, and a crash since this moment leaves their batches. It has an object exactly where there are frames.
 pub record IsMounted {D : Type 0} (moment_of : D → ℕ) (left_since : D → ℕ → List ℕ → Type 0) (told : D → Option (List ℕ)) (image : D → List ℕ → Type 0)
     (since : ℕ) (start : List Frame) (mounted : Mounted D) : Type 0 where
   pub at_rest : IsAtRest told image mounted.journal start
   pub staged : (object : List ℕ × List ℕ) → IsStaged mounted.journal object []
   pub named : NameOnly mounted.identity start
+  pub object : mounted.identity ≡ object_in start
   pub values : (key : List ℕ) → value_in mounted.map key ≡ stored_by (operations (batches_in start)) key
   pub later : since ≤ moment_of mounted.journal.disk
   pub images : (c : List ℕ) → left_since mounted.journal.disk since c → RecoversTo mounted.identity (batches_in start) c
 
 -- A core that serves: its logs are its history, everything that was said has left or is durable, its journal is at rest
--- with the frames of the start and those of the line, which name its object alone and are within its limit, and its map has
--- what they leave.
+-- with the frames of the start and then one for each batch of the line, which name its object alone and are within its limit,
+-- and its map has what they leave.
 pub record IsServing {D : Type 0} (moment_of : D → ℕ) (left_since : D → ℕ → List ℕ → Type 0) (told : D → Option (List ℕ)) (image : D → List ℕ → Type 0)
     (since : ℕ) (start : List Frame) (core : Core D) : Type 0 where
   pub history : IsHistory moment_of left_since image since start core.journal.disk core.identity core.front core.back
@@ -97,7 +99,7 @@ pub record IsServing {D : Type 0} (moment_of : D → ℕ) (left_since : D → �
   pub at_rest : IsAtRest told image core.journal frames
   pub within : AreWithin core.journal.limit start frames
   pub named : NameOnly core.identity frames
-  pub batches : batches_in frames ≡ batches_in start ++ line core.back
+  pub one_each : IsOneEach start (line core.back) frames
   pub staged : (object : List ℕ × List ℕ) → IsStaged core.journal object []
   pub values : (key : List ℕ) → value_in core.map key ≡ stored_by (operations (batches_in start ++ line core.back)) key
 
@@ -112,6 +114,33 @@ IsHistoryOf moment_of left_since image since start core = IsHistory moment_of le
 -- whatever a crash since this moment leaves has no frame that passes the limit of the core's journal
 abbrev pub IsWithinLimit : {D : Type 0} → (D → ℕ → List ℕ → Type 0) → ℕ → List Frame → Core D → Type 0
 IsWithinLimit left_since since start core = (c : List ℕ) → left_since (disk_of core) since c → RecoversWithin (limit_in core) start (object_of core) (line (back_of core)) c
+
+-- whatever a core has served since, and from whichever frames, the next one serves on
+abbrev pub KeepsServing : {D : Type 0} → (D → ℕ) → (D → ℕ → List ℕ → Type 0) → (D → Option (List ℕ)) → (D → List ℕ → Type 0) → Core D → Core D → Type 0
+KeepsServing moment_of left_since told image old new =
+    (since : ℕ) (start : List Frame) → IsServing moment_of left_since told image since start old → IsServing moment_of left_since told image since start new
+
+-- or at least its logs are the history since then
+abbrev pub KeepsHistory : {D : Type 0} → (D → ℕ) → (D → ℕ → List ℕ → Type 0) → (D → Option (List ℕ)) → (D → List ℕ → Type 0) → Core D → Core D → Type 0
+KeepsHistory moment_of left_since told image old new =
+    (since : ℕ) (start : List Frame) → IsServing moment_of left_since told image since start old → IsHistoryOf moment_of left_since image since start new
+
+-- what a crash leaves stays within the limit
+abbrev pub KeepsWithin : {D : Type 0} → (D → ℕ → List ℕ → Type 0) → Core D → Core D → Type 0
+KeepsWithin left_since old new = (since : ℕ) (start : List Frame) → IsWithinLimit left_since since start old → IsWithinLimit left_since since start new
+
+-- and does so where the core serves
+abbrev pub ServesWithin : {D : Type 0} → (D → ℕ) → (D → ℕ → List ℕ → Type 0) → (D → Option (List ℕ)) → (D → List ℕ → Type 0) → Core D → Core D → Type 0
+ServesWithin moment_of left_since told image old new =
+    (since : ℕ) (start : List Frame) → IsServing moment_of left_since told image since start old → IsWithinLimit left_since since start old → IsWithinLimit left_since since start new
+
+-- this event was delivered, to the first incarnation
+abbrev pub Delivers : {D : Type 0} → Event → Core D → Core D → Type 0
+Delivers event old new = (front_of new).delivered.items ≡ (front_of old).delivered.items ++ (1, event) ∷ []
+
+-- nothing more has left
+abbrev pub SameReleased : {D : Type 0} → Core D → Core D → Type 0
+SameReleased old new = (back_of new).released.items ≡ (back_of old).released.items
 
 -- one message more has left, and it is this one
 abbrev pub Releases : Message → BackLog → BackLog → Type 0

@@ -129,7 +129,8 @@ impl BackLog {
     // A message leaves now, behind all batches that have flown.
     pub(crate) fn release(&mut self, message: Message, moment: u64)
         requires { vec_len self.old.released + 1 ≤ vec_capacity self.old.released }
-        ensures released { self.new.released.items ≡ self.old.released.items ++ record { message = message; needs = length self.old.flights.items; moment = moment } ∷ [] }
+        ensures released { self.new.released.items ≡ self.old.released.items
+            ++ record { message = message; needs = length self.old.flights.items; moment = moment } ∷ [] }
         ensures rest { self.new ≡ record self.old { released = self.new.released } }
     {
         let needs = self.flights.as_slice().len() as u64;

@@ -3,14 +3,13 @@ ghost use Rattle.std.specs.Prelude.{◌≡◌, ◌≢◌, ◌≤◌, ◌++◌, �
 ghost use Rattle.std.specs.Result.{result_map_both};
 ghost use Rattle.do_disk.specs.Disk.{Rose};
 ghost use Rattle.storage_map.specs.declared.op.Op.{Op};
-ghost use Rattle.batch_journal.specs.Frames.{Frame, Name};
-ghost use Rattle.batch_journal.specs.Moments.{LeavesOnly};
 ghost use Rattle.batch_journal.specs.Staged.{frame_of};
-ghost use Rattle.batch_journal.specs.Rest.{IsAtRest, IsStaged, CanAppend, RecoversToOneOf, IsFull};
+ghost use Rattle.batch_journal.specs.Rest.{IsStaged, CanAppend, IsFull};
 ghost use Rattle.storage_map.specs.Stored.{value_in, value_after};
 ghost use Rattle.object_core.specs.Turn.{HasFrontRoom, HasBackRoom, IsTurnOf};
-ghost use Rattle.object_core.specs.Ready.{LogsTurn, Lands, SameCore, SameJournal, IsReady, IsStagedTurn};
-ghost use Rattle.object_core.specs.Serving.{IsServing, IsWithinLimit, CanServe, IsHistoryOf, IsFirstForm, IsFullCall, Releases, SameLogs, limit_in, object_of, disk_of, front_of, back_of};
+ghost use Rattle.object_core.specs.Ready.{LogsTurn, Lands, Appends, LeavesOneOf, SameCore, SameJournal, IsReady, IsStagedTurn};
+ghost use Rattle.object_core.specs.Serving.{CanServe, KeepsServing, KeepsHistory, KeepsWithin, ServesWithin, IsFirstForm, IsFullCall};
+ghost use Rattle.object_core.specs.Serving.{Delivers, Releases, SameReleased, SameLogs, limit_in, object_of, disk_of, back_of};
 
 use crate::object::{CallEnd, Core};
 use crate::timeline::{Event, Message};
@@ -25,13 +24,13 @@ impl<D: Disk> Core<D> {
     /// Gives the core its object. After `NoMemory` it has none, and its logs say the same as before.
     pub fn bind(&mut self, identity: Identity) -> Mem<()>
         requires { object_of self.old ≡ None }
-        ensures serving { (since : ℕ) (start : List Frame) → IsServing D.moment_of D.left_since D.told D.image since start self.old → IsServing D.moment_of D.left_since D.told D.image since start self.new }
-        ensures within { (since : ℕ) (start : List Frame) → IsWithinLimit D.left_since since start self.old → IsWithinLimit D.left_since since start self.new }
+        ensures serving { KeepsServing D.moment_of D.left_since D.told D.image self.old self.new }
+        ensures within { KeepsWithin D.left_since self.old self.new }
         ensures object { OnOk result (object_of self.new ≡ Some identity) }
-        ensures delivered { OnOk result ((front_of self.new).delivered.items ≡ (front_of self.old).delivered.items ++ (1, Event.Bind identity) ∷ []) }
+        ensures delivered { OnOk result (Delivers (Event.Bind identity) self.old self.new) }
         ensures no_object { OnErr result (object_of self.new ≡ None) }
         ensures same_logs { OnErr result (SameLogs self.old self.new) }
-        ensures same_released { (back_of self.new).released.items ≡ (back_of self.old).released.items }
+        ensures same_released { SameReleased self.old self.new }
         ensures same_disk { disk_of self.new ≡ disk_of self.old }
         ensures same_limit { limit_in self.new ≡ limit_in self.old }
     {
@@ -55,15 +54,15 @@ impl<D: Disk> Core<D> {
         requires form { IsFirstForm event }
         requires object { IsSome (object_of self.old) }
         requires serving { CanServe D.moment_of D.left_since D.told D.image self.old }
-        ensures serving { OnOk result ((since : ℕ) (start : List Frame) → IsServing D.moment_of D.left_since D.told D.image since start self.old → IsServing D.moment_of D.left_since D.told D.image since start self.new) }
-        ensures stopped { OnErr result ((since : ℕ) (start : List Frame) → IsServing D.moment_of D.left_since D.told D.image since start self.old → IsHistoryOf D.moment_of D.left_since D.image since start self.new) }
+        ensures serving { OnOk result (KeepsServing D.moment_of D.left_since D.told D.image self.old self.new) }
+        ensures stopped { OnErr result (KeepsHistory D.moment_of D.left_since D.told D.image self.old self.new) }
         // Whatever the answer, no frame that a crash leaves passes the journal's limit.
-        ensures within { (since : ℕ) (start : List Frame) → IsServing D.moment_of D.left_since D.told D.image since start self.old → IsWithinLimit D.left_since since start self.old → IsWithinLimit D.left_since since start self.new }
+        ensures within { ServesWithin D.moment_of D.left_since D.told D.image self.old self.new }
         // The call was delivered, but where memory was wanting.
-        ensures delivered { result ≢ Err CallEnd.NoMemory → (front_of self.new).delivered.items ≡ (front_of self.old).delivered.items ++ (1, event) ∷ [] }
+        ensures delivered { result ≢ Err CallEnd.NoMemory → Delivers event self.old self.new }
         ensures same_logs { IsErrOf result CallEnd.NoMemory → SameLogs self.old self.new }
         ensures released { IfOk result (λ message. Releases message (back_of self.old) (back_of self.new)) }
-        ensures same_released { OnErr result ((back_of self.new).released.items ≡ (back_of self.old).released.items) }
+        ensures same_released { OnErr result (SameReleased self.old self.new) }
         ensures same_object { object_of self.new ≡ object_of self.old }
         ensures same_limit { limit_in self.new ≡ limit_in self.old }
         ensures failed { IsErrOf result CallEnd.DiskFailed → Rose (D.faults_of (disk_of self.old)) (D.faults_of (disk_of self.new)) }
@@ -104,8 +103,8 @@ impl<D: Disk> Core<D> {
         requires back { HasBackRoom self.old.back }
         requires turn { IsTurnOf self.old.map event ready.turn ready.copies }
         requires no_batch { ready.turn.batch ≡ None }
-        ensures serving { (since : ℕ) (start : List Frame) → IsServing D.moment_of D.left_since D.told D.image since start self.old → IsServing D.moment_of D.left_since D.told D.image since start self.new }
-        ensures within { (since : ℕ) (start : List Frame) → IsWithinLimit D.left_since since start self.old → IsWithinLimit D.left_since since start self.new }
+        ensures serving { KeepsServing D.moment_of D.left_since D.told D.image self.old self.new }
+        ensures within { KeepsWithin D.left_since self.old self.new }
         ensures delivered { self.new.front.delivered.items ≡ self.old.front.delivered.items ++ (1, event) ∷ [] }
         ensures released { Releases result self.old.back self.new.back }
         ensures same { (self.new.identity ≡ self.old.identity) × (self.new.journal ≡ self.old.journal) }
@@ -126,13 +125,15 @@ impl<D: Disk> Core<D> {
         ensures logs { LogsTurn self.old self.new event ready.turn ready.copies }
         ensures lands { IfOk result (λ message. (message ≡ ready.copies.answer) × Lands D.moment_of self.old self.new ready.copies) }
         ensures same_limit { limit_in self.new ≡ limit_in self.old }
-        ensures stays { OnErr result ((self.new.back.flights ≡ self.old.back.flights) × (self.new.back.released ≡ self.old.back.released)) }
-        ensures appended { OnOk result ((frames : List Frame) (object : List ℕ × List ℕ) (batches : List (List Op)) → IsAtRest D.told D.image self.old.journal frames → IsStaged self.old.journal object batches → Name object frames → IsAtRest D.told D.image self.new.journal (frames ++ frame_of object batches ∷ [])) }
+        ensures stays { OnErr result ((self.new.back.flights ≡ self.old.back.flights)
+            × (self.new.back.released ≡ self.old.back.released)) }
+        ensures appended { OnOk result (Appends D.told D.image self.old.journal self.new.journal) }
         ensures unstaged { OnOk result ((object : List ℕ × List ℕ) → IsStaged self.new.journal object []) }
-        ensures any_moment { (frames : List Frame) (object : List ℕ × List ℕ) (batches : List (List Op)) → IsAtRest D.told D.image self.old.journal frames → IsStaged self.old.journal object batches → Name object frames → LeavesOnly D.moment_of D.left_since self.old.journal.disk self.new.journal.disk (RecoversToOneOf frames (frame_of object batches)) }
+        ensures any_moment { LeavesOneOf D.moment_of D.left_since D.told D.image self.old.journal self.new.journal.disk }
         ensures failed { IsErrOf result AppendFault.DiskFailed → Rose (D.faults_of self.old.journal.disk) (D.faults_of self.new.journal.disk) }
         ensures later { D.faults_of self.old.journal.disk ≤ D.faults_of self.new.journal.disk }
-        ensures full { (object : List ℕ × List ℕ) (batches : List (List Op)) → IsStaged self.old.journal object batches → IsFull self.old.journal (frame_of object batches) (result_map_both (λ message. tt) (λ fault. fault) result) }
+        ensures full { (object : List ℕ × List ℕ) (batches : List (List Op)) → IsStaged self.old.journal object batches
+            → IsFull self.old.journal (frame_of object batches) (result_map_both (λ message. tt) (λ fault. fault) result) }
         ensures full_drops { (needed limit : ℕ) → IsErrOf result (AppendFault.Full needed limit) → self.new.journal.disk ≡ self.old.journal.disk }
     {
         let Ready { turn, copies } = ready;

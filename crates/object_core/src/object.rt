@@ -79,7 +79,8 @@ impl From<AppendFault> for CallEnd {
 impl<D: Disk> Core<D> {
     /// The core of a slot that was just mounted, with empty logs.
     pub fn first(alloc: Global, mounted: Mounted<D>) -> Core<D>
-        ensures serving { (since : ℕ) (start : List Frame) → IsMounted D.moment_of D.left_since D.told D.image since start mounted → IsServing D.moment_of D.left_since D.told D.image since start result }
+        ensures serving { (since : ℕ) (start : List Frame) → IsMounted D.moment_of D.left_since D.told D.image since start mounted
+            → IsServing D.moment_of D.left_since D.told D.image since start result }
         ensures within { (since : ℕ) (start : List Frame) → IsMounted D.moment_of D.left_since D.told D.image since start mounted
             → ((c : List ℕ) → D.left_since mounted.journal.disk since c → Recovers c start) → IsWithinLimit D.left_since since start result }
         ensures object { object_of result ≡ mounted.identity }

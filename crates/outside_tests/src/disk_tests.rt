@@ -1,6 +1,8 @@
+ghost use Rattle.std.specs.Prelude.{None};
+
 use do_disk::{
-    Depot, DepotFault, Disk, Failed, Fails, FolderDepot, FreeGate, MemDepot, MemDisk, MemSink,
-    MemSource, Pick, Sink, Source, StdSink, StdSource, TurnGate, VoidSink,
+    Depot, DepotFault, Disk, Failed, Fails, FileCalls, FileDisk, FolderDepot, FreeGate, MemDepot,
+    MemDisk, MemSink, MemSource, Pick, Sink, Source, StdSink, StdSource, TurnGate, VoidSink,
 };
 use std::alloc::Global;
 use std::fs::File;
@@ -135,6 +137,8 @@ fn use_slot<R: Files<File = File> + AllocGlobal + Drop>(
     disk.write_at(0, b"journal")?;
     disk.sync()?;
     assert_eq!(rt; (disk.moment(), disk.faults()), (3, 0));
+    assert_eq!(rt; depot.slot(folder, 7).err(), Some(DepotFault::Failed));
+    drop(disk);
     let mut again = depot.slot(folder, 7)?;
     let mut bytes = [0; 4];
     again.read_at(3, &mut bytes)?;
@@ -152,6 +156,115 @@ fn a_folder_holds_the_slots(rt: HostRuntime) -> Result<(), Fail> {
     let mut depot = FolderDepot::new(rt.clone()?);
     use_slot(&rt, &mut depot, "slots of a test", path)?;
     fs::remove_dir_all(&rt, "slots of a test")?;
+    Ok(())
+}
+
+// Two depots stand for two runs: a lock belongs to what opened the file, and not to the process.
+fn share_slot<R: Files<File = File> + AllocGlobal + Drop>(
+    rt: &impl Abort,
+    one: &mut FolderDepot<R>,
+    other: &mut FolderDepot<R>,
+    folder: &str,
+) -> Result<(), Fail> {
+    let mut disk = one.slot(folder, 0)?;
+    disk.write_at(0, b"acknowledged")?;
+    assert_eq!(rt; other.slot(folder, 0).err(), Some(DepotFault::Failed));
+    assert!(rt; other.slot(folder, 1).is_ok());
+    assert_eq!(rt; disk.length()?, 12);
+    drop(disk);
+    assert_eq!(rt; other.slot(folder, 0)?.length()?, 12);
+    Ok(())
+}
+
+#[test]
+fn a_slot_in_use_is_not_opened(rt: HostRuntime) -> Result<(), Fail> {
+    fs::create_dir(&rt, "folder of two runs")?;
+    let mut one = FolderDepot::new(rt.clone()?);
+    let mut other = FolderDepot::new(rt.clone()?);
+    share_slot(&rt, &mut one, &mut other, "folder of two runs")?;
+    fs::remove_dir_all(&rt, "folder of two runs")?;
+    Ok(())
+}
+
+#[test]
+fn an_empty_folder_word_makes_nothing(rt: HostRuntime) -> Result<(), Fail> {
+    let mut depot = FolderDepot::new(rt.clone()?);
+    assert_eq!(rt; depot.slot("", 0).err(), Some(DepotFault::Failed));
+    assert!(rt; !fs::exists(&rt, "/slot-000.journal")?);
+    assert!(rt; !fs::exists(&rt, "slot-000.journal")?);
+    Ok(())
+}
+
+// A file that keeps the names of its calls, and of which the call of one number fails.
+#[derive(Drop)]
+struct NotedFile {
+    calls: Vec<&'static str>,
+    fails: usize,
+}
+
+impl NotedFile {
+    fn note(&mut self, name: &'static str) -> io::Result<()> {
+        if self.calls.push(name).is_err() || self.calls.len() == self.fails {
+            Err(io::Error::from(ErrorKind::Other))
+        } else {
+            Ok(())
+        }
+    }
+}
+
+impl FileCalls for NotedFile {
+    ghost calls = { λ _. None };
+
+    fn length(&mut self) -> io::Result<u64> {
+        self.note("length")?;
+        Ok(9)
+    }
+
+    fn read_at(&mut self, _at: u64, _into: &mut [u8]) -> io::Result<()> {
+        self.note("read")
+    }
+
+    fn write_at(&mut self, _at: u64, _from: &[u8]) -> io::Result<()> {
+        self.note("write")
+    }
+
+    fn sync(&mut self) -> io::Result<()> {
+        self.note("sync")
+    }
+}
+
+#[test]
+fn each_call_of_a_disk_is_one_of_its_file_until_a_write_or_sync_fails(
+    rt: HostRuntime,
+) -> Result<(), Fail> {
+    let alloc = rt.alloc();
+    for (fails, oks, made) in [
+        (0, [true, true, true, true, true], 5),
+        (1, [false, true, true, true, true], 5),
+        (2, [true, false, true, true, true], 5),
+        (3, [true, true, false, false, false], 3),
+        (4, [true, true, true, false, false], 4),
+        (5, [true, true, true, true, false], 5),
+    ] {
+        let calls = Vec::new(alloc);
+        let mut disk = FileDisk::new(NotedFile { calls, fails });
+        let answers = [
+            disk.length().is_ok(),
+            disk.read_at(0, &mut [0; 2]).is_ok(),
+            disk.write_at(9, b"more").is_ok(),
+            disk.sync().is_ok(),
+            disk.length().is_ok(),
+        ];
+        assert_eq!(rt; answers, oks, "{fails}");
+        let failed = oks.iter().filter(|ok| !**ok).count() as u64;
+        assert_eq!(rt; (disk.moment(), disk.faults()), (5, failed));
+        let names = ["length", "read", "write", "sync", "length"];
+        let calls = &disk.file().calls;
+        assert_eq!(rt; calls.len(), made);
+        for (call, name) in calls.iter().zip(&names) {
+            assert_eq!(rt; *call, *name);
+        }
+    }
     Ok(())
 }
 

@@ -11,10 +11,9 @@ ghost use Rattle.script_mean.specs.Answers.{value_of_reading, found, completed, 
 ghost use Rattle.script_asks.specs.Refusals.{Gives, Refuses};
 ghost use Rattle.script_asks.specs.Requests.{completed_of};
 
-use crate::refusal::{Refusal, Stop, fault};
 use crate::work::Completed;
 use do_value::{BuildFault, MOST_LEVELS, Mem, NoMemory, Num, RangeNum, Text, Value};
-use script_ops::OpFault;
+use script_ops::{OpFault, Refusal, Stop, fault_of};
 use std::alloc::Global;
 use storage_map::{Alarm, Key, Reading, StoreAsk};
 use storage_txn::{Txn, TxnFault};
@@ -27,7 +26,7 @@ pub fn value_of_reading(alloc: Global, reading: Reading) -> Result<Value, OpFaul
 {
     match reading_value(alloc, reading) {
         Ok(value) => Ok(value),
-        Err(stop) => Err(fault(alloc, stop)),
+        Err(stop) => Err(fault_of(alloc, stop)),
     }
 }
 

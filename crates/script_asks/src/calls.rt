@@ -10,11 +10,10 @@ use crate::alarm::set_alarm;
 use crate::keys::{delete, get};
 use crate::listing::listed;
 use crate::put::put;
-use crate::refusal::{Stop, fault};
 use crate::work::{Completed, Request, one_write};
 use do_value::Value;
 use script_mean::{HandleCall, StorageCall};
-use script_ops::OpFault;
+use script_ops::{OpFault, Stop, fault_of};
 use std::alloc::Global;
 use storage_map::{Op, StoreAsk};
 
@@ -37,7 +36,7 @@ pub fn request(
 {
     match wanted(alloc, has_handler, call, args) {
         Ok(request) => Ok(request),
-        Err(stop) => Err(fault(alloc, stop)),
+        Err(stop) => Err(fault_of(alloc, stop)),
     }
 }
 
@@ -55,7 +54,7 @@ pub fn handle_wants(
 {
     match wanted_of_handle(alloc, rolled, call, args) {
         Ok(request) => Ok(request),
-        Err(stop) => Err(fault(alloc, stop)),
+        Err(stop) => Err(fault_of(alloc, stop)),
     }
 }
 

@@ -12,10 +12,10 @@ ghost use Rattle.script_asks.specs.Requests.{Wants, AreWithin};
 ghost use Rattle.script_asks.specs.Keys.{RefusesKey, RefusesKeyIn, RefusesKeys};
 ghost use Rattle.storage_map.specs.declared.op.Op.TheVariants.{Delete};
 
-use crate::refusal::{Refusal, Stop};
 use crate::work::{Completed, Request, one_write};
 use do_value::{Items, Mem, NoMemory, Text, Value};
 use script_mean::MOST_KEYS;
+use script_ops::{Refusal, Stop};
 use std::alloc::Global;
 use storage_map::{Key, KeyFault, Keys, Op, StoreAsk};
 

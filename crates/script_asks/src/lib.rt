@@ -7,7 +7,6 @@ mod calls;
 mod keys;
 mod listing;
 mod put;
-mod refusal;
 mod words;
 mod work;
 

@@ -7,10 +7,9 @@ ghost use Rattle.script_mean.specs.Storing.{listed, listed_by, listing, bound_of
 ghost use Rattle.script_asks.specs.Requests.{Wants, AreWithin};
 ghost use Rattle.script_asks.specs.Values.{Takes};
 
-use crate::refusal::{Refusal, Stop};
 use crate::work::Request;
 use do_value::{Fields, Text, Value};
-use script_ops::truth;
+use script_ops::{Refusal, Stop, truth};
 use storage_map::{Options, StoreAsk};
 
 /// `list()` and `list(options)`

@@ -11,10 +11,10 @@ ghost use Rattle.script_asks.specs.Values.{RefusesPut};
 ghost use Rattle.storage_map.specs.declared.op.Op.TheVariants.{Put};
 
 use crate::keys::short_key;
-use crate::refusal::{Refusal, Stop};
 use crate::work::{Completed, Request, one_write};
 use do_value::{Fields, Mem, NoMemory, Text, Value};
 use script_mean::MOST_KEYS;
+use script_ops::{Refusal, Stop};
 use std::alloc::Global;
 use storage_map::{MOST_KEY_BYTES, MOST_STORED_BYTES, Op};
 

@@ -13,11 +13,12 @@ use Rattle.do_tree.specs.declared.script.Method.{Method}
 use Rattle.do_value.specs.Seen.{tree_of, trees_in}
 use Rattle.do_value.specs.declared.value.Value.{Value}
 use Rattle.do_value.specs.declared.value.Value.TheVariants.{Undefined}
+use Rattle.script_mean.specs.Limits.{most_helpers}
 use Rattle.script_mean.specs.Answers.{threw}
 use Rattle.script_mean.specs.Calls as mean
 use Rattle.script_mean.specs.Errors.{nested_too_deep}
 use Rattle.script_mean.specs.Frames.{Frame, callers}
-use Rattle.script_mean.specs.Meaning.{body, calls_of, has_alarm_handler, helped, method_in, method_scope, most_helpers, to_caller}
+use Rattle.script_mean.specs.Meaning.{body, calls_of, has_alarm_handler, helped, method_in, method_scope, to_caller}
 use Rattle.script_mean.specs.Task as task
 use Rattle.script_mean.specs.Task.{Env, Resume}
 use Rattle.script_mean.specs.Turn as turn

@@ -13,7 +13,7 @@ use Rattle.script_mean.specs.Meaning.{run, value}
 use Rattle.script_mean.specs.Task.{Env}
 use Rattle.script_mean.specs.Turn as turn
 use Rattle.script_mean.specs.Turn.{Next}
-use Rattle.script_paths.specs.Reading.{UnfoldsIn, UnfoldsWith}
+use Rattle.script_paths.specs.Reading.{UnfoldsIn, UnfoldsOn, UnfoldsWith}
 use Rattle.script_state.specs.Seen.{state_of}
 use Rattle.script_state.specs.declared.state.State.{State}
 use Rattle.script_steps.specs.Seen.{between_of, focus_run, move_run}
@@ -43,6 +43,11 @@ with_acts f s m same less = λ has_handler. record {
   less = omega (arith, less);
   ready = tt;
 }
+
+-- A part that unfolds with the fields of the object alone.
+pub on_acts : (f : Focus) (s : State) (m : Move) → UnfoldsOn s.fields (λ calls. focus_run calls f) m → LeavesLess (focus_weight f) m
+    → Unfolds f s (act.Moves m)
+on_acts f s m same less = with_acts f s m (λ calls next st here. same calls (env_of s.vars) next st here) less
 
 -- A part that unfolds with the variables alone.
 pub in_acts : (f : Focus) (s : State) (m : Move) → UnfoldsIn (env_of s.vars) (λ calls. focus_run calls f) m → LeavesLess (focus_weight f) m

@@ -79,7 +79,7 @@ pub shared_simple : IsSend (shared Simple.the_row)
 shared_simple = shared_send Simple.the_row (search of_trees depth 12 fits 4000) (search of_trees depth 12 fits 4000)
 
 -- ---- values
-ruleset of_values = (sendable, crosses, values.crosses, num.the_send, text.the_send)
+ruleset of_values = (sendable, crosses, values.crosses, num.the_send, num.the_sync, text.the_send, text.the_sync)
 
 pub value_send : IsSend Value.the_row
 value_send = search of_values depth 12 fits 4000

@@ -3,6 +3,7 @@ use denote.Hole.{as_row}
 use denote.Param.Send.{IsSend, plain_send, sendable}
 use denote.Param.SendFields.{as_row_send, declared_send, variants_send}
 use Rattle.std.proofs.Crossing.{crosses}
+use Rattle.std.proofs.MapsCrossing as maps
 use Rattle.do_value.proofs.text.Text.TheSendSync as text
 use Rattle.storage_map.specs.contracts.op.Op as Op
 use Rattle.storage_map.proofs.key.Key.TheSendSync as key
@@ -31,7 +32,7 @@ op_send : IsSend Op.the_row
 op_send = search (sendable, crosses, key.the_send, value_field) depth 20 fits 2000
 
 pub txn_send : IsSend Txn.the_row
-txn_send = search (sendable, crosses, op_send) depth 30 fits 2000
+txn_send = search (sendable, crosses, maps.crosses, op_send) depth 30 fits 2000
 
 -- ---- what is waited for
 gives_send : IsSend Gives.the_row

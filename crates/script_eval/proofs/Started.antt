@@ -10,8 +10,9 @@ use Rattle.do_tree.specs.Tree.{Class, Script}
 use Rattle.do_tree.specs.declared.script.Method.{Method}
 use Rattle.do_tree.specs.declared.stmt.Block.{Block}
 use Rattle.do_value.specs.Tree.{Tree}
+use Rattle.script_mean.specs.Limits.{most_helpers}
 use Rattle.script_mean.specs.Answers as answers
-use Rattle.script_mean.specs.Meaning.{First, body, calls_of, class_task, finish, meaning, method_scope, most_helpers, started, task_of}
+use Rattle.script_mean.specs.Meaning.{First, body, calls_of, class_task, finish, meaning, method_scope, started, task_of}
 use Rattle.script_mean.specs.Task.{Fields, Resume, untouched}
 use Rattle.script_mean.specs.Turn.{State, begun}
 use Rattle.script_mean.specs.declared.limits.TheConstants.{MOST_STEPS}

@@ -27,17 +27,19 @@ pub paused_gives : (class : ℕ) (starts : Bool) (a : Ask) (w : Waiting) (m : Ma
     → Gives class starts (stop.Asks a w) m (outcome.Paused t m.state.closed a m.state.fields)
 paused_gives class starts a w m t ec es ef ev ea el et eb ew = record {
   turns = λ script c rs get.
-      let asked : List Segment → List Segment = λ ts. task.asked m.state.closed.items m.state.fields a ∷ ts in
+      let asks : Bool → List Segment → List Segment = λ block ts. task.asked m.state.closed.items m.state.fields a block ∷ ts in
+      let asked : List Segment → List Segment = asks m.state.block in
+      let waits : List Segment → List Segment = asks t.block in
       let held : Held = held_of m.state in
       ap (λ x. asked (turn.resumed (wait_of x m.state.transaction) held rs (env_of m.state.vars) (next_in c starts m.frames))) (sym ew)
       ∙ ap (λ x. asked (turn.resumed (wait_of t.wait x) (record held { transaction = x }) rs (env_of m.state.vars) (next_in c starts m.frames))) (sym et)
       ∙ ap (λ x. asked (turn.resumed (wait_of t.wait t.transaction) (record { awaits = x; calls = m.state.calls; transaction = t.transaction; block = m.state.block }) rs (env_of m.state.vars) (next_in c starts m.frames))) (sym ea)
       ∙ ap (λ x. asked (turn.resumed (wait_of t.wait t.transaction) (record { awaits = t.awaits; calls = x; transaction = t.transaction; block = m.state.block }) rs (env_of m.state.vars) (next_in c starts m.frames))) (sym el)
-      ∙ ap (λ x. asked (turn.resumed (wait_of t.wait t.transaction) (record { awaits = t.awaits; calls = t.calls; transaction = t.transaction; block = x }) rs (env_of m.state.vars) (next_in c starts m.frames))) (sym eb)
-      ∙ ap (λ x. asked (turn.resumed (wait_of t.wait t.transaction) (suspended_of c t).held rs (env_of x) (next_in c starts m.frames))) (sym ev)
-      ∙ ap (λ x. asked (turn.resumed (wait_of t.wait t.transaction) (suspended_of c t).held rs (env_of t.vars) (next_in c starts x))) (sym ef)
-      ∙ ap (λ x. asked (turn.resumed (wait_of t.wait t.transaction) (suspended_of c t).held rs (env_of t.vars) (next_in c x t.frames))) (sym es)
-      ∙ ap (λ x. asked (rest_with x t rs)) (sym (ap (λ n. slice_get script.classes n) ec ∙ get));
+      ∙ ap (λ x. asks x (turn.resumed (wait_of t.wait t.transaction) (record { awaits = t.awaits; calls = t.calls; transaction = t.transaction; block = x }) rs (env_of m.state.vars) (next_in c starts m.frames))) (sym eb)
+      ∙ ap (λ x. waits (turn.resumed (wait_of t.wait t.transaction) (suspended_of c t).held rs (env_of x) (next_in c starts m.frames))) (sym ev)
+      ∙ ap (λ x. waits (turn.resumed (wait_of t.wait t.transaction) (suspended_of c t).held rs (env_of t.vars) (next_in c starts x))) (sym ef)
+      ∙ ap (λ x. waits (turn.resumed (wait_of t.wait t.transaction) (suspended_of c t).held rs (env_of t.vars) (next_in c x t.frames))) (sym es)
+      ∙ ap (λ x. waits (rest_with x t rs)) (sym (ap (λ n. slice_get script.classes n) ec ∙ get));
   kept = ec;
 }
 

@@ -9,9 +9,10 @@ use Rattle.do_tree.specs.Seen.{method_of}
 use Rattle.do_tree.specs.Tree.{Class}
 use Rattle.do_tree.specs.declared.script.Method.{Method}
 use Rattle.do_tree.specs.declared.stmt.Block.{Block}
+use Rattle.script_mean.specs.Limits.{most_helpers}
 use Rattle.script_mean.specs.Calls as calls
 use Rattle.script_mean.specs.Frames.{Frame, after, callers, to_caller_of}
-use Rattle.script_mean.specs.Meaning.{calls_of, finish, method_scope, most_helpers}
+use Rattle.script_mean.specs.Meaning.{calls_of, finish, method_scope}
 use Rattle.script_mean.specs.Task.{Resume, Segment}
 use Rattle.script_mean.specs.Turn.{Next}
 use Rattle.script_state.specs.Ends.{IsOpenFor, turns_after}

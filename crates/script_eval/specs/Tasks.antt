@@ -42,7 +42,7 @@ rest_in script t rs = rest_with (slice_get script.classes (class_in t)) t rs
 
 -- The turn that ended so.
 abbrev pub segment_of : Outcome → Segment
-segment_of (outcome.Paused t bs a fs) = task.asked bs.items fs a
+segment_of (outcome.Paused t bs a fs) = task.asked bs.items fs a (has_block t)
 segment_of (outcome.Done bs v fs) = task.done bs.items fs (tree_of v)
 segment_of (outcome.Threw bs v fs reset) = task.threw bs.items fs (tree_of v) reset
 segment_of (outcome.Exceeded bs) = task.exceeded bs.items

@@ -75,7 +75,7 @@ pub(crate) fn handed(alloc: Global, state: &State, frame: PathFrame, value: Valu
 }
 
 /// A path from this point and this link on.
-#[tactic(auto, using(crate::proofs::Moved::with_acts))]
+#[tactic(auto, using(crate::proofs::Moved::on_acts))]
 pub(crate) fn walk_on(
     alloc: Global,
     state: &State,
@@ -86,8 +86,7 @@ pub(crate) fn walk_on(
 ) -> Mem<Act>
     ensures { IfOk result (Unfolds (focus.Walk awaited point node place) state.now) }
 {
-    let (vars, fields) = (&state.vars, &state.fields);
-    Ok(Act::Moves(walk(alloc, awaited, point, node, place, vars, fields)?))
+    Ok(Act::Moves(walk(alloc, awaited, point, node, place, &state.fields)?))
 }
 
 /// The arguments of a call from this one on.

@@ -24,7 +24,7 @@ use Rattle.script_mean.specs.declared.ask.Ask.TheVariants as asked
 use Rattle.script_mean.specs.declared.call.StorageCall.{StorageCall}
 use Rattle.script_mean.specs.declared.call.HandleCall.{HandleCall}
 use Rattle.script_mean.specs.declared.call.HandleCall.TheVariants as handle
-use Rattle.script_mean.specs.declared.limits.TheConstants.{MOST_STORAGE_AWAITS}
+use Rattle.script_mean.specs.Limits.{most_storage_awaits}
 
 -- An awaited write.
 complete_keeps : {claim : Claim} (count : ℕ) (c : Completed) → PartKeeps claim (complete count c)
@@ -148,7 +148,7 @@ commit_keeps [] v = give_keeps v
 commit_keeps (op ∷ ops) v =
     record {
       by = λ limit env next next' st less kept.
-          (either_keeps (nat_lt st.held.awaits MOST_STORAGE_AWAITS) (committed_keeps (op ∷ ops) v) exceed_keeps).by limit env next next' st less kept;
+          (either_keeps (nat_lt st.held.awaits most_storage_awaits) (committed_keeps (op ∷ ops) v) exceed_keeps).by limit env next next' st less kept;
     }
 
 -- The end of a transaction's body,

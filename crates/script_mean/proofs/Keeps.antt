@@ -11,7 +11,7 @@ use Rattle.script_mean.specs.Task as task
 use Rattle.script_mean.specs.Task.{Env, Scope, Held, Resume, Segment, Wait}
 use Rattle.script_mean.specs.Turn.{State, budget, cut, Next, Run, ends, give, throws, pass, nowhere, of, on_value, ◌>>=◌, ◌>>◌, either, exceed, steps, step, fits, join, join_where, begun, resumed, ask, ask_storage, ask_outside, outer, leaving, within, with_name, declare}
 use Rattle.script_mean.specs.declared.ask.Ask.{Ask}
-use Rattle.script_mean.specs.declared.limits.TheConstants.{MOST_STEPS, MOST_STORAGE_AWAITS, MOST_OUTSIDE_CALLS}
+use Rattle.script_mean.specs.Limits.{most_outside_calls, most_steps, most_storage_awaits}
 
 -- What is claimed of the turns from a state on, given the answers that are to come, and of the turns with more answers behind those.
 -- It holds of a turn that doesn't ask, and of one that asks where no answer is left, whatever the further answers add; and where
@@ -154,7 +154,7 @@ join_keeps {claim} ops = record { by = λ limit env next next' st less kept. (go
 
 -- A turn that asks, and the turns of the answers that came and of those that come later.
 asked_keeps : {claim : Claim} (s : Segment) → asks s ≡ true → (w : Wait) (held : Held) (env : Env) (next next' : Next) (rs : List Resume) (limit : ℕ)
-    → MOST_STEPS * length rs < limit → NextKeeps claim limit next next'
+    → most_steps * length rs < limit → NextKeeps claim limit next next'
     → claim.Holds rs (s ∷ resumed w held rs env next) (s ∷ resumed w held (rs ++ claim.more) env next')
 asked_keeps {claim} s a w held env next next' [] limit less kept =
     claim.waits s (resumed w held claim.more env next') a (λ e. ap (λ l. resumed w held l env next') e)
@@ -169,7 +169,7 @@ pub ask_keeps : {claim : Claim} (a : Ask) (w : Wait) → PartKeeps claim (ask a 
 ask_keeps a w =
     record {
       by = λ limit env next next' st less kept.
-          asked_keeps (task.asked (cut st).closed st.fields a) refl w st.held env next next' st.resumes limit (omega arith) kept;
+          asked_keeps (task.asked (cut st).closed st.fields a st.held.block) refl w st.held env next next' st.resumes limit (omega arith) kept;
     }
 
 -- One of two parts, with what the task then holds.
@@ -184,7 +184,7 @@ ask_storage_keeps a w =
     record {
       by = λ limit env next next' st less kept.
           let held = record st.held { awaits = st.held.awaits + 1 } in
-          (counted_keeps (nat_lt st.held.awaits MOST_STORAGE_AWAITS) held (ask_keeps a w) exceed_keeps).by limit env next next' st less kept;
+          (counted_keeps (nat_lt st.held.awaits most_storage_awaits) held (ask_keeps a w) exceed_keeps).by limit env next next' st less kept;
     }
 
 -- and a call or a fetch within its limit.
@@ -193,7 +193,7 @@ ask_outside_keeps a =
     record {
       by = λ limit env next next' st less kept.
           let held = record st.held { calls = st.held.calls + 1 } in
-          (counted_keeps (nat_lt st.held.calls MOST_OUTSIDE_CALLS) held (ask_keeps a task.outside) exceed_keeps).by limit env next next' st less kept;
+          (counted_keeps (nat_lt st.held.calls most_outside_calls) held (ask_keeps a task.outside) exceed_keeps).by limit env next next' st less kept;
     }
 
 -- The names of a block are let go.

@@ -24,7 +24,7 @@ use Rattle.script_mean.specs.declared.ask.Ask.TheVariants as asked
 use Rattle.script_mean.specs.declared.call.StorageCall.{StorageCall}
 use Rattle.script_mean.specs.declared.call.HandleCall.{HandleCall}
 use Rattle.script_mean.specs.declared.call.HandleCall.TheVariants as handle
-use Rattle.script_mean.specs.declared.limits.TheConstants.{MOST_STORAGE_AWAITS}
+use Rattle.script_mean.specs.Limits.{most_storage_awaits}
 
 -- What a class gives to the parts of its methods: its helpers, by their names, and whether it has an alarm handler. A helper
 -- that is awaited closes the open batch when its body has returned.
@@ -159,7 +159,7 @@ committed ops v env next st = ask (asked.Written (length ops)) (task.completes (
 
 abbrev pub commit : List Op → Tree → Run
 commit [] v env next st = next (gave v) env st
-commit (op ∷ ops) v env next st = either (nat_lt st.held.awaits MOST_STORAGE_AWAITS) (committed (op ∷ ops) v) exceed env next st
+commit (op ∷ ops) v env next st = either (nat_lt st.held.awaits most_storage_awaits) (committed (op ∷ ops) v) exceed env next st
 
 abbrev pub on_transaction : Next → Next
 on_transaction next (gave v) env st = commit (writes_of st.held.transaction) undefined env next (without_transaction st)

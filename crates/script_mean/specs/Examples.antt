@@ -12,9 +12,10 @@ use Rattle.storage_map.specs.declared.op.Op.TheVariants as op
 use Rattle.storage_map.specs.declared.options.Options.{Options}
 use Rattle.storage_map.specs.declared.ask.StoreAsk.TheVariants.{Get}
 use Rattle.storage_map.specs.declared.answer.Reading.TheVariants.{One, Pairs, Count}
+use Rattle.script_mean.specs.Limits.{most_helpers}
 use Rattle.script_mean.specs.Builders.{Item, var, num, str, awaited, operate, chained, choice, array, object, path, dot, at, arguments, called, call, own, helper, storage, call_object, get, put, let_be, run, set, add, increment, give, throw, items, stmt, when, for_of, while, for_each, try_catch, transaction, own_block, starting_block, starting_get, of, async_method, sync_method, constructor, class_of}
 use Rattle.script_mean.specs.Frames.{Frame, to_walk, to_declare, to_pass, to_go_on, to_leave, to_catch, Suspended}
-use Rattle.script_mean.specs.Meaning.{First, started, body, calls_of, most_helpers, method_scope, finish}
+use Rattle.script_mean.specs.Meaning.{First, started, body, calls_of, method_scope, finish}
 use Rattle.script_mean.specs.Task as task
 use Rattle.script_mean.specs.Task.{Fields, Resume, Segment, untouched}
 use Rattle.script_mean.specs.declared.answer.Answer.{Answer}

@@ -29,7 +29,7 @@ use Rattle.script_mean.specs.Task.{Fields, Bound, Scope, Env, Held, untouched, R
 use Rattle.script_mean.specs.Texts as texts
 use Rattle.script_mean.specs.Texts.{WordCall}
 use Rattle.script_mean.specs.Turn.{State, budget, Next, Run, ends, give, throws, pass, nowhere, of, ◌>>=◌, ◌>>◌, either, steps, step, cut, cut_after, within, declare, bound}
-use Rattle.script_mean.specs.declared.limits.TheConstants.{MOST_STEPS, MOST_HELPERS}
+use Rattle.script_mean.specs.Limits.{most_helpers, most_steps}
 
 -- Whether a chain goes on to its next operand after this value.
 abbrev pub goes_on : Chain → Tree → Bool
@@ -473,10 +473,6 @@ abbrev pub calls_of : Class → ℕ → Calls
 calls_of class zero = record { helper = λ awaited name args. throws nested_too_deep; has_handler = has_alarm_handler class }
 calls_of class (suc n) = record { helper = λ awaited name args. helped (body (calls_of class n)) awaited (method_in class name) args; has_handler = has_alarm_handler class }
 
--- The most helper calls inside each other.
-unfoldable pub most_helpers : ℕ
-most_helpers = MOST_HELPERS
-
 -- A task is at its end: the open batch is closed. A constructor that throws ends the object's incarnation.
 abbrev pub finish : Bool → Next
 finish starts (gave v) env st = task.done (cut st).closed st.fields undefined ∷ []
@@ -491,7 +487,7 @@ pub record First : Type 0 where
   pub now : ℤ
 
 abbrev pub started : First → List Resume → State
-started first rs = record { left = MOST_STEPS; closed = []; pending = []; held = untouched; fields = first.fields; now = first.now; resumes = rs }
+started first rs = record { left = most_steps; closed = []; pending = []; held = untouched; fields = first.fields; now = first.now; resumes = rs }
 
 abbrev pub task_of : Class → Option Method → List Tree → First → List Resume → List Segment
 task_of class None args first rs = []

@@ -20,7 +20,7 @@ use Rattle.script_mean.specs.Places.{or_undefined}
 use Rattle.script_mean.specs.Task.{Completed, nothing, whether, how_many}
 use Rattle.script_mean.specs.declared.call.StorageCall.{StorageCall}
 use Rattle.script_mean.specs.declared.call.StorageCall.TheVariants as storage
-use Rattle.script_mean.specs.declared.limits.TheConstants.{MOST_KEYS}
+use Rattle.script_mean.specs.Limits.{most_keys}
 
 -- A value as operations and asks hold it.
 abbrev pub value_of : Tree → Value
@@ -55,7 +55,7 @@ abbrev pub is_long_value : Tree → Bool
 is_long_value v = nat_lt most_stored_bytes (size_of v)
 
 abbrev pub are_too_many : {A : Type 0} → List A → Bool
-are_too_many xs = nat_lt MOST_KEYS (length xs)
+are_too_many xs = nat_lt most_keys (length xs)
 
 -- The texts of a list of texts.
 abbrev pub with_text : Tree → Option (List (List ℕ)) → Option (List (List ℕ))

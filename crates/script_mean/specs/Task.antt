@@ -44,9 +44,10 @@ pub record Resume : Type 0 where
   pub now : ℤ
 
 -- A turn: the batches that it closed, in order, and how it ended. It asks; is done with a value; threw, which ends the
--- object's incarnation or not; or was stopped at a limit. The fields are those at its end.
+-- object's incarnation or not; or was stopped at a limit. The fields are those at its end. Where it asks, its block is open then or
+-- not.
 pub data Segment : Type 0 where
-  asked : (batches : List (List Op)) (fields : Fields) (ask : Ask) → Segment
+  asked : (batches : List (List Op)) (fields : Fields) (ask : Ask) (block : Bool) → Segment
   done : (batches : List (List Op)) (fields : Fields) (value : Tree) → Segment
   threw : (batches : List (List Op)) (fields : Fields) (value : Tree) (reset : Bool) → Segment
   exceeded : (batches : List (List Op)) → Segment

@@ -10,7 +10,7 @@ use Rattle.script_mean.specs.Errors.{batch_full}
 use Rattle.script_mean.specs.Task as task
 use Rattle.script_mean.specs.Task.{Fields, Bound, Scope, Env, Held, Resume, Segment, Wait}
 use Rattle.script_mean.specs.declared.ask.Ask.{Ask}
-use Rattle.script_mean.specs.declared.limits.TheConstants.{MOST_STEPS, MOST_STORAGE_AWAITS, MOST_OUTSIDE_CALLS}
+use Rattle.script_mean.specs.Limits.{most_outside_calls, most_steps, most_storage_awaits}
 
 infixl 40 ◌>>=◌
 infixl 40 ◌>>◌
@@ -27,7 +27,7 @@ pub record State : Type 0 where
 
 -- No more steps than these can be taken.
 abbrev pub budget : State → ℕ
-budget st = st.left + MOST_STEPS * length st.resumes
+budget st = st.left + most_steps * length st.resumes
 
 -- What comes after a part: from how it ended, the variables and the state, the turns from here on.
 abbrev pub Next : Type 0
@@ -119,7 +119,7 @@ join ops env next st = join_where (fits (st.pending ++ ops)) ops env next st
 
 -- A turn begins with an answer.
 abbrev pub begun : Held → Resume → List Resume → State
-begun held r rs = record { left = MOST_STEPS; closed = []; pending = []; held = held; fields = r.fields; now = r.now; resumes = rs }
+begun held r rs = record { left = most_steps; closed = []; pending = []; held = held; fields = r.fields; now = r.now; resumes = rs }
 
 -- The turns of the answers that came.
 abbrev pub resumed : Wait → Held → List Resume → Env → Next → List Segment
@@ -128,15 +128,15 @@ resumed w held (r ∷ rs) env next = next (answered w r.answer) env (begun held 
 
 -- The open batch is closed, the turn ends with an ask, and the next one begins with its answer.
 abbrev pub ask : Ask → Wait → Run
-ask a w env next st = task.asked (cut st).closed st.fields a ∷ resumed w st.held st.resumes env next
+ask a w env next st = task.asked (cut st).closed st.fields a st.held.block ∷ resumed w st.held st.resumes env next
 
 -- The same as an await of the storage, of which a task may make no more than its limit.
 abbrev pub ask_storage : Ask → Wait → Run
-ask_storage a w env next st = either (nat_lt st.held.awaits MOST_STORAGE_AWAITS) (ask a w) exceed env next (record st { held = record st.held { awaits = st.held.awaits + 1 } })
+ask_storage a w env next st = either (nat_lt st.held.awaits most_storage_awaits) (ask a w) exceed env next (record st { held = record st.held { awaits = st.held.awaits + 1 } })
 
 -- The same as a call or a fetch, of which a task may make no more than its limit, refused ones counted.
 abbrev pub ask_outside : Ask → Run
-ask_outside a env next st = either (nat_lt st.held.calls MOST_OUTSIDE_CALLS) (ask a task.outside) exceed env next (record st { held = record st.held { calls = st.held.calls + 1 } })
+ask_outside a env next st = either (nat_lt st.held.calls most_outside_calls) (ask a task.outside) exceed env next (record st { held = record st.held { calls = st.held.calls + 1 } })
 
 -- The names in sight behind the innermost block.
 abbrev pub outer : Env → Env

@@ -3,9 +3,10 @@ use Rattle.std.proofs.Common.{◌≡◌, ◌≢◌, ℕ, zero, suc, ◌-◌, ◌
 use Rattle.std.specs.Int.{w64}
 use Rattle.std.specs.Str.{all_ascii_digits}
 use Rattle.std.specs.Str.Parse.{digits_value, starts_with_minus, ParsesSigned}
-use Rattle.std.proofs.lemmas.Bool.{cases_Bool, cases_lt, eqb-true, eqb-false, lt-leb, and_parts}
+use Rattle.std.proofs.lemmas.Bool.{cases_Bool, cases_lt, eqb-true, eqb-false, le-ltb, lt-leb, and_parts}
 use Rattle.std.proofs.lemmas.Bool.Decides.{nat_tests}
 use Rattle.std.proofs.lemmas.Str.Parse.{IsNumeralModel, numerals_by_value, tells_all_ascii_digits, parse_signed_minus, parse_signed_plain}
+use Rattle.do_value.specs.Limits.{most_number}
 use Rattle.do_value.specs.Reading.{is_safe}
 use Rattle.script_ops.specs.Errors.{no_number}
 use Rattle.script_ops.specs.Numbers.{in_range}
@@ -33,11 +34,11 @@ digits_err sign most ds past refuted = elim (cases_Bool (not (eqb (length ds) 0)
 ]
 
 past_pos : (n : ℕ) → 2 ^ 63 - 1 < n → is_safe (pos n) ≡ false
-past_pos n lt = lt-leb n 9007199254740991 (omega arith)
+past_pos n lt = lt-leb n most_number (omega arith)
 
 past_neg : (n : ℕ) → 2 ^ 63 < n → is_safe (neg_ℤ (pos n)) ≡ false
 past_neg zero lt = absurd (omega arith)
-past_neg (suc n) lt = lt-leb n 9007199254740990 (omega arith)
+past_neg (suc n) lt = le-ltb n most_number (omega arith)
 
 -- what `parse` reads of a text that doesn't begin with a plus
 pub reads : {E : Type 0} (bs : List ℕ) (r : Result ℤ E) → ParsesSigned w64 10 bs r → get_or bs 0 0 ≢ 43

@@ -2,7 +2,8 @@
 use Rattle.std.specs.Prelude.{ℕ, pos, Bool, true, false, nat_eq, List, [], ◌∷◌, map, length, slice_get, unwrap_or, codes, Option, Some, None, Result, Ok, Err}
 use Rattle.std.specs.List.{starts_with, ends_with, list_any, position_from}
 use Rattle.do_value.specs.declared.operator.Builtin.{Builtin}
-use Rattle.do_value.specs.declared.operator.Builtin.TheVariants.{Length, Includes, IndexOf, Slice, StartsWith, EndsWith, Split, Keys, IsArray, ToText, ToNumber, MakeError}
+use Rattle.do_value.specs.declared.operator.Builtin.TheVariants.{Length, Includes, IndexOf, Slice, StartsWith, EndsWith}
+use Rattle.do_value.specs.declared.operator.Builtin.TheVariants.{Split, Keys, IsArray, ToText, ToNumber, MakeError}
 use Rattle.do_value.specs.Tree.{Tree, undefined, null, boolean, number, text, list, rec, items}
 use Rattle.do_value.specs.Keyed.{value_at}
 use Rattle.script_ops.specs.Errors.{error_record, wrong_type, no_property, no_separator, within_limits}

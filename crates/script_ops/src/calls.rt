@@ -4,16 +4,18 @@ ghost use Rattle.std.specs.List.{starts_with, ends_with};
 ghost use Rattle.do_value.specs.Limits.{most_bytes};
 ghost use Rattle.do_value.specs.Seen.{tree_of, trees_in};
 ghost use Rattle.script_ops.specs.Answers.{Answers, Gives};
-ghost use Rattle.script_ops.specs.Calls.{argument, builtin, length_of, includes, index_of, slice, split, keys, is_array, to_number, make_error, on_texts, on_text};
+ghost use Rattle.script_ops.specs.Calls.{argument, builtin, length_of, includes, index_of, slice, split};
+ghost use Rattle.script_ops.specs.Calls.{keys, is_array, to_number, make_error, on_texts, on_text};
 ghost use Rattle.script_ops.specs.Errors.{error_record, within_limits};
 ghost use Rattle.script_ops.specs.Binary.{is_text};
 ghost use Rattle.script_ops.specs.Texts.{printed, unit_count};
 ghost use Rattle.do_value.specs.Tree.{text as text_tree};
 
 use crate::errors::{error_value, finish, text_value, word};
-use crate::fault::{Cause, OpFault, Stop};
+use crate::fault::{OpFault, Stop};
 use crate::lists::{count_items, find_item, has_item, length_field, list_keys, slice_list};
 use crate::numbers::counted;
+use crate::refusal::Refusal;
 use crate::texts::{begins, contains, count_units, ends, parse, print, split as split_text};
 use do_value::{Builtin, Text, Value};
 use std::alloc::Global;
@@ -66,7 +68,7 @@ fn length(of: &Value) -> Result<Value, Stop>
     ensures { Gives (length_of (tree_of of.now)) result }
 {
     match of {
-        Value::Undefined | Value::Null => Err(Stop::Throws(Cause::NoProperty)),
+        Value::Undefined | Value::Null => Err(Stop::Throws(Refusal::NoProperty)),
         Value::Bool(_) | Value::Num(_) => Ok(Value::Undefined),
         Value::Text(text) => text_length(text),
         Value::List(list) => count_items(list),
@@ -107,7 +109,7 @@ fn include(of: &Value, with: &Value) -> Result<Value, Stop>
         (Value::Text(text), Value::Text(part)) => {
             Ok(Value::Bool(contains(text.as_str(), part.as_str())))
         }
-        _ => Err(Stop::Throws(Cause::WrongType)),
+        _ => Err(Stop::Throws(Refusal::WrongType)),
     }
 }
 
@@ -117,7 +119,7 @@ fn index(of: &Value, with: &Value) -> Result<Value, Stop>
 {
     match of {
         Value::List(list) => find_item(list, with),
-        _ => Err(Stop::Throws(Cause::WrongType)),
+        _ => Err(Stop::Throws(Refusal::WrongType)),
     }
 }
 
@@ -127,7 +129,7 @@ fn slice(alloc: Global, of: &Value, start: &Value, end: &Value) -> Result<Value,
 {
     match of {
         Value::List(list) => slice_list(alloc, list, start, end),
-        _ => Err(Stop::Throws(Cause::WrongType)),
+        _ => Err(Stop::Throws(Refusal::WrongType)),
     }
 }
 
@@ -139,7 +141,7 @@ fn test_start(of: &Value, with: &Value) -> Result<Value, Stop>
         (Value::Text(text), Value::Text(part)) => {
             Ok(Value::Bool(begins(text.as_str(), part.as_str())))
         }
-        _ => Err(Stop::Throws(Cause::WrongType)),
+        _ => Err(Stop::Throws(Refusal::WrongType)),
     }
 }
 
@@ -151,7 +153,7 @@ fn test_end(of: &Value, with: &Value) -> Result<Value, Stop>
         (Value::Text(text), Value::Text(part)) => {
             Ok(Value::Bool(ends(text.as_str(), part.as_str())))
         }
-        _ => Err(Stop::Throws(Cause::WrongType)),
+        _ => Err(Stop::Throws(Refusal::WrongType)),
     }
 }
 
@@ -161,7 +163,7 @@ fn split(alloc: Global, of: &Value, with: &Value) -> Result<Value, Stop>
 {
     match (of, with) {
         (Value::Text(text), Value::Text(separator)) => split_by(alloc, text, separator),
-        _ => Err(Stop::Throws(Cause::WrongType)),
+        _ => Err(Stop::Throws(Refusal::WrongType)),
     }
 }
 
@@ -170,7 +172,7 @@ fn split_by(alloc: Global, text: &Text, separator: &Text) -> Result<Value, Stop>
     ensures { Gives (split (text_tree text.now) (text_tree separator.now)) result }
 {
     if separator.is_empty() {
-        return Err(Stop::Throws(Cause::NoSeparator));
+        return Err(Stop::Throws(Refusal::NoSeparator));
     }
     split_text(alloc, limited(text), separator.as_str())
 }
@@ -181,7 +183,7 @@ fn keys(alloc: Global, of: &Value) -> Result<Value, Stop>
 {
     match of {
         Value::Rec(record) => list_keys(alloc, record),
-        _ => Err(Stop::Throws(Cause::WrongType)),
+        _ => Err(Stop::Throws(Refusal::WrongType)),
     }
 }
 
@@ -217,7 +219,7 @@ fn to_number(of: &Value) -> Result<Value, Stop>
 {
     match of {
         Value::Text(text) => parse(text.as_str()),
-        _ => Err(Stop::Throws(Cause::WrongType)),
+        _ => Err(Stop::Throws(Refusal::WrongType)),
     }
 }
 

@@ -4,9 +4,10 @@ ghost use Rattle.do_value.specs.Limits.{most_bytes};
 ghost use Rattle.do_value.specs.Tree.{Tree, text, items};
 ghost use Rattle.do_value.specs.Seen.{tree_of, trees_in, pairs_in};
 ghost use Rattle.script_ops.specs.Errors.{error_record, within_limits};
-ghost use Rattle.script_ops.specs.Answers.{Answers, Gives, error_of};
+ghost use Rattle.script_ops.specs.Answers.{Answers, Gives, IsFaultOf, error_of};
 
-use crate::fault::{Cause, OpFault, Stop};
+use crate::fault::{OpFault, Stop};
+use crate::refusal::{Refusal, parts_of};
 use do_value::{Mem, NoMemory, Text, Value};
 use std::alloc::Global;
 
@@ -16,17 +17,37 @@ pub(crate) fn finish(alloc: Global, answer: Result<Value, Stop>) -> Result<Value
 {
     match answer {
         Ok(value) => Ok(value),
-        Err(Stop::Throws(cause)) => Err(thrown(alloc, cause)),
-        Err(Stop::NoRoom) => Err(OpFault::NoMemory),
+        Err(stop) => Err(fault_of(alloc, stop)),
     }
 }
 
-// The error of the cause, thrown.
-fn thrown(alloc: Global, cause: Cause) -> OpFault
-    ensures { Answers (Err (error_of cause)) (Err result) }
+/// The fault that a stop comes to: its error, built and thrown, or want of memory, where that may come of building it too.
+pub fn fault_of(alloc: Global, stop: Stop) -> OpFault
+    ensures { IsFaultOf stop result }
 {
-    let (name, message) = parts_of(cause);
+    match stop {
+        Stop::Throws(refusal) => thrown(alloc, refusal),
+        Stop::NoRoom => OpFault::NoMemory,
+    }
+}
+
+/// The error of the refusal, thrown. It is `NoMemory` only for want of memory.
+pub fn thrown(alloc: Global, refusal: Refusal) -> OpFault
+    ensures { IsFaultOf (Stop.Throws refusal) result }
+{
+    let (name, message) = parts_of(refusal);
     throw(alloc, name, message)
+}
+
+/// The error of the refusal: a record of its name and its message. It takes memory.
+pub fn build_error(alloc: Global, refusal: Refusal) -> Mem<Value>
+    ensures { IfOk result (λ value. tree_of value ≡ error_of refusal) }
+{
+    let (name, message) = parts_of(refusal);
+    match named_error(alloc, name, message) {
+        Ok(error) => Ok(error),
+        Err(_) => Err(NoMemory),
+    }
 }
 
 /// The error with this name and message, thrown: a record of both. It is `NoMemory` only for want of memory.
@@ -50,22 +71,6 @@ fn named_error(alloc: Global, name: &str, message: &str) -> Result<Value, Stop>
     let name = word(alloc, name)?;
     let message = word(alloc, message)?;
     error_value(alloc, name, message)
-}
-
-// The name and the message of the error of a cause.
-fn parts_of(cause: Cause) -> (&'static str, &'static str)
-    ensures parts { error_of cause ≡ error_record result.0.now result.1.now }
-    ensures short { (length result.0.now ≤ 16) × (length result.1.now ≤ 16) }
-{
-    match cause {
-        Cause::WrongType => ("TypeError", "type"),
-        Cause::NoProperty => ("TypeError", "property"),
-        Cause::NoNumber => ("RangeError", "number"),
-        Cause::NotWhole => ("RangeError", "divide"),
-        Cause::NoSeparator => ("RangeError", "separator"),
-        Cause::TooDeep => ("RangeError", "depth"),
-        Cause::TooLarge => ("RangeError", "size"),
-    }
 }
 
 /// The error with this name and message.

@@ -1,4 +1,5 @@
-//! Why an operator gives no value.
+//! Why there is no value.
+use crate::refusal::Refusal;
 use do_value::{BuildFault, NoMemory, Value};
 use std::alloc::AllocError;
 
@@ -11,32 +12,24 @@ pub enum OpFault {
     NoMemory,
 }
 
-/// The errors that operators throw.
-#[derive(Debug, Clone, Copy, Drop)]
-pub(crate) enum Cause {
-    /// A value is of a kind that isn't taken.
-    WrongType,
-    /// `null` and `undefined` have no properties.
-    NoProperty,
-    /// A number is out of range, or a text is no number.
-    NoNumber,
-    /// A quotient isn't whole.
-    NotWhole,
-    /// A text is split by the empty text.
-    NoSeparator,
-    /// A value has too many levels.
-    TooDeep,
-    /// A value has too many bytes.
-    TooLarge,
-}
-
 /// Why there is no value, before the error is built that is thrown.
 #[derive(Debug, Clone, Copy, Drop)]
-pub(crate) enum Stop {
+pub enum Stop {
     /// This error is to be thrown.
-    Throws(Cause),
+    Throws(Refusal),
     /// Memory was wanted and refused.
     NoRoom,
+}
+
+impl From<Refusal> for Stop {
+    ghost use Rattle.std.specs.Prelude.{◌≡◌};
+    ghost use Rattle.script_ops.specs.declared.fault.Stop.TheVariants.{Throws};
+
+    ghost from_gives = { λ refusal stop. stop ≡ Throws refusal };
+
+    fn from(refusal: Refusal) -> Stop {
+        Stop::Throws(refusal)
+    }
 }
 
 /// A value that isn't built is too deep, too large, or has no memory.
@@ -48,8 +41,8 @@ impl From<BuildFault> for Stop {
 
     fn from(fault: BuildFault) -> Stop {
         match fault {
-            BuildFault::TooDeep => Stop::Throws(Cause::TooDeep),
-            BuildFault::TooLarge { size: _, limit: _ } => Stop::Throws(Cause::TooLarge),
+            BuildFault::TooDeep => Stop::Throws(Refusal::TooDeep),
+            BuildFault::TooLarge { size: _, limit: _ } => Stop::Throws(Refusal::TooLarge),
             BuildFault::NoMemory => Stop::NoRoom,
         }
     }

@@ -10,11 +10,13 @@ mod lists;
 mod made;
 mod numbers;
 mod operators;
+mod refusal;
 mod texts;
 
 pub use calls::{builtin, unit_count};
 pub use compare::truth;
-pub use errors::throw;
-pub use fault::OpFault;
+pub use errors::{build_error, fault_of, throw, thrown};
+pub use fault::{OpFault, Stop};
 pub use made::{list_of, record_of, wrong_type};
 pub use operators::{binary, unary};
+pub use refusal::{CallFailure, Refusal};

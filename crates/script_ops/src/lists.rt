@@ -11,8 +11,9 @@ ghost use Rattle.script_ops.specs.Same.{same};
 
 use crate::compare::equals;
 use crate::errors::list_value;
-use crate::fault::{Cause, Stop};
+use crate::fault::Stop;
 use crate::numbers::{counted, ranged};
+use crate::refusal::Refusal;
 use crate::texts::push_text;
 use do_value::{Fields, Items, Mem, NoMemory, Num, Value};
 use std::alloc::Global;
@@ -77,7 +78,7 @@ pub(crate) fn slice_list(
     let count = values.len();
     match (bound_of(count, 0, start), bound_of(count, count, end)) {
         (Some(from), Some(to)) => copy_part(alloc, values, from, to),
-        _ => Err(Stop::Throws(Cause::WrongType)),
+        _ => Err(Stop::Throws(Refusal::WrongType)),
     }
 }
 

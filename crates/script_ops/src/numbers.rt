@@ -5,7 +5,8 @@ ghost use Rattle.do_value.specs.Tree.{number};
 ghost use Rattle.script_ops.specs.Answers.{Gives};
 ghost use Rattle.script_ops.specs.Numbers.{in_range, difference, product, quotient, remainder};
 
-use crate::fault::{Cause, Stop};
+use crate::fault::Stop;
+use crate::refusal::Refusal;
 use do_value::{Num, RangeNum, Value};
 
 /// The number where it is in the range.
@@ -14,7 +15,7 @@ pub(crate) fn ranged(n: i64) -> Result<Value, Stop>
 {
     match Num::new(n) {
         Ok(n) => Ok(Value::Num(n)),
-        Err(RangeNum) => Err(Stop::Throws(Cause::NoNumber)),
+        Err(RangeNum) => Err(Stop::Throws(Refusal::NoNumber)),
     }
 }
 
@@ -46,7 +47,7 @@ pub(crate) fn multiply(a: Num, b: Num) -> Result<Value, Stop>
 {
     match a.get().checked_mul(b.get()) {
         Some(n) => ranged(n),
-        None => Err(Stop::Throws(Cause::NoNumber)),
+        None => Err(Stop::Throws(Refusal::NoNumber)),
     }
 }
 
@@ -57,7 +58,7 @@ pub(crate) fn divide(a: Num, b: Num) -> Result<Value, Stop>
     let a = a.get();
     let b = b.get();
     if b == 0 || a % b != 0 {
-        return Err(Stop::Throws(Cause::NotWhole));
+        return Err(Stop::Throws(Refusal::NotWhole));
     }
     ranged(a / b)
 }
@@ -68,7 +69,7 @@ pub(crate) fn remain(a: Num, b: Num) -> Result<Value, Stop>
 {
     let b = b.get();
     if b == 0 {
-        return Err(Stop::Throws(Cause::NotWhole));
+        return Err(Stop::Throws(Refusal::NotWhole));
     }
     ranged(a.get() % b)
 }

@@ -9,8 +9,9 @@ ghost use Rattle.script_ops.specs.Unary.{unary};
 
 use crate::compare::{equals, truth};
 use crate::errors::finish;
-use crate::fault::{Cause, OpFault, Stop};
+use crate::fault::{OpFault, Stop};
 use crate::numbers::{add, divide, multiply, negative, remain, subtract};
+use crate::refusal::Refusal;
 use crate::texts::join;
 use do_value::{BinOp, Num, UnOp, Value};
 use std::alloc::Global;
@@ -36,7 +37,7 @@ fn before_value(op: UnOp, a: &Value) -> Result<Value, Stop>
 {
     match (op, a) {
         (UnOp::Neg, Value::Num(n)) => negative(*n),
-        (UnOp::Neg, _) => Err(Stop::Throws(Cause::WrongType)),
+        (UnOp::Neg, _) => Err(Stop::Throws(Refusal::WrongType)),
         (UnOp::Not, _) => Ok(Value::Bool(!truth(a))),
     }
 }
@@ -91,7 +92,7 @@ fn with_others(alloc: Global, op: BinOp, a: &Value, b: &Value) -> Result<Value, 
         BinOp::Same => Ok(Value::Bool(equals(a, b))),
         BinOp::Differs => Ok(Value::Bool(!equals(a, b))),
         BinOp::Add if is_text(a) || is_text(b) => join(alloc, a, b),
-        _ => Err(Stop::Throws(Cause::WrongType)),
+        _ => Err(Stop::Throws(Refusal::WrongType)),
     }
 }
 

@@ -10,8 +10,9 @@ ghost use Rattle.script_ops.specs.Errors.{within_limits};
 ghost use Rattle.script_ops.specs.Texts.{printed, units, unit_count, occurs, pieces, number_in};
 
 use crate::errors::{list_value, text_value, word};
-use crate::fault::{Cause, Stop};
+use crate::fault::Stop;
 use crate::numbers::ranged;
+use crate::refusal::Refusal;
 use do_value::{MOST_BYTES, Mem, NoMemory, Text, Value};
 use std::alloc::Global;
 
@@ -27,7 +28,7 @@ pub(crate) fn print(alloc: Global, value: &Value) -> Result<String, Stop>
         Value::Bool(true) => Ok(String::from_str(alloc, "true")?),
         Value::Num(n) => Ok(n.get().to_string(alloc)?),
         Value::Text(text) => Ok(String::from_str(alloc, text.as_str())?),
-        Value::List(_) | Value::Rec(_) => Err(Stop::Throws(Cause::WrongType)),
+        Value::List(_) | Value::Rec(_) => Err(Stop::Throws(Refusal::WrongType)),
     }
 }
 
@@ -101,7 +102,7 @@ pub(crate) fn split(alloc: Global, text: &str, separator: &str) -> Result<Value,
         push_text(&mut parts, word(alloc, piece)?)?;
         size += 5 + piece.len() as u64;
         if size > MOST_BYTES {
-            return Err(Stop::Throws(Cause::TooLarge));
+            return Err(Stop::Throws(Refusal::TooLarge));
         }
         rest = after;
     }
@@ -124,10 +125,10 @@ pub(crate) fn parse(text: &str) -> Result<Value, Stop>
     ensures { Gives (number_in text.now) result }
 {
     if text.starts_with('+') {
-        return Err(Stop::Throws(Cause::NoNumber));
+        return Err(Stop::Throws(Refusal::NoNumber));
     }
     match text.parse::<i64>() {
         Ok(n) => ranged(n),
-        Err(_) => Err(Stop::Throws(Cause::NoNumber)),
+        Err(_) => Err(Stop::Throws(Refusal::NoNumber)),
     }
 }

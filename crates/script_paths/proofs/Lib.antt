@@ -1,5 +1,4 @@
 mod Args
-mod Charges
 pub mod Counted
 mod Found
 mod Handed

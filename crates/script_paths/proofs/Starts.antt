@@ -36,7 +36,6 @@ use Rattle.script_steps.specs.declared.focus.Focus.TheVariants as focus
 use Rattle.script_steps.specs.declared.focus.Move.TheVariants as move
 use Rattle.script_places.specs.Steps.{steps_in}
 use Rattle.script_places.specs.declared.step.Step.{Step}
-use Rattle.script_paths.proofs.Charges.{charged_by}
 use Rattle.script_paths.specs.Onward.{is_path, point_path, value_path, push_path, path_value, named_path}
 
 -- A path from a field of the object itself takes one step at least.
@@ -157,15 +156,6 @@ module _ (awaited : Bool) (calls : Calls) where
   name_begins name ls o env next st plain is =
       ap (λ b. either b (push_path calls name ls) (point_path awaited calls (begun_by name (bound name env)) ls) env next st) plain
       ∙ ap (λ b. point_path awaited calls (begun_by name b) ls env next st) is
-
-  -- A variable's value, with a move that does the rest.
-  pub value_begins : (v : Tree) (nd : Arc Expr Global) (ls : Links) (n : ℕ) (part : Run) (env : Env) (next : Next) (st : State)
-      → links_of (expr_of nd.value) ≡ ls → n ≡ 1 + parts ls
-      → ((after : Next) (now : State) → links awaited calls (holds v) (links_in (expr_of nd.value) 0) env after now ≡ part env after now)
-      → point_path awaited calls (holds v) ls env next st ≡ charged n part env next st
-  value_begins v nd ls n part env next st same many goes =
-      ap (λ (r : Run). r env next st) (from_point (holds v) nd ls n same many)
-      ∙ charged_by n (links awaited calls (holds v) (links_in (expr_of nd.value) 0)) part env next (goes next) st
 
 -- What a path leaves where it begins, but for what its steps pay.
 pub point_less : (p : Point) (nd : Arc Expr Global) (ls : Links) (n : ℕ) (awaited : Bool)

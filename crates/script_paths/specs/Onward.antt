@@ -6,13 +6,20 @@ use Rattle.do_tree.specs.Tree as tree
 use Rattle.do_tree.specs.Tree.{Named, Expr, Links, Args, Items}
 use Rattle.script_mean.specs.Calls.{Calls, reach, transaction, block}
 use Rattle.script_mean.specs.Frames.{to_index, to_walk}
-use Rattle.script_mean.specs.Meaning.{value, with_point, arguments, links, identified, object_links, to_push, body, storage_named, handle_named, value_named, word_named, owner_named, handle_scope, first, blocked, stored}
-use Rattle.script_mean.specs.Paths.{Point, itself, holds, parts_from, parts_of_push, parts_of_value, context, storage, environment, of_class, parts, parts_behind_call, parts_behind_two_calls, parts_of_own, pushes}
+use Rattle.script_mean.specs.Meaning.{value, with_point, arguments, links, identified, object_links, to_push, body, storage_named}
+use Rattle.script_mean.specs.Meaning.{handle_named, value_named, word_named, owner_named, handle_scope, first, blocked, stored}
+use Rattle.script_mean.specs.Paths.{Point, itself, holds, parts_from, parts_of_push, parts_of_value, context, storage}
+use Rattle.script_mean.specs.Paths.{environment, of_class, parts, parts_behind_call, parts_behind_two_calls, parts_of_own, pushes}
 use Rattle.script_mean.specs.Places.{variable, own, own_value, property}
 use Rattle.script_mean.specs.Turn.{Run, give, nowhere, of, either, within, steps, ◌>>=◌, ◌>>◌}
-use Rattle.script_steps.specs.Parts.{args_of, args_from, args_in}
+use Rattle.script_steps.specs.Parts.{args_of, args_from, args_in, links_in}
 use Rattle.script_steps.specs.Seen.{framed}
-use Rattle.script_paths.specs.Ahead.{Front, ended, a_field, a_method, an_index, a_call, first_value}
+use Rattle.script_paths.specs.Ahead.{Front, ended, a_field, a_method, an_index, a_call, front_of, first_value}
+use Rattle.script_paths.specs.declared.link.Ahead.{Ahead}
+
+-- What is made of what is next at the place of a path, of the links behind it, and of those behind a call with it.
+abbrev pub goes_on : {A : Type 0} → (Front → Links → Links → A) → Ahead → Expr → ℕ → A
+goes_on make ahead e place = make (front_of ahead) (links_in e (place + 1)) (links_in e (place + 1 + 1))
 
 -- A call, and the path from its value on.
 abbrev pub calling : Bool → Calls → Links → Run → Run

@@ -10,6 +10,10 @@ use Rattle.script_steps.specs.declared.focus.Move.{Move}
 abbrev pub UnfoldsIn : Env → (Calls → Run) → Move → Type 0
 UnfoldsIn env part m = (calls : Calls) (next : Next) (st : State) → part calls env next st ≡ move_run calls m env next st
 
+-- With these fields the part is the move, whatever the variables are.
+abbrev pub UnfoldsOn : Fields → (Calls → Run) → Move → Type 0
+UnfoldsOn fields part m = (calls : Calls) (env : Env) (next : Next) (st : State) → st.fields ≡ fields → part calls env next st ≡ move_run calls m env next st
+
 -- With these variables and these fields the part is the move.
 abbrev pub UnfoldsWith : Env → Fields → (Calls → Run) → Move → Type 0
 UnfoldsWith env fields part m = (calls : Calls) (next : Next) (st : State) → st.fields ≡ fields → part calls env next st ≡ move_run calls m env next st

@@ -2,10 +2,10 @@
 ghost use Rattle.std.specs.Prelude.{◌≡◌, List, ℕ, Some, false, IfOk};
 ghost use Rattle.do_tree.specs.Nodes.{links_in as list_in};
 ghost use Rattle.do_tree.specs.Seen.{expr_of};
-ghost use Rattle.do_value.specs.Seen.{tree_of};
 ghost use Rattle.script_mean.specs.Calls.{Calls};
 ghost use Rattle.script_mean.specs.Meaning.{value};
-ghost use Rattle.script_mean.specs.Paths.{begun_by, holds};
+ghost use Rattle.script_mean.specs.Paths.{begun_by};
+ghost use Rattle.script_mean.specs.Turn.{bound};
 ghost use Rattle.script_paths.specs.Onward.{is_path, named_path, path_value, point_path, push_path, value_path};
 ghost use Rattle.script_paths.specs.Reading.{UnfoldsIn};
 ghost use Rattle.script_steps.specs.Parts.{IsBare, links_of};
@@ -14,10 +14,9 @@ ghost use Rattle.script_steps.specs.Seen.{move_run};
 ghost use Rattle.script_steps.specs.Weight.{LeavesLess};
 ghost use Rattle.script_vars.specs.Seen.{bound_of, env_of};
 
-use crate::counts::{parts, parts_from, parts_of_push, parts_of_value, pushes};
-use crate::lent::{charging, from_lent};
+use crate::counts::{parts_from, parts_of_push, parts_of_value, pushes};
 use do_tree::{Expr, Link};
-use do_value::{Mem, Text, Value};
+use do_value::{Mem, Text};
 use script_steps::{Focus, Frame, Move, PathFrame, Point, Root, again, bare, begin_value};
 use script_vars::{Bound, Vars};
 use std::alloc::Global;
@@ -88,8 +87,7 @@ fn begin_value_path(awaited: bool, node: &Arc<Expr>, base: &Arc<Expr>, links: &[
     Ok(Move::Inside(cost, frame, Focus::Value(false, base)))
 }
 
-/// How a path begins that a name begins: with a push to a place, or with what the name stands for. One that isn't in sight is
-/// a word of the language.
+/// How a path begins that a name begins: with a push to a place, or with what the name stands for.
 fn begin_named(
     alloc: Global,
     awaited: bool,
@@ -105,9 +103,29 @@ fn begin_named(
     if pushes(links) {
         return begin_push(alloc, node, name, links);
     }
+    let point = point_named(name, vars)?;
+    begin_at(awaited, node, point, links)
+}
+
+/// What a path begins with that this name begins. A name that isn't in sight is a word of the language.
+fn point_named(name: &Text, vars: &Vars) -> Mem<Point>
+    ensures { IfOk result (λ point. begun_by name.now (bound name.now (env_of vars.now)) ≡ point_of point) }
+{
     match vars.get(name.as_str()) {
-        Some(bound) => begin_bound(alloc, awaited, node, bound, links, vars),
-        None => begin_at(awaited, node, Point::Word(name.copy()?), links),
+        Some(bound) => point_standing(bound),
+        None => Ok(Point::Word(name.copy()?)),
+    }
+}
+
+/// What a path begins with whose name stands for this. A value is shared.
+fn point_standing(bound: &Bound) -> Mem<Point>
+    ensures { IfOk result (λ point. (name : List ℕ) → begun_by name (Some (bound_of bound.now)) ≡ point_of point) }
+{
+    match bound {
+        Bound::Value(value) => Ok(Point::Holds(value.copy()?)),
+        Bound::Handle => Ok(Point::Handle),
+        Bound::Context => Ok(Point::Context),
+        Bound::Environment => Ok(Point::Environment),
     }
 }
 
@@ -122,47 +140,6 @@ fn begin_push(alloc: Global, node: &Arc<Expr>, name: &Text, links: &[Link]) -> M
     let cost = parts_of_push(links);
     let focus = Focus::Push(Root::Variable(name), Vec::new(alloc), node, 0);
     Ok(Move::Then(cost, focus))
-}
-
-/// How a path begins with what its name stands for.
-fn begin_bound(
-    alloc: Global,
-    awaited: bool,
-    node: &Arc<Expr>,
-    bound: &Bound,
-    links: &[Link],
-    vars: &Vars,
-) -> Mem<Move>
-    requires { links_of (expr_of node.now.value) ≡ list_in links.now }
-    ensures same { IfOk result (λ m. (name : List ℕ)
-        → UnfoldsIn (env_of vars.now) (λ calls. point_path awaited calls (begun_by name (Some (bound_of bound.now))) (list_in links.now)) m) }
-    ensures less { IfOk result (LeavesLess 2) }
-{
-    match bound {
-        Bound::Value(whole) => begin_lent(alloc, awaited, node, whole, links, vars),
-        Bound::Handle => begin_at(awaited, node, Point::Handle, links),
-        Bound::Context => begin_at(awaited, node, Point::Context, links),
-        Bound::Environment => begin_at(awaited, node, Point::Environment, links),
-    }
-}
-
-/// How a path begins with a variable's value, which stays where it is.
-fn begin_lent(
-    alloc: Global,
-    awaited: bool,
-    node: &Arc<Expr>,
-    whole: &Value,
-    links: &[Link],
-    vars: &Vars,
-) -> Mem<Move>
-    requires { links_of (expr_of node.now.value) ≡ list_in links.now }
-    ensures same { IfOk result (UnfoldsIn (env_of vars.now) (λ calls. point_path awaited calls (holds (tree_of whole.now)) (list_in links.now))) }
-    ensures less { IfOk result (LeavesLess 2) }
-{
-    let cost = 1 + parts(links);
-    let node = again(node)?;
-    let part = from_lent(alloc, awaited, whole, node, 0, vars)?;
-    Ok(charging(cost, part))
 }
 
 /// How a path begins from this point on.

@@ -6,8 +6,8 @@ ghost use Rattle.script_mean.specs.Calls.{Calls};
 ghost use Rattle.script_mean.specs.Frames.{called};
 ghost use Rattle.script_mean.specs.Meaning.{first};
 ghost use Rattle.script_mean.specs.Paths.{parts_behind_call};
-ghost use Rattle.script_paths.specs.Ahead.{front_of, links_seen};
-ghost use Rattle.script_paths.specs.Onward.{called_parts_on, object_on};
+ghost use Rattle.script_paths.specs.Ahead.{links_seen};
+ghost use Rattle.script_paths.specs.Onward.{called_parts_on, goes_on, object_on};
 ghost use Rattle.script_steps.specs.Parts.{links_in};
 ghost use Rattle.script_steps.specs.Paths.{callee_of};
 ghost use Rattle.script_steps.specs.Seen.{move_run};
@@ -84,8 +84,8 @@ fn object_goes_on(
 ) -> Mem<Move>
     requires { place + links_seen ahead < 2 ^ 64 }
     ensures same { IfOk result (λ m. (calls : Calls)
-        → object_on awaited calls class (tree_of name) (front_of ahead) (links_in (expr_of node.value) (place + 1)) (links_in (expr_of node.value) (place + 1 + 1)) ≡ move_run calls m) }
-    ensures less { IfOk result (LeavesLess (20 + 10 * called_parts_on (front_of ahead) (links_in (expr_of node.value) (place + 1)) (links_in (expr_of node.value) (place + 1 + 1)))) }
+        → goes_on (object_on awaited calls class (tree_of name)) ahead (expr_of node.value) place ≡ move_run calls m) }
+    ensures less { IfOk result (LeavesLess (20 + 10 * goes_on called_parts_on ahead (expr_of node.value) place)) }
 {
     match ahead {
         Ahead::Method(method) => {

@@ -7,8 +7,8 @@ ghost use Rattle.script_mean.specs.Calls.{Calls};
 ghost use Rattle.script_mean.specs.Meaning.{identified, links};
 ghost use Rattle.script_mean.specs.Paths.{environment, of_class, parts_behind_call, parts_behind_two_calls};
 ghost use Rattle.script_mean.specs.Turn.{Run};
-ghost use Rattle.script_paths.specs.Ahead.{first_value, front_of, links_seen};
-ghost use Rattle.script_paths.specs.Onward.{class_on, class_parts_on, environment_on, first_call, named_by, opened_by, opened_parts_on};
+ghost use Rattle.script_paths.specs.Ahead.{first_value, links_seen};
+ghost use Rattle.script_paths.specs.Onward.{class_on, class_parts_on, environment_on, first_call, goes_on, named_by, opened_by, opened_parts_on};
 ghost use Rattle.script_steps.specs.Parts.{args_in, links_in};
 ghost use Rattle.script_steps.specs.Seen.{move_run};
 ghost use Rattle.script_steps.specs.Weight.{LeavesLess};
@@ -36,8 +36,8 @@ pub(crate) fn from_environment(awaited: bool, node: Arc<Expr>, place: usize) -> 
 fn environment_goes_on(awaited: bool, ahead: Ahead, node: Arc<Expr>, place: usize) -> Move
     requires { place + links_seen ahead < 2 ^ 64 }
     ensures same { (calls : Calls)
-        → environment_on awaited calls (front_of ahead) (links_in (expr_of node.value) (place + 1)) (links_in (expr_of node.value) (place + 1 + 1)) ≡ move_run calls result }
-    ensures less { LeavesLess (25 + 10 * class_parts_on (front_of ahead) (links_in (expr_of node.value) (place + 1)) (links_in (expr_of node.value) (place + 1 + 1))) result }
+        → goes_on (environment_on awaited calls) ahead (expr_of node.value) place ≡ move_run calls result }
+    ensures less { LeavesLess (25 + 10 * goes_on class_parts_on ahead (expr_of node.value) place) result }
 {
     match ahead {
         Ahead::Field(name) => Move::Then(
@@ -79,8 +79,8 @@ fn class_goes_on(
 ) -> Mem<Move>
     requires { place + links_seen ahead < 2 ^ 64 }
     ensures same { IfOk result (λ m. (calls : Calls)
-        → class_on awaited calls class (front_of ahead) (links_in (expr_of node.value) (place + 1)) (links_in (expr_of node.value) (place + 1 + 1)) ≡ move_run calls m) }
-    ensures less { IfOk result (LeavesLess (24 + 10 * opened_parts_on (front_of ahead) (links_in (expr_of node.value) (place + 1)) (links_in (expr_of node.value) (place + 1 + 1)))) }
+        → goes_on (class_on awaited calls class) ahead (expr_of node.value) place ≡ move_run calls m) }
+    ensures less { IfOk result (LeavesLess (24 + 10 * goes_on opened_parts_on ahead (expr_of node.value) place)) }
 {
     match ahead {
         Ahead::Method(_) => object_at(alloc, awaited, class, node, place + 1),
@@ -92,7 +92,8 @@ fn class_goes_on(
 fn object_at(alloc: Global, awaited: bool, class: Text, node: Arc<Expr>, link: usize) -> Mem<Move>
     requires { link + 1 < 2 ^ 64 }
     ensures same { IfOk result (λ m. (calls : Calls)
-        → opened_by awaited calls class (first_value (args_in (expr_of node.value) link 0)) (args_in (expr_of node.value) link 0) (links_in (expr_of node.value) (link + 1)) ≡ move_run calls m) }
+        → opened_by awaited calls class (first_value (args_in (expr_of node.value) link 0))
+        (args_in (expr_of node.value) link 0) (links_in (expr_of node.value) (link + 1)) ≡ move_run calls m) }
     ensures less { IfOk result (LeavesLess (24 + 10 * parts_behind_call (links_in (expr_of node.value) (link + 1)))) }
 {
     match value_at(&node, link)? {
@@ -112,7 +113,8 @@ fn named_at(
 ) -> Move
     requires { link + 1 < 2 ^ 64 }
     ensures same { (calls : Calls)
-        → opened_by awaited calls class (Some (expr_of name.value)) (args_in (expr_of node.value) link 0) (links_in (expr_of node.value) (link + 1)) ≡ move_run calls result }
+        → opened_by awaited calls class (Some (expr_of name.value))
+        (args_in (expr_of node.value) link 0) (links_in (expr_of node.value) (link + 1)) ≡ move_run calls result }
     ensures less { LeavesLess (24 + 10 * parts_behind_call (links_in (expr_of node.value) (link + 1))) result }
 {
     match call_in(&name) {

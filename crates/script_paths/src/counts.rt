@@ -3,7 +3,8 @@ ghost use Rattle.std.specs.Prelude.{◌≡◌, ◌+◌, ◌≤◌, length, unwra
 ghost use Rattle.do_tree.specs.Nodes.{links_in as list_in, with_link};
 ghost use Rattle.do_tree.specs.Seen.{named_of};
 ghost use Rattle.do_tree.specs.Tree.{field};
-ghost use Rattle.script_mean.specs.Paths.{parts, parts_behind_call, parts_behind_two_calls, parts_from, parts_of_itself, parts_of_own, parts_of_push, parts_of_value, pushes};
+ghost use Rattle.script_mean.specs.Paths.{parts, parts_behind_call, parts_behind_two_calls, parts_from, pushes};
+ghost use Rattle.script_mean.specs.Paths.{parts_of_itself, parts_of_own, parts_of_push, parts_of_value};
 ghost use Rattle.script_steps.specs.Paths.{point_of};
 
 use crate::link::{begins_with_call, is_call};

@@ -4,24 +4,23 @@ ghost use Rattle.std.specs.Str.{bytes_eq};
 ghost use Rattle.do_tree.specs.Nodes.{links_in as list_in};
 ghost use Rattle.do_tree.specs.Seen.{expr_of};
 ghost use Rattle.do_value.specs.Keyed.{value_at};
+ghost use Rattle.do_value.specs.Seen.{tree_of};
 ghost use Rattle.script_mean.specs.Meaning.{links};
-ghost use Rattle.script_mean.specs.Paths.{holds, itself, parts, parts_of_itself, parts_of_own, pushes};
+ghost use Rattle.script_mean.specs.Paths.{itself, parts_of_itself, parts_of_own, pushes};
 ghost use Rattle.script_mean.specs.Places.{or_undefined};
-ghost use Rattle.script_paths.specs.Ahead.{front_of, links_seen};
-ghost use Rattle.script_paths.specs.Onward.{field_on, itself_on, itself_parts_on};
-ghost use Rattle.script_paths.specs.Reading.{UnfoldsIn, UnfoldsWith};
+ghost use Rattle.script_paths.specs.Ahead.{links_seen};
+ghost use Rattle.script_paths.specs.Onward.{field_on, goes_on, itself_on, itself_parts_on};
+ghost use Rattle.script_paths.specs.Reading.{UnfoldsOn};
 ghost use Rattle.script_steps.specs.Parts.{links_in};
 ghost use Rattle.script_steps.specs.Weight.{LeavesLess};
-ghost use Rattle.script_vars.specs.Seen.{env_of};
 
 use crate::counts::pushes;
-use crate::lent::from_lent;
 use crate::link::{Ahead, ahead_at, links_after};
+use crate::values::from_value;
 use crate::walked::{call_from, nowhere};
 use do_tree::Expr;
 use do_value::{Fields, Mem, Text, Value};
 use script_steps::{Callee, Focus, Move, Point, Root};
-use script_vars::Vars;
 use std::alloc::Global;
 use std::sync::Arc;
 
@@ -31,14 +30,13 @@ pub(crate) fn from_itself(
     awaited: bool,
     node: Arc<Expr>,
     place: usize,
-    vars: &Vars,
     fields: &Fields,
 ) -> Mem<Move>
-    ensures same { IfOk result (UnfoldsWith (env_of vars.now) fields.now (λ calls. links awaited calls itself (links_in (expr_of node.value) place))) }
+    ensures same { IfOk result (UnfoldsOn fields.now (λ calls. links awaited calls itself (links_in (expr_of node.value) place))) }
     ensures less { IfOk result (LeavesLess (20 + 10 * parts_of_itself (links_in (expr_of node.value) place))) }
 {
     let ahead = ahead_at(&node, place)?;
-    itself_goes_on(alloc, awaited, ahead, node, place, vars, fields)
+    itself_goes_on(alloc, awaited, ahead, node, place, fields)
 }
 
 /// The same, by what is next.
@@ -48,16 +46,15 @@ fn itself_goes_on(
     ahead: Ahead,
     node: Arc<Expr>,
     place: usize,
-    vars: &Vars,
     fields: &Fields,
 ) -> Mem<Move>
     requires { place + links_seen ahead < 2 ^ 64 }
-    ensures same { IfOk result (UnfoldsWith (env_of vars.now) fields.now
-        (λ calls. itself_on awaited calls (front_of ahead) (links_in (expr_of node.value) (place + 1)) (links_in (expr_of node.value) (place + 1 + 1)))) }
-    ensures less { IfOk result (LeavesLess (20 + 10 * itself_parts_on (front_of ahead) (links_in (expr_of node.value) (place + 1)) (links_in (expr_of node.value) (place + 1 + 1)))) }
+    ensures same { IfOk result (UnfoldsOn fields.now
+        (λ calls. goes_on (itself_on awaited calls) ahead (expr_of node.value) place)) }
+    ensures less { IfOk result (LeavesLess (20 + 10 * goes_on itself_parts_on ahead (expr_of node.value) place)) }
 {
     match ahead {
-        Ahead::Field(name) => from_field(alloc, awaited, name, node, place + 1, vars, fields),
+        Ahead::Field(name) => from_field(alloc, awaited, name, node, place + 1, fields),
         Ahead::Method(name) => {
             let callee = Callee::Object(awaited, name);
             call_from(alloc, awaited, callee, node, place + 1, 0)
@@ -73,10 +70,9 @@ fn from_field(
     name: Text,
     node: Arc<Expr>,
     next: usize,
-    vars: &Vars,
     fields: &Fields,
 ) -> Mem<Move>
-    ensures same { IfOk result (UnfoldsWith (env_of vars.now) fields.now (λ calls. field_on awaited calls name (links_in (expr_of node.value) next))) }
+    ensures same { IfOk result (UnfoldsOn fields.now (λ calls. field_on awaited calls name (links_in (expr_of node.value) next))) }
     ensures less { IfOk result (LeavesLess (20 + 10 * parts_of_own name (links_in (expr_of node.value) next))) }
 {
     if "ctx" == name.as_str() {
@@ -85,7 +81,7 @@ fn from_field(
     if "env" == name.as_str() {
         return Ok(Move::Then(0, Focus::Walk(awaited, Point::Environment, node, next)));
     }
-    from_own(alloc, awaited, name, node, next, vars, fields)
+    from_own(alloc, awaited, name, node, next, fields)
 }
 
 /// A path from a field of the object's own on.
@@ -95,18 +91,18 @@ fn from_own(
     name: Text,
     node: Arc<Expr>,
     next: usize,
-    vars: &Vars,
     fields: &Fields,
 ) -> Mem<Move>
     requires not_context { bytes_eq (codes "ctx") name ≡ false }
     requires not_environment { bytes_eq (codes "env") name ≡ false }
-    ensures same { IfOk result (UnfoldsWith (env_of vars.now) fields.now (λ calls. field_on awaited calls name (links_in (expr_of node.value) next))) }
+    ensures same { IfOk result (UnfoldsOn fields.now (λ calls. field_on awaited calls name (links_in (expr_of node.value) next))) }
     ensures less { IfOk result (LeavesLess (20 + 10 * parts_of_own name (links_in (expr_of node.value) next))) }
 {
     if pushes_at(&node, next) {
         return Ok(Move::Then(0, Focus::Push(Root::Own(name), Vec::new(alloc), node, next)));
     }
-    from_own_value(alloc, awaited, &name, node, next, vars, fields)
+    let value = own_value(name.as_str(), fields)?;
+    from_value(alloc, awaited, value, node, next)
 }
 
 /// Whether the first call of a path from that place on is one of `push`.
@@ -116,22 +112,12 @@ fn pushes_at(node: &Arc<Expr>, place: usize) -> bool
     pushes(links_after(node, place))
 }
 
-/// A path from the value of a field of the object on, which is `undefined` where there is none.
-fn from_own_value(
-    alloc: Global,
-    awaited: bool,
-    name: &Text,
-    node: Arc<Expr>,
-    next: usize,
-    vars: &Vars,
-    fields: &Fields,
-) -> Mem<Move>
-    ensures same { IfOk result (UnfoldsIn (env_of vars.now)
-        (λ calls. links awaited calls (holds (or_undefined (value_at name.now fields.now))) (links_in (expr_of node.value) next))) }
-    ensures less { IfOk result (LeavesLess (10 + 10 * parts (links_in (expr_of node.value) next))) }
+/// The value of a field of the object, shared; `undefined` where there is none.
+fn own_value(name: &str, fields: &Fields) -> Mem<Value>
+    ensures { IfOk result (λ value. tree_of value ≡ or_undefined (value_at name.now fields.now)) }
 {
-    match fields.get(name.as_str()) {
-        Some(value) => from_lent(alloc, awaited, value, node, next, vars),
-        None => from_lent(alloc, awaited, &Value::Undefined, node, next, vars),
+    match fields.get(name) {
+        Some(value) => value.copy(),
+        None => Ok(Value::Undefined),
     }
 }

@@ -8,7 +8,6 @@ mod called;
 mod classes;
 mod counts;
 mod itself;
-mod lent;
 mod link;
 mod places;
 mod pushed;

@@ -120,7 +120,8 @@ pub fn place(
     place: usize,
 ) -> Mem<Move>
     ensures same { IfOk result (λ m. (calls : Calls)
-        → to_place calls (root_of root) (steps_in steps.items) (links_in (expr_of node.value) place) (written calls (writing_of writing) (root_of root)) ≡ move_run calls m) }
+        → to_place calls (root_of root) (steps_in steps.items) (links_in (expr_of node.value) place)
+        (written calls (writing_of writing) (root_of root)) ≡ move_run calls m) }
     ensures less { IfOk result (LeavesLess 11) }
 {
     let mut steps = steps;

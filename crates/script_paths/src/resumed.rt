@@ -9,7 +9,7 @@ ghost use Rattle.script_places.specs.Steps.{step_of, steps_in};
 ghost use Rattle.script_steps.specs.Parts.{links_in};
 ghost use Rattle.script_steps.specs.Paths.{path_frame_of, root_of};
 ghost use Rattle.script_steps.specs.Seen.{handed, move_run};
-ghost use Rattle.script_steps.specs.Weight.{LeavesLess, move_cost, path_frame_weight};
+ghost use Rattle.script_steps.specs.Weight.{LeavesLess, path_frame_weight};
 
 use do_tree::Expr;
 use do_value::{BinOp, Mem, NoMemory, Value};
@@ -54,7 +54,7 @@ pub fn hand_path(alloc: Global, frame: PathFrame, value: Value) -> Mem<Move>
 
 /// A path goes on from the part of a value that an index names.
 #[tactic(auto, using(crate::proofs::Handed::index_goes, crate::proofs::Handed::index_throws))]
-pub(crate) fn part_on(
+fn part_on(
     alloc: Global,
     awaited: bool,
     whole: &Value,
@@ -65,7 +65,6 @@ pub(crate) fn part_on(
     ensures same { IfOk result (λ m. (calls : Calls)
         → handed calls (to_index awaited (tree_of whole.now) (links_in (expr_of node.value) place)) (gave (tree_of index.now)) ≡ move_run calls m) }
     ensures less { IfOk result (LeavesLess (7 + path_frame_weight (PathFrame.Index awaited whole.now node place))) }
-    ensures cost { IfOk result (λ m. move_cost m ≡ 0) }
 {
     match element(alloc, whole, index) {
         Ok(part) => Ok(Move::Then(0, Focus::Walk(awaited, Point::Holds(part), node, place))),

@@ -4,8 +4,8 @@ ghost use Rattle.do_tree.specs.Seen.{expr_of};
 ghost use Rattle.script_mean.specs.Calls.{Calls};
 ghost use Rattle.script_mean.specs.Meaning.{blocked, links, stored};
 ghost use Rattle.script_mean.specs.Paths.{context, handle, parts, parts_behind_call, storage};
-ghost use Rattle.script_paths.specs.Ahead.{front_of, links_seen};
-ghost use Rattle.script_paths.specs.Onward.{called_parts_on, calling, context_on, handle_on, storage_on};
+ghost use Rattle.script_paths.specs.Ahead.{links_seen};
+ghost use Rattle.script_paths.specs.Onward.{called_parts_on, calling, context_on, goes_on, handle_on, storage_on};
 ghost use Rattle.script_steps.specs.Parts.{args_in, links_in};
 ghost use Rattle.script_steps.specs.Seen.{move_run};
 ghost use Rattle.script_steps.specs.Weight.{LeavesLess};
@@ -39,8 +39,8 @@ fn context_goes_on(
 ) -> Mem<Move>
     requires { place + links_seen ahead < 2 ^ 64 }
     ensures same { IfOk result (λ m. (calls : Calls)
-        → context_on awaited calls (front_of ahead) (links_in (expr_of node.value) (place + 1)) (links_in (expr_of node.value) (place + 1 + 1)) ≡ move_run calls m) }
-    ensures less { IfOk result (LeavesLess (21 + 10 * called_parts_on (front_of ahead) (links_in (expr_of node.value) (place + 1)) (links_in (expr_of node.value) (place + 1 + 1)))) }
+        → goes_on (context_on awaited calls) ahead (expr_of node.value) place ≡ move_run calls m) }
+    ensures less { IfOk result (LeavesLess (21 + 10 * goes_on called_parts_on ahead (expr_of node.value) place)) }
 {
     match ahead {
         Ahead::Field(_) => Ok(Move::Then(0, Focus::Walk(awaited, Point::Storage, node, place + 1))),
@@ -85,8 +85,8 @@ fn storage_goes_on(
 ) -> Mem<Move>
     requires { place + links_seen ahead < 2 ^ 64 }
     ensures same { IfOk result (λ m. (calls : Calls)
-        → storage_on awaited calls (front_of ahead) (links_in (expr_of node.value) (place + 1)) (links_in (expr_of node.value) (place + 1 + 1)) ≡ move_run calls m) }
-    ensures less { IfOk result (LeavesLess (20 + 10 * called_parts_on (front_of ahead) (links_in (expr_of node.value) (place + 1)) (links_in (expr_of node.value) (place + 1 + 1)))) }
+        → goes_on (storage_on awaited calls) ahead (expr_of node.value) place ≡ move_run calls m) }
+    ensures less { IfOk result (LeavesLess (20 + 10 * goes_on called_parts_on ahead (expr_of node.value) place)) }
 {
     match ahead {
         Ahead::Method(name) => store_at(alloc, awaited, name, node, place + 1),
@@ -98,7 +98,8 @@ fn storage_goes_on(
 fn store_at(alloc: Global, awaited: bool, name: Text, node: Arc<Expr>, link: usize) -> Mem<Move>
     requires { link + 1 < 2 ^ 64 }
     ensures same { IfOk result (λ m. (calls : Calls)
-        → calling awaited calls (links_in (expr_of node.value) (link + 1)) (stored awaited calls name (args_in (expr_of node.value) link 0)) ≡ move_run calls m) }
+        → calling awaited calls (links_in (expr_of node.value) (link + 1))
+        (stored awaited calls name (args_in (expr_of node.value) link 0)) ≡ move_run calls m) }
     ensures less { IfOk result (LeavesLess (20 + 10 * parts (links_in (expr_of node.value) (link + 1)))) }
 {
     match callback_at(&node, link)? {
@@ -133,8 +134,8 @@ fn handle_goes_on(
 ) -> Mem<Move>
     requires { place + links_seen ahead < 2 ^ 64 }
     ensures same { IfOk result (λ m. (calls : Calls)
-        → handle_on awaited calls (front_of ahead) (links_in (expr_of node.value) (place + 1)) (links_in (expr_of node.value) (place + 1 + 1)) ≡ move_run calls m) }
-    ensures less { IfOk result (LeavesLess (20 + 10 * called_parts_on (front_of ahead) (links_in (expr_of node.value) (place + 1)) (links_in (expr_of node.value) (place + 1 + 1)))) }
+        → goes_on (handle_on awaited calls) ahead (expr_of node.value) place ≡ move_run calls m) }
+    ensures less { IfOk result (LeavesLess (20 + 10 * goes_on called_parts_on ahead (expr_of node.value) place)) }
 {
     match ahead {
         Ahead::Method(name) => {

@@ -7,10 +7,10 @@ ghost use Rattle.script_mean.specs.Meaning.{links};
 ghost use Rattle.script_mean.specs.Paths.{holds, parts, parts_behind_call, word as of_word};
 ghost use Rattle.script_mean.specs.Places.{property};
 ghost use Rattle.script_paths.specs.Ahead.{front_of, links_seen};
-ghost use Rattle.script_paths.specs.Onward.{called_parts_on, part_on, parts_on, value_on, word_from};
+ghost use Rattle.script_paths.specs.Onward.{called_parts_on, goes_on, part_on, parts_on, value_on, word_from};
 ghost use Rattle.script_steps.specs.Parts.{links_in};
 ghost use Rattle.script_steps.specs.Seen.{move_run};
-ghost use Rattle.script_steps.specs.Weight.{LeavesLess, move_cost};
+ghost use Rattle.script_steps.specs.Weight.{LeavesLess};
 
 use crate::link::{Ahead, ahead_at};
 use crate::walked::{call_at, call_from, nowhere};
@@ -39,7 +39,7 @@ pub(crate) fn from_value(
 }
 
 /// The same, by what is next.
-pub(crate) fn value_goes_on(
+fn value_goes_on(
     alloc: Global,
     awaited: bool,
     value: Value,
@@ -49,9 +49,8 @@ pub(crate) fn value_goes_on(
 ) -> Mem<Move>
     requires { place + links_seen ahead < 2 ^ 64 }
     ensures same { IfOk result (λ m. (calls : Calls)
-        → value_on awaited calls (tree_of value) (front_of ahead) (links_in (expr_of node.value) (place + 1)) (links_in (expr_of node.value) (place + 1 + 1)) ≡ move_run calls m) }
-    ensures less { IfOk result (LeavesLess (10 + 10 * parts_on (front_of ahead) (links_in (expr_of node.value) (place + 1)) (links_in (expr_of node.value) (place + 1 + 1)))) }
-    ensures cost { IfOk result (λ m. move_cost m ≡ 0) }
+        → goes_on (value_on awaited calls (tree_of value)) ahead (expr_of node.value) place ≡ move_run calls m) }
+    ensures less { IfOk result (LeavesLess (10 + 10 * goes_on parts_on ahead (expr_of node.value) place)) }
 {
     match ahead {
         Ahead::End => Ok(Move::Then(0, Focus::Ended(Outcome::Gave(value)))),
@@ -71,7 +70,7 @@ pub(crate) fn value_goes_on(
 
 /// A path from the field of this name of a value on.
 #[tactic(auto, using(crate::proofs::Properties::part_is, crate::proofs::Properties::part_throws))]
-pub(crate) fn part_of(
+fn part_of(
     alloc: Global,
     awaited: bool,
     value: &Value,
@@ -82,7 +81,6 @@ pub(crate) fn part_of(
     ensures same { IfOk result (λ m. (calls : Calls)
         → part_on awaited calls (property (tree_of value.now) name.now) (links_in (expr_of node.value) next) ≡ move_run calls m) }
     ensures less { IfOk result (LeavesLess (20 + 10 * parts (links_in (expr_of node.value) next))) }
-    ensures cost { IfOk result (λ m. move_cost m ≡ 0) }
 {
     match property(alloc, value, name.as_str()) {
         Ok(part) => Ok(Move::Then(0, Focus::Walk(awaited, Point::Holds(part), node, next))),
@@ -129,8 +127,9 @@ fn word_goes_on(
 ) -> Mem<Move>
     requires { place + links_seen ahead < 2 ^ 64 }
     ensures same { IfOk result (λ m. (calls : Calls)
-        → word_from awaited calls word (front_of ahead) (links_in (expr_of node.value) place) (links_in (expr_of node.value) (place + 1)) (links_in (expr_of node.value) (place + 1 + 1)) ≡ move_run calls m) }
-    ensures less { IfOk result (LeavesLess (20 + 10 * called_parts_on (front_of ahead) (links_in (expr_of node.value) (place + 1)) (links_in (expr_of node.value) (place + 1 + 1)))) }
+        → word_from awaited calls word (front_of ahead) (links_in (expr_of node.value) place)
+        (links_in (expr_of node.value) (place + 1)) (links_in (expr_of node.value) (place + 1 + 1)) ≡ move_run calls m) }
+    ensures less { IfOk result (LeavesLess (20 + 10 * goes_on called_parts_on ahead (expr_of node.value) place)) }
 {
     match ahead {
         Ahead::Call => call_from(alloc, awaited, Callee::Word(word), node, place, 0),

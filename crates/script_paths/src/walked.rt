@@ -7,12 +7,11 @@ ghost use Rattle.script_mean.specs.Frames.{called};
 ghost use Rattle.script_mean.specs.Meaning.{arguments, links};
 ghost use Rattle.script_mean.specs.Paths.{parts};
 ghost use Rattle.script_paths.specs.Onward.{calling};
-ghost use Rattle.script_paths.specs.Reading.{UnfoldsWith};
+ghost use Rattle.script_paths.specs.Reading.{UnfoldsOn};
 ghost use Rattle.script_steps.specs.Parts.{args_in, links_in};
 ghost use Rattle.script_steps.specs.Paths.{callee_of, point_of};
 ghost use Rattle.script_steps.specs.Seen.{move_run};
-ghost use Rattle.script_steps.specs.Weight.{LeavesLess, callee_weight, move_cost, walk_weight};
-ghost use Rattle.script_vars.specs.Seen.{env_of};
+ghost use Rattle.script_steps.specs.Weight.{LeavesLess, callee_weight, walk_weight};
 
 use crate::classes::{from_class, from_environment};
 use crate::itself::from_itself;
@@ -21,26 +20,24 @@ use crate::values::{from_value, from_word};
 use do_tree::Expr;
 use do_value::{Fields, Mem, Value};
 use script_steps::{Callee, Focus, Frame, Move, Outcome, PathFrame, Point, again};
-use script_vars::Vars;
 use std::alloc::Global;
 use std::sync::Arc;
 
-/// A path from this point and this link on, with these variables and these fields of the object.
+/// A path from this point and this link on, with these fields of the object.
 pub fn walk(
     alloc: Global,
     awaited: bool,
     point: Point,
     node: Arc<Expr>,
     place: usize,
-    vars: &Vars,
     fields: &Fields,
 ) -> Mem<Move>
-    ensures same { IfOk result (UnfoldsWith (env_of vars.now) fields.now
+    ensures same { IfOk result (UnfoldsOn fields.now
         (λ calls. links awaited calls (point_of point) (links_in (expr_of node.value) place))) }
     ensures less { IfOk result (LeavesLess (walk_weight point (links_in (expr_of node.value) place))) }
 {
     match point {
-        Point::Itself => from_itself(alloc, awaited, node, place, vars, fields),
+        Point::Itself => from_itself(alloc, awaited, node, place, fields),
         Point::Context => from_context(alloc, awaited, node, place),
         Point::Storage => from_storage(alloc, awaited, node, place),
         Point::Environment => from_environment(awaited, node, place),
@@ -63,9 +60,9 @@ pub(crate) fn call_at(
 ) -> Mem<Move>
     requires { link + 1 < 2 ^ 64 }
     ensures same { IfOk result (λ m. (calls : Calls)
-        → calling awaited calls (links_in (expr_of node.value) (link + 1)) (arguments calls (args_in (expr_of node.value) link first) (trees_in got.items) (called calls (callee_of callee))) ≡ move_run calls m) }
+        → calling awaited calls (links_in (expr_of node.value) (link + 1))
+        (arguments calls (args_in (expr_of node.value) link first) (trees_in got.items) (called calls (callee_of callee))) ≡ move_run calls m) }
     ensures less { IfOk result (LeavesLess (20 + 10 * parts (links_in (expr_of node.value) (link + 1)) + callee_weight callee)) }
-    ensures cost { IfOk result (λ m. move_cost m ≡ 0) }
 {
     let rest = again(&node)?;
     Ok(Move::Inside(
@@ -86,7 +83,8 @@ pub(crate) fn call_from(
 ) -> Mem<Move>
     requires { link + 1 < 2 ^ 64 }
     ensures same { IfOk result (λ m. (calls : Calls)
-        → calling awaited calls (links_in (expr_of node.value) (link + 1)) (arguments calls (args_in (expr_of node.value) link first) [] (called calls (callee_of callee))) ≡ move_run calls m) }
+        → calling awaited calls (links_in (expr_of node.value) (link + 1))
+        (arguments calls (args_in (expr_of node.value) link first) [] (called calls (callee_of callee))) ≡ move_run calls m) }
     ensures less { IfOk result (LeavesLess (20 + 10 * parts (links_in (expr_of node.value) (link + 1)) + callee_weight callee)) }
 {
     call_at(awaited, callee, Vec::new(alloc), node, link, first)

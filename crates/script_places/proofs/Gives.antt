@@ -10,7 +10,7 @@ use Rattle.script_mean.specs.Places.{Step, part, with_part, with_field, at_part,
 use Rattle.script_mean.specs.Task.{Fields}
 use Rattle.script_places.specs.Changes.{Writes}
 use Rattle.script_places.specs.Writes.{written, own_written}
-use Rattle.script_places.specs.declared.refusal.Stop.{Stop}
+use Rattle.script_ops.specs.declared.fault.Stop.{Stop}
 use Rattle.script_places.proofs.Steps.{then_made}
 
 -- A fact of a good answer.

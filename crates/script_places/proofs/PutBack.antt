@@ -1,6 +1,6 @@
 -- Parts that are taken out of lists and records, and put back.
 use Rattle.std.proofs.Common.{◌≡◌, ℕ, ℤ, pos, ◌+◌, ◌⊎◌, List, [], ◌∷◌, ◌++◌, length, Result, Ok, Err, refl, sym, ap, subst, ◌∙◌, inl, inr, arith, length-append}
-use Rattle.std.specs.Prelude.{IsErr}
+use Rattle.std.specs.Prelude.{IsErr, IfOk, OnOk, IfErr}
 use Rattle.std.proofs.lemmas.Bool.{cases_lt, le-ltb}
 use Rattle.do_value.specs.Changed.{fits, IsFit, put_pair}
 use Rattle.do_value.specs.Keyed.{value_at}
@@ -14,10 +14,10 @@ use Rattle.script_ops.specs.Errors.{within_limits}
 use Rattle.script_ops.proofs.Parts.{items_back, fields_back}
 use Rattle.script_mean.specs.Places.{Step, Change, named, indexed, part, item, or_undefined, push, with_part, with_item, with_field, at_part, limited, ◌then◌}
 use Rattle.script_mean.specs.Task.{Fields}
-use Rattle.script_places.specs.Refusals.{stop_of}
+use Rattle.script_ops.specs.Answers.{stop_of}
 use Rattle.script_places.specs.Changes.{Changes, Puts, IsTaken, OwnChanges}
-use Rattle.script_places.specs.declared.refusal.Stop.{Stop}
-use Rattle.script_places.specs.declared.refusal.Stop.TheVariants.{Throws, NoRoom}
+use Rattle.script_ops.specs.declared.fault.Stop.{Stop}
+use Rattle.script_ops.specs.declared.fault.Stop.TheVariants.{Throws, NoRoom}
 use Rattle.script_places.proofs.Fields.{with_is_put}
 use Rattle.script_places.proofs.Grown.{refused_if}
 use Rattle.script_places.proofs.ReadBack.{property_field, element_field, element_item}
@@ -46,6 +46,25 @@ taken_item old new z v e h = record {
   part = element_item old z (tree_of v) e;
   rest = λ t. ap (λ us. with_item us z t) (items_back new) ∙ h t ∙ sym (ap (λ us. with_item us z t) (items_back old));
 }
+
+-- And so where there may have been no memory.
+pub taken_named_if : (old new : Fields) (name : List ℕ) (r : Result Value Stop) → IfOk r (λ v. tree_of v ≡ or_undefined (value_at name old)) → OnOk r ((t : Tree) → with_field name t new ≡ with_field name t old) → IfErr r (λ stop. stop ≡ NoRoom)
+    → IsTaken (fields old) (fields new) (named name) r
+taken_named_if old new name (Ok v) e h n = taken_named old new name v e h
+taken_named_if old new name (Err (Throws refusal)) e h n = absurd (cc)
+taken_named_if old new name (Err NoRoom) e h n = tt
+
+pub taken_keyed_if : (old new : Fields) (name : List ℕ) (r : Result Value Stop) → IfOk r (λ v. tree_of v ≡ or_undefined (value_at name old)) → OnOk r ((t : Tree) → with_field name t new ≡ with_field name t old) → IfErr r (λ stop. stop ≡ NoRoom)
+    → IsTaken (fields old) (fields new) (indexed (text name)) r
+taken_keyed_if old new name (Ok v) e h n = taken_keyed old new name v e h
+taken_keyed_if old new name (Err (Throws refusal)) e h n = absurd (cc)
+taken_keyed_if old new name (Err NoRoom) e h n = tt
+
+pub taken_item_if : (old new : List Tree) (z : ℤ) (r : Result Value Stop) → IfOk r (λ v. tree_of v ≡ item old z) → OnOk r ((t : Tree) → with_item new z t ≡ with_item old z t) → IfErr r (λ stop. stop ≡ NoRoom)
+    → IsTaken (items old) (items new) (indexed (number z)) r
+taken_item_if old new z (Ok v) e h n = taken_item old new z v e h
+taken_item_if old new z (Err (Throws refusal)) e h n = absurd (cc)
+taken_item_if old new z (Err NoRoom) e h n = tt
 
 -- A value that isn't built passes the limits, unless memory was wanted.
 fit_passes : (whole : Tree) (fault : BuildFault) → IsFit whole (Err fault) → (fault ≡ NoMemory) ⊎ IsErr (within_limits whole)

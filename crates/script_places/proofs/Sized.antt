@@ -9,7 +9,7 @@ use Rattle.script_ops.proofs.Parts.{items_back, fields_back}
 use Rattle.script_mean.specs.Places.{Step, Change, named, indexed, part, push, with_part, with_item, with_field, at_part, ◌then◌}
 use Rattle.script_mean.specs.Task.{Fields}
 use Rattle.script_places.specs.Changes.{Sizes, whole_of}
-use Rattle.script_places.specs.declared.refusal.Refusal.{Refusal}
+use Rattle.script_ops.specs.declared.refusal.Refusal.{Refusal}
 use Rattle.script_places.proofs.Fields.{size_over, size_new, size_field}
 use Rattle.script_places.proofs.Items.{with_in, with_end}
 

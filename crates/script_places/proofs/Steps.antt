@@ -15,7 +15,7 @@ use Rattle.script_mean.specs.Task.{Fields}
 use Rattle.script_places.specs.Steps.{change_of, levels_of}
 use Rattle.script_places.specs.Changes.{Sizes, whole_of, Allows, limits_of, put_own}
 use Rattle.script_places.specs.Writes.{written, own_written}
-use Rattle.script_places.specs.declared.refusal.Refusal.{Refusal}
+use Rattle.script_ops.specs.declared.refusal.Refusal.{Refusal}
 use Rattle.script_places.specs.declared.step.Write.{Write}
 use Rattle.script_places.specs.declared.step.Write.TheVariants.{Put, Push}
 use Rattle.script_places.proofs.Grown.{IsGrown, refused_grown}

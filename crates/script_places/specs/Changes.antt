@@ -7,11 +7,11 @@ use Rattle.do_value.specs.declared.value.Value.{Value}
 use Rattle.script_ops.specs.Errors.{within_limits}
 use Rattle.script_mean.specs.Places.{Step, part, with_part, with_field, limited, with_own, ◌then◌}
 use Rattle.script_mean.specs.Task.{Fields}
-use Rattle.script_places.specs.Refusals.{error_of}
-use Rattle.script_places.specs.declared.refusal.Refusal.{Refusal}
-use Rattle.script_places.specs.declared.refusal.Refusal.TheVariants.{TooDeep, TooLarge}
-use Rattle.script_places.specs.declared.refusal.Stop.{Stop}
-use Rattle.script_places.specs.declared.refusal.Stop.TheVariants.{Throws, NoRoom}
+use Rattle.script_ops.specs.Answers.{error_of}
+use Rattle.script_ops.specs.declared.refusal.Refusal.{Refusal}
+use Rattle.script_ops.specs.declared.refusal.Refusal.TheVariants.{TooDeep, TooLarge}
+use Rattle.script_ops.specs.declared.fault.Stop.{Stop}
+use Rattle.script_ops.specs.declared.fault.Stop.TheVariants.{Throws, NoRoom}
 
 -- The answer is what a write makes of what was there and what it gives, or the error that the definition throws, and
 -- then all is as it was. It may always be that there is no memory.
@@ -43,13 +43,15 @@ Allows (Err e) (Err refusal) = e ≡ error_of refusal
 Allows (Ok x) (Err refusal) = ⊥
 Allows (Err e) (Ok u) = ⊥
 
--- A part was taken out, in place of which any puts the same; or nothing can be put there, for this refusal.
-abbrev pub IsTaken : Tree → Tree → Step → Result Value Refusal → Type 0
+-- A part was taken out, in place of which any puts the same; or nothing can be put there, for this refusal; or there was
+-- no memory.
+abbrev pub IsTaken : Tree → Tree → Step → Result Value Stop → Type 0
 IsTaken old new s (Ok v) = record {
   part : part old s ≡ Ok (tree_of v);
   rest : (t : Tree) → with_part new s t ≡ with_part old s t;
 }
-IsTaken old new s (Err refusal) = (t : Tree) → with_part old s t ≡ Err (error_of refusal)
+IsTaken old new s (Err (Throws refusal)) = (t : Tree) → with_part old s t ≡ Err (error_of refusal)
+IsTaken old new s (Err NoRoom) = Unit {0}
 
 -- The value is what the definition makes with the part, or that is refused by the definition or by the limits.
 abbrev pub Puts : Result Tree Tree → Tree → Result (Unit {0}) Stop → Type 0

@@ -1,5 +1,4 @@
 pub mod Steps
-pub mod Refusals
 pub mod Reads
 pub mod Writes
 pub mod Changes

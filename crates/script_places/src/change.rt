@@ -1,7 +1,7 @@
 //! Values that are changed in place: the part is taken out, changed, and put back. All items of a list on the way are
 //! visited only where the part is deeper than each other item, and so are the pairs of a record; a new field moves the
 //! pairs behind it; the name of each field on the way is copied.
-ghost use Rattle.std.specs.Prelude.{◌≡◌, pos, Ok};
+ghost use Rattle.std.specs.Prelude.{◌≡◌, pos, Ok, IfOk, OnOk, IfErr};
 ghost use Rattle.do_value.specs.Keyed.{value_at};
 ghost use Rattle.do_value.specs.Seen.{tree_of};
 ghost use Rattle.do_value.specs.Tree.{Tree, items as list_tree, fields as record_tree};
@@ -10,9 +10,9 @@ ghost use Rattle.script_places.specs.Steps.{step_of, steps_in, change_of};
 ghost use Rattle.script_places.specs.Changes.{Changes, Puts, IsTaken};
 
 use crate::part::{count_items, is_end};
-use crate::refusal::{Refusal, Stop};
 use crate::step::{Step, Write, place_of};
 use do_value::{Fields, Items, Num, Text, Value};
+use script_ops::{Refusal, Stop};
 
 /// Changes the part at the end of the steps, and gives what the write gives. Where that is refused, or memory is wanted,
 /// the value may have lost parts: whether it is refused is found before. It calls itself for each step, as `part_at` does.
@@ -63,7 +63,7 @@ fn push_item(items: &mut Items, new: Value) -> Result<Value, Stop>
 }
 
 // Takes out the part that the step leads to, and leaves `undefined` in its place, if it has one.
-fn take_part(value: &mut Value, step: &Step) -> Result<Value, Refusal>
+fn take_part(value: &mut Value, step: &Step) -> Result<Value, Stop>
     ensures { IsTaken (tree_of value.old) (tree_of value.new) (step_of step.now) result }
 {
     match step {
@@ -73,76 +73,81 @@ fn take_part(value: &mut Value, step: &Step) -> Result<Value, Refusal>
 }
 
 // The same of a field by its name.
-fn take_named(value: &mut Value, name: &Text) -> Result<Value, Refusal>
+fn take_named(value: &mut Value, name: &Text) -> Result<Value, Stop>
     ensures { IsTaken (tree_of value.old) (tree_of value.new) (named name.now) result }
 {
     match value {
-        Value::Rec(fields) => Ok(take_field(fields, name)),
-        _ => Err(Refusal::NoProperty),
+        Value::Rec(fields) => take_field(fields, name),
+        _ => Err(Stop::Throws(Refusal::NoProperty)),
     }
 }
 
 // The same of what an index names.
-fn take_indexed(value: &mut Value, index: &Value) -> Result<Value, Refusal>
+fn take_indexed(value: &mut Value, index: &Value) -> Result<Value, Stop>
     ensures { IsTaken (tree_of value.old) (tree_of value.new) (indexed (tree_of index.now)) result }
 {
     match value {
         Value::List(items) => take_from_list(items, index),
         Value::Rec(fields) => take_from_record(fields, index),
-        _ => Err(Refusal::WrongIndex),
+        _ => Err(Stop::Throws(Refusal::WrongIndex)),
     }
 }
 
 // The same of a list.
-fn take_from_list(items: &mut Items, index: &Value) -> Result<Value, Refusal>
+fn take_from_list(items: &mut Items, index: &Value) -> Result<Value, Stop>
     ensures { IsTaken (list_tree items.old) (list_tree items.new) (indexed (tree_of index.now)) result }
 {
     match index {
-        Value::Num(n) => Ok(take_item(items, *n)),
-        _ => Err(Refusal::WrongIndex),
+        Value::Num(n) => take_item(items, *n),
+        _ => Err(Stop::Throws(Refusal::WrongIndex)),
     }
 }
 
 // The same of a record.
-fn take_from_record(fields: &mut Fields, index: &Value) -> Result<Value, Refusal>
+fn take_from_record(fields: &mut Fields, index: &Value) -> Result<Value, Stop>
     ensures { IsTaken (record_tree fields.old) (record_tree fields.new) (indexed (tree_of index.now)) result }
 {
     match index {
-        Value::Text(name) => Ok(take_field(fields, name)),
-        _ => Err(Refusal::WrongIndex),
+        Value::Text(name) => take_field(fields, name),
+        _ => Err(Stop::Throws(Refusal::WrongIndex)),
     }
 }
 
 /// Takes out the field, `undefined` where there is none.
-pub(crate) fn take_field(fields: &mut Fields, name: &Text) -> Value
-    ensures taken { tree_of result ≡ or_undefined (value_at name.now fields.old) }
-    ensures rest { (t : Tree) → with_field name.now t fields.new ≡ with_field name.now t fields.old }
+pub(crate) fn take_field(fields: &mut Fields, name: &Text) -> Result<Value, Stop>
+    ensures taken { IfOk result (λ v. tree_of v ≡ or_undefined (value_at name.now fields.old)) }
+    ensures rest { OnOk result ((t : Tree) → with_field name.now t fields.new ≡ with_field name.now t fields.old) }
+    ensures no_room { IfErr result (λ stop. stop ≡ Stop.NoRoom) }
 {
-    match fields.take(name.as_str()) {
-        Some(value) => value,
-        None => Value::Undefined,
+    let taken = fields.take(name.as_str())?;
+    match taken {
+        Some(value) => Ok(value),
+        None => Ok(Value::Undefined),
     }
 }
 
 // Takes out the item, `undefined` where there is none.
-fn take_item(items: &mut Items, n: Num) -> Value
-    ensures taken { tree_of result ≡ item items.old n }
-    ensures rest { (t : Tree) → with_item items.new n t ≡ with_item items.old n t }
+fn take_item(items: &mut Items, n: Num) -> Result<Value, Stop>
+    ensures taken { IfOk result (λ v. tree_of v ≡ item items.old n) }
+    ensures rest { OnOk result ((t : Tree) → with_item items.new n t ≡ with_item items.old n t) }
+    ensures no_room { IfErr result (λ stop. stop ≡ Stop.NoRoom) }
 {
     match place_of(n) {
         Some(place) => take_place(items, place),
-        None => Value::Undefined,
+        None => Ok(Value::Undefined),
     }
 }
 
 // The same by its place.
-fn take_place(items: &mut Items, place: usize) -> Value
-    ensures taken { tree_of result ≡ item items.old (pos place) }
-    ensures rest { (t : Tree) → with_item items.new (pos place) t ≡ with_item items.old (pos place) t }
+fn take_place(items: &mut Items, place: usize) -> Result<Value, Stop>
+    ensures taken { IfOk result (λ v. tree_of v ≡ item items.old (pos place)) }
+    ensures rest { OnOk result ((t : Tree) → with_item items.new (pos place) t ≡ with_item items.old (pos place) t) }
+    ensures no_room { IfErr result (λ stop. stop ≡ Stop.NoRoom) }
 {
-    match items.take(place) {
-        Some(value) => value,
-        None => Value::Undefined,
+    let taken = items.take(place)?;
+    match taken {
+        Some(value) => Ok(value),
+        None => Ok(Value::Undefined),
     }
 }
 

@@ -7,7 +7,6 @@ mod number;
 mod own;
 mod part;
 mod reads;
-mod refusal;
 mod size;
 mod step;
 mod writes;

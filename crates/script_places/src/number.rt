@@ -4,11 +4,10 @@ ghost use Rattle.do_value.specs.Seen.{tree_of};
 ghost use Rattle.script_ops.specs.Answers.{Answers};
 ghost use Rattle.script_ops.specs.Numbers.{in_range};
 ghost use Rattle.script_mean.specs.Places.{moved};
-ghost use Rattle.script_places.specs.Refusals.{Gives};
+ghost use Rattle.script_places.specs.Reads.{Gives};
 
-use crate::refusal::{Refusal, thrown};
 use do_value::{Num, RangeNum, Value};
-use script_ops::OpFault;
+use script_ops::{OpFault, Refusal, thrown};
 use std::alloc::Global;
 
 /// The number with so much added: 1 for `++`, -1 for `--`. What is no number throws (`TypeError` `type`), and so does a

@@ -10,12 +10,11 @@ ghost use Rattle.script_places.specs.Writes.{own_written, IsThrown, Keeps};
 
 use crate::change::{change, put_field, take_field};
 use crate::part::{field, value_of};
-use crate::refusal::{Refusal, Stop, fault};
 use crate::size::{size_after, size_with_field};
 use crate::step::{Step, Write, levels};
 use crate::writes::within_limits;
 use do_value::{Fields, Text, Value};
-use script_ops::OpFault;
+use script_ops::{OpFault, Refusal, Stop, fault_of};
 use std::alloc::Global;
 
 /// `=` to a field of the object itself, or to a part of it at the end of the steps. It throws as
@@ -34,7 +33,7 @@ pub fn assign_own(
 {
     match write_own(fields, name, steps, Write::Put(value)) {
         Ok(_) => Ok(()),
-        Err(stop) => Err(fault(alloc, stop)),
+        Err(stop) => Err(fault_of(alloc, stop)),
     }
 }
 
@@ -53,7 +52,7 @@ pub fn push_own(
 {
     match write_own(fields, name, steps, Write::Push(value)) {
         Ok(count) => Ok(count),
-        Err(stop) => Err(fault(alloc, stop)),
+        Err(stop) => Err(fault_of(alloc, stop)),
     }
 }
 
@@ -80,7 +79,7 @@ fn change_own(fields: &mut Fields, name: &Text, steps: &[Step], write: Write) ->
     ensures { OwnChanges (at_part (steps_in steps.now) (change_of write) (or_undefined (value_at name.now fields.old)))
         name.now fields.old fields.new result }
 {
-    let mut part = take_field(fields, name);
+    let mut part = take_field(fields, name)?;
     let given = change(&mut part, steps, write)?;
     put_field(fields, name, part)?;
     Ok(given)

@@ -8,10 +8,9 @@ ghost use Rattle.script_mean.specs.Places.{item, element, part, property, or_und
 ghost use Rattle.script_places.specs.Reads.{is_length, tree_in, Reads};
 ghost use Rattle.script_places.specs.Steps.{step_of};
 
-use crate::refusal::Refusal;
 use crate::step::{Step, place_of};
 use do_value::{Fields, Items, Num, RangeNum, Text, Value};
-use script_ops::unit_count;
+use script_ops::{Refusal, unit_count};
 
 /// A part of a value.
 #[derive(Debug, Drop)]

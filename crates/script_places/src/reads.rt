@@ -8,10 +8,9 @@ ghost use Rattle.script_places.specs.Reads.{Reads};
 ghost use Rattle.script_places.specs.Steps.{steps_in};
 
 use crate::part::{Part, indexed, named, part_of, value_of};
-use crate::refusal::{Refusal, thrown};
 use crate::step::Step;
 use do_value::{NoMemory, Value};
-use script_ops::OpFault;
+use script_ops::{OpFault, Refusal, thrown};
 use std::alloc::Global;
 
 /// `x.name`: a copy of a record's field, the length of a text or a list, or `undefined`. `null` and `undefined` have no

@@ -10,9 +10,9 @@ ghost use Rattle.script_places.specs.Steps.{step_of, steps_in, change_of};
 ghost use Rattle.script_places.specs.Changes.{Sizes, whole_of};
 
 use crate::part::{held, is_end, part_of, value_of};
-use crate::refusal::Refusal;
 use crate::step::{Step, Write, place_of};
 use do_value::{Fields, Items, Num, Text, Value};
+use script_ops::Refusal;
 
 /// How many bytes the value has after the write, or u64's greatest value where they pass it, or why the write makes
 /// nothing. The limits aren't tested. It calls itself for each step, as `part_at` does.

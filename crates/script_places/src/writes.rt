@@ -8,11 +8,10 @@ ghost use Rattle.script_places.specs.Changes.{Writes, Allows, limits_of};
 ghost use Rattle.script_places.specs.Writes.{written, IsThrown, Keeps};
 
 use crate::change::change;
-use crate::refusal::{Refusal, Stop, fault};
 use crate::size::size_after;
 use crate::step::{Step, Write, levels};
 use do_value::{MOST_BYTES, MOST_LEVELS, Value};
-use script_ops::OpFault;
+use script_ops::{OpFault, Refusal, Stop, fault_of};
 use std::alloc::Global;
 
 /// `=` puts the value in place of the part at the end of the steps, or as a new field, or as a new item behind the last.
@@ -28,7 +27,7 @@ pub fn assign(alloc: Global, whole: &mut Value, steps: &[Step], value: Value) ->
 {
     match write(whole, steps, Write::Put(value)) {
         Ok(_) => Ok(()),
-        Err(stop) => Err(fault(alloc, stop)),
+        Err(stop) => Err(fault_of(alloc, stop)),
     }
 }
 
@@ -47,7 +46,7 @@ pub fn push(
 {
     match write(whole, steps, Write::Push(value)) {
         Ok(count) => Ok(count),
-        Err(stop) => Err(fault(alloc, stop)),
+        Err(stop) => Err(fault_of(alloc, stop)),
     }
 }
 

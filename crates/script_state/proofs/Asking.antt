@@ -23,7 +23,7 @@ use Rattle.script_state.specs.declared.waiting.Waiting.TheVariants as waiting
 
 -- The turns from an ask on, whose batches are closed.
 abbrev asking : Ask → Waiting → turn.State → Env → Next → List Segment
-asking a w st env next = task.asked st.closed st.fields a ∷ resumed (wait_of w st.held.transaction) st.held st.resumes env next
+asking a w st env next = task.asked st.closed st.fields a st.held.block ∷ resumed (wait_of w st.held.transaction) st.held st.resumes env next
 
 -- The state with one more await, or one more call.
 abbrev pub awaiting : State → State

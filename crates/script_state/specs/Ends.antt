@@ -18,7 +18,7 @@ use Rattle.script_state.specs.declared.done.Done.TheVariants as done
 -- The turns from here on where a part ended so: it is over; or the turn ends, by an ask, a limit, or a throw out of a block.
 abbrev pub turns_after : Done → State → Next → List Resume → List Segment
 turns_after (done.Ended o) s next rs = next (outcome_of o) (env_of s.vars) (state_of s rs)
-turns_after (done.Asks a w) s next rs = task.asked s.closed.items s.fields a ∷ resumed (wait_of w s.transaction) (held_of s) rs (env_of s.vars) next
+turns_after (done.Asks a w) s next rs = task.asked s.closed.items s.fields a s.block ∷ resumed (wait_of w s.transaction) (held_of s) rs (env_of s.vars) next
 turns_after done.Exceeded s next rs = task.exceeded s.closed.items ∷ []
 turns_after (done.Reset v) s next rs = task.threw s.closed.items s.fields (tree_of v) true ∷ []
 

@@ -8,8 +8,8 @@ use sample_scripts::{
 use std::alloc::Global;
 use std::test::Fail;
 
-// A fault of each kind.
-const REFUSED: [(CheckKind, u32, &str); 14] = [
+// A fault of each kind, keywords as names of fields, and names without a binding.
+const REFUSED: [(CheckKind, u32, &str); 27] = [
     (CheckKind::Doubled, 50, "m(p) { let p = 1; }"),
     (CheckKind::Reserved, 50, "m() { this.ctx = 1; }"),
     (CheckKind::Unbound, 52, "m() { return y; }"),
@@ -40,10 +40,23 @@ const REFUSED: [(CheckKind, u32, &str); 14] = [
         86,
         "async m() { return await this.ctx.storage.list({start: 1, startAfter: 2}); }",
     ),
+    (CheckKind::BadTarget, 45, "m() { this.if = 1; }"),
+    (CheckKind::BadTarget, 45, "m() { this.if.x = 1; }"),
+    (CheckKind::BadTarget, 45, "m() { this.class += 1; }"),
+    (CheckKind::Form, 52, "m() { return this.class; }"),
+    (CheckKind::Form, 45, "m() { this.if(); }"),
+    (CheckKind::Form, 52, "m() { return this.ctx(1); }"),
+    (CheckKind::Unbound, 52, "m() { return Array.of(1); }"),
+    (CheckKind::Unbound, 52, "m() { return Object.values(1); }"),
+    (CheckKind::Unbound, 52, "m() { return String.raw(1); }"),
+    (CheckKind::Unbound, 52, "m() { return fetch.x(1); }"),
+    (CheckKind::Unbound, 52, "m() { return foo(1); }"),
+    (CheckKind::Unbound, 52, "m() { return Error(1); }"),
+    (CheckKind::Unbound, 52, "m() { return Object.foo; }"),
 ];
 
 // The same without the fault.
-const ACCEPTED: [&str; 14] = [
+const ACCEPTED: [&str; 17] = [
     "m(p) { { let p = 1; } }",
     "m() { this.c = 1; }",
     "m(y) { return y; }",
@@ -58,12 +71,15 @@ const ACCEPTED: [&str; 14] = [
     "async m() { await this.ctx.blockConcurrencyWhile(async () => { await fetch(1); }); }",
     "m() { while (true) { break; } }",
     "async m() { return await this.ctx.storage.list({start: 1, end: 2}); }",
+    "m() { let x = {}; x.if = 1; return x.class; }",
+    "m() { return Object.keys({}); }",
+    "m() { return String(1); }",
 ];
 
 // What the check finds in a script's text.
 fn fault_in(alloc: Global, text: &str) -> Result<Option<CheckFault>, ParseKind> {
     match parse(alloc, text.as_bytes()) {
-        Ok(script) => Ok(check(script).err()),
+        Ok(script) => Ok(check(alloc, script).err()),
         Err(fault) => Err(fault.kind),
     }
 }

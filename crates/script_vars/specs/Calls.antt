@@ -13,4 +13,5 @@ use Rattle.script_vars.specs.declared.bound.Bound.{Bound}
 -- that are left are kept the next one last.
 abbrev pub BindsNext : Name → List Value → List Value → List (List ℕ × Bound) → List (List ℕ × Bound) → Type 0
 BindsNext parameter left rest names more =
-    (ns : List Named) → with_parameters (named_of parameter ∷ ns) (trees_in (reverse left)) (scope_of names) ≡ with_parameters ns (trees_in (reverse rest)) (scope_of more)
+    (ns : List Named) → with_parameters (named_of parameter ∷ ns) (trees_in (reverse left)) (scope_of names)
+    ≡ with_parameters ns (trees_in (reverse rest)) (scope_of more)

@@ -1,5 +1,5 @@
 -- How many of the last operations of a batch deleted a key that was there.
-use Rattle.std.specs.Prelude.{ℕ, ◌-◌, List, length, take, drop, Bool, if◌then◌else◌}
+use Rattle.std.specs.Prelude.{ℕ, ◌-◌, List, length, take, drop}
 use Rattle.storage_map.specs.Contents.{Contents, apply, removed}
 use Rattle.storage_map.specs.declared.op.Op.{Op}
 
@@ -14,7 +14,3 @@ first_ops count ops = take (length ops - count) ops
 -- how many of the last so many operations found the key that they deleted, on the map after those before them
 abbrev pub removed_last : ℕ → Contents → List Op → ℕ
 removed_last count m ops = removed (apply m (first_ops count ops)) (last_ops count ops)
-
--- 1 for yes, 0 for no
-abbrev pub one_if : Bool → ℕ
-one_if there = if there then 1 else 0

@@ -1,4 +1,1 @@
 pub mod Counted
-pub mod Lent
-pub mod Picked
-pub mod Span

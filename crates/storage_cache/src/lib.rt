@@ -2,9 +2,6 @@
 #![tactic(auto)]
 
 mod cache;
-mod prefix;
-mod range;
-mod span;
 
 pub use cache::Cache;
-pub use range::Range;
+pub use storage_map::Range;

@@ -3,3 +3,9 @@ pub mod Folds
 pub mod Members
 pub mod Orders
 pub mod Finite
+pub mod Each
+pub mod Spans
+pub mod Prefixes
+pub mod Ending
+pub mod Picking
+pub mod Lending

@@ -7,4 +7,7 @@ pub mod Stored
 pub mod Orders
 pub mod Readings
 pub mod Kept
+pub mod Lent
+pub mod Picked
+pub mod Span
 pub mod Laws

@@ -1,27 +1,28 @@
 //! Keys.
-ghost use Rattle.std.specs.Prelude.{◌≡◌, IfOk, IfErr};
-ghost use Rattle.storage_map.specs.Limits.{IsKeyFault, IsKey};
+ghost use Rattle.std.specs.Prelude.{◌≡◌, ◌<◌, ◌↔◌, IfOk, IfErr, IfSome, IsNone, length};
+ghost use Rattle.storage_map.specs.Limits.{most_key_bytes, IsKeyFault, IsKey};
 
 use crate::limits::MOST_KEY_BYTES;
-use do_value::{Mem, NoMemory};
+use do_value::{BuildFault, Mem, Text};
 use std::alloc::Global;
 use std::marker::Model;
 
 /// The key of a stored value: a text of at most [`MOST_KEY_BYTES`] bytes, seen by contracts as its UTF-8 bytes.
+/// Copies share the text.
 #[derive(Debug, Drop)]
 pub struct Key {
-    text: String,
+    text: Text,
 }
 
 impl Model for Key {
-    ghost use Rattle.std.specs.Prelude.{List, ℕ, ◌≤◌, string_bytes, length};
+    ghost use Rattle.std.specs.Prelude.{List, ℕ, ◌≤◌, length};
     ghost use Rattle.storage_map.specs.Limits.{most_key_bytes};
 
     ghost Value = { List ℕ };
 
-    ghost view = { λ key. string_bytes key.text };
+    ghost view = { λ key. key.text };
 
-    ghost invariant = { λ key. length (string_bytes key.text) ≤ most_key_bytes };
+    ghost invariant = { λ key. length key.text ≤ most_key_bytes };
 }
 
 /// Why a text is no key.
@@ -44,9 +45,23 @@ impl Key {
         if size > MOST_KEY_BYTES {
             return Err(KeyFault::Long { size });
         }
-        match String::from_str(alloc, text) {
+        match Text::new(alloc, text) {
             Ok(text) => Ok(Key { text }),
-            Err(_) => Err(KeyFault::NoMemory),
+            Err(BuildFault::NoMemory) => Err(KeyFault::NoMemory),
+            Err(_) => unreachable!(),
+        }
+    }
+
+    /// The key that shares this text, or `None` where the text is too long. It takes no memory.
+    pub fn from_text(text: Text) -> Option<Key>
+        ensures key { IfSome result (λ key. key ≡ text) }
+        ensures short { IfSome result IsKey }
+        ensures long { IsNone result ↔ most_key_bytes < length text }
+    {
+        if text.len() > MOST_KEY_BYTES {
+            None
+        } else {
+            Some(Key { text })
         }
     }
 
@@ -58,13 +73,22 @@ impl Key {
         self.text.as_str()
     }
 
-    /// The same key again.
+    /// The text of the key, to be shared.
+    pub fn as_text(&self) -> &Text
+        ensures text { result.now ≡ self.now }
+        ensures key { IsKey self.now }
+    {
+        let _ = self.text.len();
+        &self.text
+    }
+
+    /// The same key again. It is shared, so it takes no memory. The fault comes only where its owners can't be counted
+    /// any more.
     pub fn copy(&self) -> Mem<Key>
         ensures { IfOk result (λ key. key ≡ self.now) }
     {
-        match self.text.clone() {
-            Ok(text) => Ok(Key { text }),
-            Err(_) => Err(NoMemory),
-        }
+        Ok(Key {
+            text: self.text.copy()?,
+        })
     }
 }

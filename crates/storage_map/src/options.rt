@@ -4,7 +4,7 @@ ghost use Rattle.std.specs.Bool.{nat_eq};
 ghost use Rattle.std.specs.List.{starts_with};
 ghost use Rattle.std.specs.Ordering.{is_lt, is_le};
 ghost use Rattle.storage_map.specs.Contents.{by_bytes};
-ghost use Rattle.storage_map.specs.Readings.{passes, keeps};
+ghost use Rattle.storage_map.specs.Readings.{passes, keeps, every};
 
 use do_value::{Mem, Text};
 
@@ -27,6 +27,20 @@ pub struct Options {
 }
 
 impl Options {
+    /// Every pair, from the first key to the last.
+    pub fn every() -> Options
+        ensures { result ≡ every }
+    {
+        Options {
+            start: None,
+            after: None,
+            end: None,
+            prefix: None,
+            reverse: false,
+            limit: None,
+        }
+    }
+
     /// Whether the listing keeps the key, as far as its bounds go.
     pub fn keeps(&self, key: &str) -> bool
         ensures { result ≡ keeps self.now key.now }

@@ -8,7 +8,8 @@ ghost use Rattle.storage_txn.specs.Writes.{ops_of, added, extended, IsOnKey, IsO
 ghost use Rattle.storage_txn.specs.Faults.{IsWriteFault, IsExtendFault, IsReadFault};
 
 use crate::fault::TxnFault;
-use crate::overlay::{asked_below, overlaid};
+use crate::overlay::{asked_below, seen};
+use crate::places::Places;
 use do_value::Value;
 use std::alloc::Global;
 use std::marker::Model;
@@ -21,6 +22,7 @@ use write_batcher::{Batcher, EMPTY_BATCH_BYTES};
 pub struct Txn {
     alloc: Global,
     batcher: Option<Batcher>,
+    places: Places,
 }
 
 impl Model for Txn {
@@ -28,7 +30,7 @@ impl Model for Txn {
     ghost use Rattle.std.specs.Coded.{coded_list, coded_option};
     ghost use Rattle.storage_map.specs.declared.op.Op.{Op as OneOp};
     ghost use Rattle.storage_map.specs.contracts.op.Op as one_op;
-    ghost use Rattle.storage_txn.specs.Writes.{IsKeyed};
+    ghost use Rattle.storage_txn.specs.Placed.{AreKnown};
 
     ghost Value = { Option (List OneOp) };
 
@@ -36,7 +38,7 @@ impl Model for Txn {
 
     ghost view = { λ txn. txn.batcher };
 
-    ghost invariant = { λ txn. IsKeyed txn.batcher };
+    ghost invariant = { λ txn. AreKnown txn.batcher txn.places };
 }
 
 impl Txn {
@@ -47,6 +49,7 @@ impl Txn {
         Txn {
             alloc,
             batcher: Some(Batcher::new(alloc)),
+            places: Places::new(alloc),
         }
     }
 
@@ -63,6 +66,7 @@ impl Txn {
             return Err(TxnFault::RolledBack);
         };
         batcher.add(Op::put(key, value)?)?;
+        self.places.take(batcher.as_slice());
         Ok(())
     }
 
@@ -79,6 +83,7 @@ impl Txn {
             return Err(TxnFault::RolledBack);
         };
         batcher.add(Op::Delete { key })?;
+        self.places.take(batcher.as_slice());
         Ok(())
     }
 
@@ -97,6 +102,7 @@ impl Txn {
             return Err(TxnFault::RolledBack);
         };
         batcher.extend(ops)?;
+        self.places.take(batcher.as_slice());
         Ok(())
     }
 
@@ -142,7 +148,7 @@ impl Txn {
         let Some(batcher) = &self.batcher else {
             return Err(TxnFault::RolledBack);
         };
-        Ok(overlaid(self.alloc, batcher.as_slice(), ask, below)?)
+        Ok(seen(self.alloc, &self.places, batcher.as_slice(), ask, below)?)
     }
 
     /// Drops the writes, and refuses every further call but [`commit`](Txn::commit) and [`size`](Txn::size).
@@ -164,7 +170,12 @@ impl Txn {
         ensures batch { IfSome result (λ batch. self ≡ Some batch) }
         ensures none { IsNone result ↔ ops_of self ≡ [] }
     {
-        match self.batcher {
+        let Txn {
+            alloc: _,
+            batcher,
+            places: _places,
+        } = self;
+        match batcher {
             Some(mut batcher) => batcher.close(),
             None => None,
         }

@@ -65,7 +65,7 @@ fn value(alloc: Global, text: &str) -> Result<Value, Fail> {
 
 fn values(alloc: Global, text: &str) -> Result<Vec<Value>, Fail> {
     match value(alloc, text)? {
-        Value::List(items) => Ok(items.into_values()),
+        Value::List(items) => Ok(items.into_values()?),
         _ => Err("no list")?,
     }
 }
@@ -123,7 +123,7 @@ fn answer(alloc: Global, given: Given) -> Result<Answer, Fail> {
 // The script of a text that is right.
 fn script(alloc: Global, text: &str) -> Result<Checked, Fail> {
     match parse(alloc, text.as_bytes()) {
-        Ok(script) => match check(script) {
+        Ok(script) => match check(alloc, script) {
             Ok(checked) => Ok(checked),
             Err(_) => Err("refused by the check")?,
         },

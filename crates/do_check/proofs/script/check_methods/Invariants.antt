@@ -6,4 +6,4 @@ use Rattle.do_check.proofs.script.check_methods.Given as goal
 
 abbrev pub invariant-loop-method : goal.invariant-loop-method
 invariant-loop-method l =
-    least l.found (methods_faults (class_of l.class) (map method_of (drop l.method-index l.methods))) ≡ least l.fn.found (methods_faults (class_of l.class) (map method_of l.methods))
+    least l.found (methods_faults (class_of l.all.class.now) (map method_of (drop l.method-index l.methods))) ≡ least l.fn.found (methods_faults (class_of l.all.class.now) (map method_of l.methods))

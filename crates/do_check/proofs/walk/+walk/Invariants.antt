@@ -2,6 +2,7 @@ use Rattle.std.proofs.Common.{◌≡◌, drop, take}
 use Rattle.do_check.specs.First.{least}
 use Rattle.do_check.specs.Parts.{args_faults, exprs_faults, items_faults, links_faults, operands_faults, pairs_faults}
 use Rattle.do_check.specs.Sight.{behind, path_in, role_of, scope_in, stage_of}
+use Rattle.do_check.specs.Sorts.{AreSorts}
 use Rattle.do_tree.specs.Nodes.{args_in, exprs_in, links_in, operands_in, pairs_in}
 use Rattle.do_tree.specs.Seen.{items_in}
 use Rattle.do_check.proofs.walk.+walk.Given as goal
@@ -29,6 +30,8 @@ invariant-walk_links-loop-i l =
     ≡ least l.fn.found (links_faults (scope_in l.scope) (path_in l.path) (stage_of l.fn.stage) (links_in l.links))
 
 abbrev pub invariant-walk_items-loop-i : goal.invariant-walk_items-loop-i
-invariant-walk_items-loop-i l =
-    least l.found (items_faults (record (scope_in l.scope) { names = behind (take l.i l.items) (scope_in l.scope).names }) (items_in (drop l.i l.items)))
-    ≡ least l.fn.found (items_faults (scope_in l.scope) (items_in l.items))
+invariant-walk_items-loop-i l = record {
+  found : least l.found (items_faults (record (scope_in l.scope) { names = behind (take l.i l.items) (scope_in l.scope).names }) (items_in (drop l.i l.items)))
+      ≡ least l.fn.found (items_faults (scope_in l.scope) (items_in l.items));
+  sorts : AreSorts l.sorts (take l.i l.items);
+}

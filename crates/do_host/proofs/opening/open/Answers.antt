@@ -1,6 +1,6 @@
 use Rattle.std.proofs.Common.{◌∙◌, inr, ap, Err}
 use Rattle.std.proofs.lemmas.Result.{err_from_is_err_and}
-use Rattle.do_host.specs.declared.stop.Stop.TheVariants.{NotBuilt}
+use Rattle.do_host.specs.declared.run_end.RunEnd.TheVariants.{NotBuilt}
 use Rattle.do_host.proofs.Accepted.{handed_opening, handed_refused, handed_stopped, script_not_barred}
 use Rattle.do_host.proofs.Ends.{slot_not_refused, slot_is_built}
 use Rattle.do_host.proofs.Mounted.{asked_both, asks_behind}

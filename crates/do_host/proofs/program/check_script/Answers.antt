@@ -1,5 +1,5 @@
 use Rattle.std.proofs.Common.{inl, arith}
-use Rattle.do_host.specs.declared.stop.Stop.TheVariants.{DiskFailed}
+use Rattle.do_host.specs.declared.run_end.RunEnd.TheVariants.{DiskFailed}
 use Rattle.do_host.proofs.Ends.{by_refusal, by_stop, end_two, end_three, end_low, ended_silent, refusal_told, check_part, check_end_status, told_is_script, opening_writes}
 use Rattle.do_host.proofs.program.check_script.Goals as goal
 

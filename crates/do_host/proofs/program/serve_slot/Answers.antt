@@ -1,6 +1,7 @@
 use Rattle.std.proofs.Common.{◌≡◌, ◌++◌, ◌∷◌, [], sym, ap, subst, ◌∙◌}
 use Rattle.do_host.specs.Report.{IsSlotHistory, StaysWithin, IsQuiet}
 use Rattle.do_host.specs.NotBuilt.{IsNotBuilt}
+use Rattle.do_host.specs.Limits.{synced_at}
 use Rattle.do_host.specs.Opened.{row_of}
 use Rattle.line_server.specs.Lines.{source_of}
 use Rattle.do_host.specs.Status.{status_in, IsStatus}
@@ -15,7 +16,7 @@ returns-clause-history g c = λ content opened.
     let one : c.add_row.new.slots.items ≡ row_of next ∷ [] = c.add_row.ensures ∙ ap (λ rows. rows ++ row_of next ∷ []) c.requires.empty.slots in
     let row : IsSlotHistory g.D.Disk.moment_of g.D.Disk.left_since g.D.Disk.image content c.serve-served.new.log (row_of next) =
     row_history g.D.Disk.moment_of g.D.Disk.left_since g.D.Disk.told g.D.Disk.image content c.args.core next c.args.report.now.switch c.serve-served.new.log c.serve-served.result opened
-    c.requires.fresh c.requires.empty.switch c.serve-served.ensures.stands c.serve-served.ensures.logged (c.serve-served.ensures.history 0 opened.start opened.serving) in
+    c.requires.fresh c.requires.empty.switch c.serve-served.ensures.stands c.serve-served.ensures.logged (c.serve-served.ensures.history synced_at opened.start opened.serving) in
     all_one (IsSlotHistory g.D.Disk.moment_of g.D.Disk.left_since g.D.Disk.image content c.serve-served.new.log) c.add_row.new.slots.items (row_of next) one row
 
 pub returns-clause-written : goal.returns-clause-written
@@ -80,4 +81,9 @@ returns-clause-within g c = λ content opened.
     let next = c.serve-served.new.core in
     let one : c.add_row.new.slots.items ≡ row_of next ∷ [] = c.add_row.ensures ∙ ap (λ rows. rows ++ row_of next ∷ []) c.requires.empty.slots in
     all_one (StaysWithin g.D.Disk.left_since content) c.add_row.new.slots.items (row_of next) one
-    (row_within g.D.Disk.moment_of g.D.Disk.left_since g.D.Disk.told g.D.Disk.image content c.args.core next opened c.serve-served.ensures.same_limit (c.serve-served.ensures.within 0 opened.start opened.serving opened.within))
+    (row_within g.D.Disk.moment_of g.D.Disk.left_since g.D.Disk.told g.D.Disk.image content c.args.core next opened c.serve-served.ensures.same_limit (c.serve-served.ensures.within synced_at opened.start opened.serving opened.within))
+
+pub returns-clause-all_read : goal.returns-clause-all_read
+returns-clause-all_read g c = λ five whole told.
+    let failed = read_end c.serve-served.result (sym c.status_of.ensures ∙ five) in
+    rw (c.count-report.ensures.value, c.into_source.ensures) (c.serve-served.ensures.read_all failed whole (c.new-lines.ensures.reading whole told))

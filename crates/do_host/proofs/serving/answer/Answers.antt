@@ -5,8 +5,8 @@ use Rattle.object_core.specs.Serving.{IsServing, IsHistoryOf, object_of, front_o
 use Rattle.do_host.specs.FirstForm.{IsFirstLine}
 use Rattle.do_host.specs.NotBuilt.{MeetsLimit}
 use Rattle.do_host.specs.Status.{call_stop}
-use Rattle.do_host.specs.declared.stop.Stop.TheVariants.{NotBuilt}
-use Rattle.do_host.specs.declared.stop.Stop.{Stop}
+use Rattle.do_host.specs.declared.run_end.RunEnd.TheVariants.{NotBuilt}
+use Rattle.do_host.specs.declared.run_end.RunEnd.{RunEnd}
 use Rattle.do_host.specs.Served.{Stands, IsLogged, SameSwitch, Routes, StopsAt}
 use Rattle.do_host.proofs.Standing.{stands_called, stands_routed, logged_same, logged_refused, logged_routed, delivered_on, released_on}
 use Rattle.do_host.proofs.Outcomes.{on_ok, on_err, on_ok_map, on_err_map, on_err_if, if_err, end_is}
@@ -107,7 +107,7 @@ returns-in_err-message-clause-stops g c =
 pub returns-clause-stops : goal.returns-clause-stops
 returns-clause-stops g c =
     let form : IsFirstLine (object_of c.args.core.now) c.args.line = search rules in
-    let stops : SameSwitch c.post.new.log c.route.new.log ⊎ Routes c.in_ok-message.message c.post.new.log c.route.new.log → (stop : Stop) → StopsAt (object_of c.args.core.now) c.args.line c.args.log.now c.route.new.log stop =
+    let stops : SameSwitch c.post.new.log c.route.new.log ⊎ Routes c.in_ok-message.message c.post.new.log c.route.new.log → (stop : RunEnd) → StopsAt (object_of c.args.core.now) c.args.line c.args.log.now c.route.new.log stop =
     λ end stop. inr (⊎_elim (λ same. same.accepted) (λ routes. routes.accepted) end ∙ c.in_ok-event.ensures.accepted, form) in
     on_err_if c.route.result _ _ stops c.route.ensures.stopped
 

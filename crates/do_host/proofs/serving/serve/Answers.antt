@@ -6,7 +6,7 @@ use Rattle.line_server.specs.Lines.{LooksAt}
 use Rattle.line_server.specs.Seen.{seen}
 use Rattle.do_host.specs.Status.{status_in, most_waiting}
 use Rattle.do_host.proofs.Accepting.{reading_on, first_at_stop, first_none, looked_at_stop, looked_none_more}
-use Rattle.do_host.proofs.Outcomes.{good_is_no_fault, on_err, waiting_fault}
+use Rattle.do_host.proofs.Outcomes.{failed_line, good_is_no_fault, on_err, waiting_fault}
 use Rattle.do_host.proofs.Written.{written_all}
 use Rattle.do_host.proofs.Unbuilt.{odd_next, odd_through, formed_on, formed_at_stop}
 use Rattle.line_server.specs.declared.line.Line.{Line}
@@ -37,6 +37,11 @@ returns-in_err-line-clause-read_stands g c = λ failed first stands. c.loop-line
 
 pub returns-in_err-line-clause-read_serving : goal.returns-in_err-line-clause-read_serving
 returns-in_err-line-clause-read_serving g c = λ failed since start serving. c.loop-line.invariant.serving since start serving
+
+pub returns-in_err-line-clause-read_all : goal.returns-in_err-line-clause-read_all
+returns-in_err-line-clause-read_all g c = λ failed whole reading.
+    let p = err_from_is_err_and c.from_residual.result c.from_residual.ensures.1 in
+    c.in_err-line.ensures.exact (ap Err (failed_line c.in_err-line.field-0.0 (sym (p.1 ∙ ap Err p.2) ∙ failed))) whole _ (c.loop-line.invariant.reading whole reading)
 
 pub loop-line-preserved : goal.loop-line-preserved
 loop-line-preserved g c = record {

@@ -35,7 +35,7 @@ pub returns-in-Err-Unexpected-clause-refuses : goal.returns-in-Err-Unexpected-cl
 returns-in-Err-Unexpected-clause-refuses c =
     let p = rw c.in-Err-Unexpected.field-0-is at c.in-Err-Unexpected.ensures.parses in
     subst (λ f. IsFault c.args.text.now f) (sym (rw c.next.ensures at c.wrong_at.ensures))
-    (top_unexpected c.args.text.now c.in-Ok.lexed.tokens.items c.script.new.self c.in-Ok.lexed.fault c.in-Ok.lexed.end (omega arith) c.in-Ok.ensures.end
+    (top_unexpected c.args.text.now c.in-Ok.lexed.tokens.items c.script.new.self c.in-Ok.lexed.fault c.end_of_text-end.result (omega arith) c.end_of_text-end.ensures.value
     c.in-Ok.ensures.lexed (subst (λ x. Parses IsWhole NothingLeft x c.script.new.self (Err Unexpected)) (c.new-cursor.ensures ∙ c.deref.ensures.value) p))
 
 pub returns-in-Err-TooNested-clause-refuses : goal.returns-in-Err-TooNested-clause-refuses

@@ -1,5 +1,5 @@
 use Rattle.std.proofs.Common.{◌≡◌, ◌≤◌, length, refl, sym, ◌∙◌, ap, subst, arith}
-use Rattle.do_parse.proofs.Cutting.{cut_none, cut_fault, cut_more, slices_on, end_on}
+use Rattle.do_parse.proofs.Cutting.{cut_none, cut_fault, cut_more, slices_on}
 use Rattle.do_parse.proofs.cut.cut.Goals as goal
 
 pub reading-preserved : goal.reading-preserved
@@ -15,7 +15,6 @@ reading-preserved c =
       within = subst (λ n. n ≤ length c.args.text.now) (sym behind) (subst (λ xs. c.in-Ok-Some.token.end ≤ length xs) i.text_is inside);
       cut = cut_more c.args.text.now c.reading.reader.text c.reading.reader.at c.next.new.self.at c.reading.tokens.items c.push.new.self.items c.in-Ok-Some.token i.text_is c.in_ok-push-in-Ok-Some.ensures.items behind i.cut exact;
       slices = slices_on c.args.text.now c.reading.reader.text c.reading.tokens.items c.push.new.self.items c.in-Ok-Some.token i.text_is c.in_ok-push-in-Ok-Some.ensures.items i.slices slice;
-      end_is = end_on c.reading.tokens.items c.push.new.self.items c.in-Ok-Some.token c.in_ok-push-in-Ok-Some.ensures.items;
     }
 
 pub returns-in-Ok-None-clause-lexed : goal.returns-in-Ok-None-clause-lexed

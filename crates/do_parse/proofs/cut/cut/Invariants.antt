@@ -3,7 +3,6 @@ use Rattle.do_lex.specs.Cursor.{span_of}
 use Rattle.do_lex.specs.Cut.{IsCut}
 use Rattle.do_lex.specs.declared.fault.LexFault.{LexFault}
 use Rattle.do_lex.specs.declared.pieces.Span.{Span}
-use Rattle.do_tree.specs.Accepts.{end_of}
 use Rattle.do_parse.specs.Cuts.{AreSlices}
 use Rattle.do_parse.proofs.cut.cut.Given as goal
 
@@ -13,7 +12,6 @@ invariant-reading l = record {
   within : l.reader.at ≤ length l.text;
   cut : (spans : List Span) (last : Option LexFault) → IsCut l.text l.reader.at spans last → IsCut l.text 0 (map span_of l.tokens.items ++ spans) last;
   slices : AreSlices l.text l.tokens.items;
-  end_is : l.end ≡ end_of (map span_of l.tokens.items);
 }
 
 abbrev pub decreases-reading : goal.decreases-reading

@@ -9,7 +9,7 @@ use Rattle.do_value.specs.Keyed.{gathered}
 use Rattle.do_value.specs.declared.value.Value.TheVariants.{List as Listed, Rec}
 use Rattle.do_wire.specs.Numbers.{numbers, item_numbers, member_numbers, first_fault}
 use Rattle.do_wire.specs.Reading.{tree_in, trees_in_items, pairs_in_members}
-use Rattle.do_wire.proofs.Answered.{larger, handed_on, text_fault, unbuilt, built_small, record_unbuilt, record_small}
+use Rattle.do_wire.proofs.Answered.{larger, handed_on, text_fault, record_unbuilt, record_small}
 use Rattle.do_wire.proofs.FirstFault.{item_good, member_good}
 use Rattle.do_wire.proofs.Within.{item_depth, item_size, member_depth, member_size, key_size}
 use Rattle.do_wire.proofs.Walked.{pair_in, list_walked, record_walked}
@@ -40,19 +40,19 @@ build_list-returns-in_err-list-clause-fault t c =
     let l = c.loop-item in
     let same = list_walked c.args.items.now.items c.deref-item-items.result.now l.item-index (trees_in l.values.items) c.deref-item-items.ensures.value c.loop-item-test.false l.invariant in
     handed_on _ _ _ (err_from_is_err_and c.from_residual-in_err-list.result c.from_residual-in_err-list.ensures.1)
-    (unbuilt (Listed (trees_in l.values.items)) _ _ c.in_err-list.ensures.exact same c.requires.shallow)
+    (record_unbuilt (Listed (trees_in l.values.items)) _ _ c.in_err-list.ensures.exact same c.requires.shallow)
 
 pub build_list-returns-clause-value : goal.build_list-returns-clause-value
 build_list-returns-clause-value t c =
     let l = c.loop-item in
     let same = list_walked c.args.items.now.items c.deref-item-items.result.now l.item-index (trees_in l.values.items) c.deref-item-items.ensures.value c.loop-item-test.false l.invariant in
-    (built_small (Listed (trees_in l.values.items)) _ _ c.in_ok-list.ensures.exact same).0
+    (record_small (Listed (trees_in l.values.items)) _ _ c.in_ok-list.ensures.exact same).0
 
 pub build_list-returns-clause-small : goal.build_list-returns-clause-small
 build_list-returns-clause-small t c =
     let l = c.loop-item in
     let same = list_walked c.args.items.now.items c.deref-item-items.result.now l.item-index (trees_in l.values.items) c.deref-item-items.ensures.value c.loop-item-test.false l.invariant in
-    (built_small (Listed (trees_in l.values.items)) _ _ c.in_ok-list.ensures.exact same).1
+    (record_small (Listed (trees_in l.values.items)) _ _ c.in_ok-list.ensures.exact same).1
 
 pub build_record-returns-in_err-key-clause-fault : goal.build_record-returns-in_err-key-clause-fault
 build_record-returns-in_err-key-clause-fault t c =

@@ -1,13 +1,13 @@
 use Rattle.std.proofs.Common.{[], Ok, ap, ◌∙◌, arith}
 use Rattle.std.proofs.lemmas.Result.{err_from_is_err_and}
-use Rattle.line_server.proofs.Taking.{given_on, takes_at_end, takes_last, takes_none, takes_room, taking_on}
+use Rattle.line_server.proofs.Taking.{stops_failed, stops_wanting, takes_at_end, takes_last, takes_none, takes_room, taking_on}
 use Rattle.line_server.proofs.Counts.{reads_failed, reads_refused}
 use Rattle.line_server.proofs.cut.cut.Goals as goal
 
 pub returns-in_err-next-clause-line : goal.returns-in_err-next-clause-line
 returns-in_err-next-clause-line g c =
     let p = err_from_is_err_and c.from_residual.result c.from_residual.ensures.1 in
-    rw p.1 (given_on g.R.Source.left _ _ _ _ [] c.loop-line.invariant.taking c.in_err-next.ensures.gives)
+    rw p.1 (stops_failed g.R.Source.left _ _ _ _ p.0 c.loop-line.invariant.taking c.in_err-next.ensures.gives c.in_err-next.ensures.none_held c.loop-line-test.true)
 
 pub returns-in_err-next-clause-reads : goal.returns-in_err-next-clause-reads
 returns-in_err-next-clause-reads g c =
@@ -28,7 +28,7 @@ loop-line-preserved g c = record {
 pub returns-in_err-push-in-Some-clause-line : goal.returns-in_err-push-in-Some-clause-line
 returns-in_err-push-in-Some-clause-line g c =
     let p = err_from_is_err_and c.from_residual-in_err-push-in-Some.result c.from_residual-in_err-push-in-Some.ensures.1 in
-    rw p.1 (given_on g.R.Source.left _ _ _ _ _ c.loop-line.invariant.taking c.in_ok-next.ensures.gives)
+    rw p.1 (stops_wanting g.R.Source.left _ _ _ _ _ p.0 c.loop-line.invariant.taking c.in_ok-next.ensures.gives p.2)
 
 pub returns-in_err-push-in-Some-clause-reads : goal.returns-in_err-push-in-Some-clause-reads
 returns-in_err-push-in-Some-clause-reads g c =

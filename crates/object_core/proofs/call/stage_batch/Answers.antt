@@ -7,5 +7,5 @@ use Rattle.object_core.proofs.call.stage_batch.Goals as goal
 
 pub returns-clause-values : goal.returns-clause-values
 returns-clause-values g c =
-    on_ok_weaker c.stage.result (λ staged key. ap (λ (m : Contents). value_in m key) c.in_ok-apply.ensures ∙ value_after-apply c.args.map.now c.args.batch.now key)
+    on_ok_weaker c.stage.result (λ staged key. ap (λ (m : Contents). value_in m key) c.in_ok-apply.ensures.applied ∙ value_after-apply c.args.map.now c.args.batch.now key)
     c.stage.ensures.staged

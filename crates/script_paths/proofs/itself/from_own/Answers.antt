@@ -9,7 +9,6 @@ use Rattle.script_mean.specs.Turn.{Run}
 use Rattle.script_places.specs.Steps.{steps_in}
 use Rattle.script_steps.proofs.Begun.{if_ok}
 use Rattle.script_steps.specs.Parts.{links_in}
-use Rattle.script_vars.specs.Seen.{env_of}
 use Rattle.script_paths.proofs.Onward.{less_more, plain_parts, pushed_field, read_field}
 use Rattle.script_paths.proofs.itself.from_own.Goals as goal
 
@@ -19,8 +18,8 @@ returns-then-pushes_at-clause-same c =
     let a : bytes_eq (codes "ctx") c.args.name ≡ false = c.requires.not_context in
     let b : bytes_eq (codes "env") c.args.name ≡ false = c.requires.not_environment in
     let h : pushes ls ≡ true = sym c.pushes_at.ensures ∙ c.if-pushes_at.true in
-    λ calls next st here.
-    ap (λ (r : Run). r (env_of c.args.vars.now) next st) (pushed_field c.args.awaited calls c.args.name ls a b h ∙ ap (λ ss. to_push calls (own c.args.name) (steps_in ss) ls) (sym c.new.ensures.items))
+    λ calls env next st here.
+    ap (λ (r : Run). r env next st) (pushed_field c.args.awaited calls c.args.name ls a b h ∙ ap (λ ss. to_push calls (own c.args.name) (steps_in ss) ls) (sym c.new.ensures.items))
 
 pub returns-then-pushes_at-clause-less : goal.returns-then-pushes_at-clause-less
 returns-then-pushes_at-clause-less c =
@@ -37,12 +36,14 @@ returns-clause-same c =
     let a : bytes_eq (codes "ctx") c.args.name ≡ false = c.requires.not_context in
     let b : bytes_eq (codes "env") c.args.name ≡ false = c.requires.not_environment in
     let h : pushes ls ≡ false = sym c.pushes_at.ensures ∙ c.if-pushes_at.false in
-    if_ok c.from_own_value.result
-    (λ m p calls next st here.
-    ap (λ (r : Run). r (env_of c.args.vars.now) next st) (read_field c.args.awaited calls c.args.name ls a b h)
-    ∙ ap (λ fs. links c.args.awaited calls (holds (or_undefined (value_at c.args.name fs))) ls (env_of c.args.vars.now) next st) here
-    ∙ p calls next st)
-    c.from_own_value.ensures.same
+    if_ok c.from_value.result
+    (λ m p calls env next st here.
+    ap (λ (r : Run). r env next st) (read_field c.args.awaited calls c.args.name ls a b h)
+    ∙ ap (λ fs. links c.args.awaited calls (holds (or_undefined (value_at c.args.name fs))) ls env next st) here
+    ∙ ap (λ n. links c.args.awaited calls (holds (or_undefined (value_at n c.args.fields.now))) ls env next st) (sym c.as_str.ensures)
+    ∙ ap (λ v. links c.args.awaited calls (holds v) ls env next st) (sym c.in_ok-value.ensures)
+    ∙ ap (λ (r : Run). r env next st) (p calls))
+    c.from_value.ensures.same
 
 pub returns-clause-less : goal.returns-clause-less
 returns-clause-less c =
@@ -51,4 +52,4 @@ returns-clause-less c =
     let b : bytes_eq (codes "env") c.args.name ≡ false = c.requires.not_environment in
     let h : pushes ls ≡ false = sym c.pushes_at.ensures ∙ c.if-pushes_at.false in
     let many = plain_parts c.args.name ls a b false h in
-    less_more (10 + 10 * parts ls) (20 + 10 * parts_of_own c.args.name ls) (omega arith) _ c.from_own_value.ensures.less
+    less_more (10 + 10 * parts ls) (20 + 10 * parts_of_own c.args.name ls) (omega arith) _ c.from_value.ensures.less

@@ -7,7 +7,7 @@ use Rattle.line_server.proofs.lines.Lines.read.Goals as goal
 pub returns-in_err-raw-clause-on : goal.returns-in_err-raw-clause-on
 returns-in_err-raw-clause-on g c =
     let p = err_from_is_err_and c.from_residual.result c.from_residual.ensures.1 in
-    rw p.1 (reads_fault g.R.Source.left c.args.self.now c.loop-self.self _ p.0 c.in_err-raw.ensures.line.0 c.loop-self.invariant.stays c.in_err-raw.ensures.line.1 refl c.loop-self.invariant.counted)
+    rw p.1 (reads_fault g.R.Source.left c.args.self.now c.loop-self.self _ p.0 c.loop-self.invariant.stays (rw p.2 c.in_err-raw.ensures.line) refl c.loop-self.invariant.counted)
 
 pub returns-in_default-clause-on : goal.returns-in_default-clause-on
 returns-in_default-clause-on g c =

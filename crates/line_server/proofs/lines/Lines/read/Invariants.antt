@@ -1,5 +1,5 @@
 use Rattle.std.proofs.Common.{◌-◌, ◌≡◌, ◌≤◌, None}
-use Rattle.line_server.specs.declared.TheConstants.{MOST_LINES}
+use Rattle.line_server.specs.Limits.{most_lines}
 use Rattle.line_server.proofs.ReadOn.{Stays}
 use Rattle.line_server.proofs.lines.Lines.read.Given as goal
 
@@ -12,4 +12,4 @@ invariant-loop-self g l = record {
 }
 
 abbrev pub decreases-loop-self : goal.decreases-loop-self
-decreases-loop-self g l = MOST_LINES - l.self.count
+decreases-loop-self g l = most_lines - l.self.count

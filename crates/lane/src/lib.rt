@@ -1,0 +1,13 @@
+//! Lanes: queues without a bound, each with one end that sends and one that takes. What stands over a lane is generic over its
+//! ends, so that one thread runs it over plain queues, and many over lanes.
+#![tactic(auto)]
+
+mod plain;
+mod trail;
+mod traits;
+
+pub use plain::Plain;
+pub use traits::{Inlet, Outlet, SendFault};
+
+#[cfg(test)]
+mod tests;

@@ -1,0 +1,56 @@
+//! Cases of values and of the storage of one object. A case is a line of JSON, and a line answers it.
+#![tactic(auto)]
+
+mod limits;
+mod stores;
+mod tell;
+mod values;
+
+use do_value::Value;
+use serde_json::Value as Json;
+use std::alloc::Global;
+use std::test::Fail;
+use test_rows::{row_of, word};
+use write_batcher::Batcher;
+
+// What the cases go on with.
+#[derive(Drop)]
+struct State {
+    values: Vec<Value>,
+    stores: stores::Stores,
+    batcher: Batcher,
+}
+
+fn answer(alloc: Global, state: &mut State, row: &Json) -> Result<String, Fail> {
+    let mut line = String::new(alloc);
+    match word(row, 0) {
+        "value" => values::answer(alloc, &mut state.values, row, &mut line)?,
+        "store" => stores::answer(alloc, &mut state.stores, row, &mut line)?,
+        "batch" => limits::answer_batch(alloc, &mut state.batcher, row, &mut line)?,
+        _ => limits::answer(alloc, row, &mut line)?,
+    }
+    Ok(line)
+}
+
+// The answer to a line's case, or the heading that it is.
+fn answer_line(alloc: Global, state: &mut State, text: &str) -> Result<String, Fail> {
+    match row_of(alloc, text) {
+        Some(row) => answer(alloc, state, &row),
+        None => Ok(String::from_str(alloc, text)?),
+    }
+}
+
+fn main(rt: HostRuntime) -> Result<(), Fail> {
+    let alloc = rt.alloc();
+    let mut state = State {
+        values: Vec::new(alloc),
+        stores: stores::Stores::new(alloc),
+        batcher: Batcher::new(alloc),
+    };
+    for line in rt.lines(alloc) {
+        let line = line?;
+        let told = answer_line(alloc, &mut state, line.as_str())?;
+        println!(rt; "{told}")?;
+    }
+    Ok(())
+}

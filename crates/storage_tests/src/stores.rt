@@ -1,0 +1,301 @@
+//! A map, a cache over a copy of it, and a transaction with the same writes over an empty map. Each answers each ask.
+ghost use Rattle.std.specs.Prelude.{IfOk};
+ghost use Rattle.storage_map.specs.Ops.{IsOp};
+
+use crate::tell::{tell_pair, tell_reading};
+use do_value::{Num, Text, Value};
+use serde_json::Value as Json;
+use std::alloc::Global;
+use std::mem;
+use std::test::Fail;
+use storage_cache::Cache;
+use storage_map::{Batch, Identity, Key, Keys, Map, Op, Options, Reading, StoreAsk, laws};
+use storage_txn::{Txn, TxnFault, laws as txn_laws};
+use test_rows::{count, tell_number, word};
+
+#[derive(Drop)]
+pub(crate) struct Stores {
+    map: Map,
+    cache: Cache,
+    txn: Txn,
+}
+
+impl Stores {
+    pub(crate) fn new(alloc: Global) -> Stores {
+        Stores {
+            map: Map::new(alloc),
+            cache: Cache::new(Map::new(alloc)),
+            txn: Txn::new(alloc),
+        }
+    }
+}
+
+pub(crate) fn answer(
+    alloc: Global,
+    stores: &mut Stores,
+    row: &Json,
+    line: &mut String,
+) -> Result<(), Fail> {
+    match word(row, 1) {
+        "keys" => {
+            *stores = numbered(alloc, row)?;
+            Ok(())
+        }
+        "list" => list(alloc, stores, row, line),
+        "many" => ask(
+            alloc,
+            stores,
+            &StoreAsk::GetMany(keys_of(alloc, row)?),
+            line,
+        ),
+        "get" => {
+            let key = Key::new(alloc, word(row, 2))?;
+            ask(alloc, stores, &StoreAsk::Get(key), line)
+        }
+        "alarm" => ask(alloc, stores, &StoreAsk::Alarm, line),
+        "wipe" => wipe(alloc, &mut stores.map),
+        "delete" => delete(alloc, &mut stores.cache, row, line),
+        "copies" => tell_copies(alloc, &stores.map, line),
+        _ => write(alloc, &mut stores.txn, row, line),
+    }
+}
+
+fn put(alloc: Global, key: &str, number: i64) -> Result<Op, Fail>
+    ensures { IfOk result IsOp }
+{
+    let key = Key::new(alloc, key)?;
+    let number = Num::new(number)?;
+    Ok(Op::put(key, Value::Num(number))?)
+}
+
+fn one(alloc: Global, op: Op) -> Result<Batch, Fail>
+    requires { IsOp op }
+{
+    laws::one_op_is_a_batch();
+    Ok(Batch::new(vec![in alloc; op]?))
+}
+
+fn add(alloc: Global, map: &mut Map, key: &str, number: i64) -> Result<(), Fail> {
+    let op = put(alloc, key, number)?;
+    map.apply_op(&op)?;
+    Ok(())
+}
+
+// The map of these keys, in this order, with the values 1, 2, 3 and on.
+fn map_of(alloc: Global, row: &Json) -> Result<Map, Fail> {
+    let mut map = Map::new(alloc);
+    for at in 2..100 {
+        let Some(key) = row.get(at).and_then(Json::as_str) else {
+            break;
+        };
+        add(alloc, &mut map, key, at as i64 - 1)?;
+    }
+    Ok(map)
+}
+
+fn add_write(alloc: Global, txn: &mut Txn, key: &str, number: i64) -> Result<(), Fail> {
+    let number = Num::new(number)?;
+    let key = Key::new(alloc, key)?;
+    txn.put(key, Value::Num(number))?;
+    Ok(())
+}
+
+// The transaction of the same writes.
+fn txn_of(alloc: Global, row: &Json) -> Result<Txn, Fail> {
+    let mut txn = Txn::new(alloc);
+    for at in 2..100 {
+        let Some(key) = row.get(at).and_then(Json::as_str) else {
+            break;
+        };
+        add_write(alloc, &mut txn, key, at as i64 - 1)?;
+    }
+    Ok(txn)
+}
+
+fn numbered(alloc: Global, row: &Json) -> Result<Stores, Fail> {
+    let map = map_of(alloc, row)?;
+    let below = map_of(alloc, row)?;
+    let txn = txn_of(alloc, row)?;
+    Ok(Stores {
+        map,
+        cache: Cache::new(below),
+        txn,
+    })
+}
+
+fn bound(alloc: Global, options: &Json, name: &str) -> Result<Option<Text>, Fail> {
+    match options.get(name).and_then(Json::as_str) {
+        Some(text) => Ok(Some(Text::new(alloc, text)?)),
+        None => Ok(None),
+    }
+}
+
+fn options_of(alloc: Global, named: &Json) -> Result<Options, Fail> {
+    let mut options = Options {
+        start: None,
+        after: None,
+        end: None,
+        prefix: None,
+        reverse: named.get("reverse").is_some(),
+        limit: named.get("limit").and_then(Json::as_u64),
+    };
+    options.start = bound(alloc, named, "start")?;
+    options.after = bound(alloc, named, "after")?;
+    options.end = bound(alloc, named, "end")?;
+    options.prefix = bound(alloc, named, "prefix")?;
+    Ok(options)
+}
+
+fn keys_of(alloc: Global, row: &Json) -> Result<Keys, Fail> {
+    let mut keys = Vec::new(alloc);
+    for at in 2..100 {
+        let Some(key) = row.get(at).and_then(Json::as_str) else {
+            break;
+        };
+        keys.push(Key::new(alloc, key)?)?;
+    }
+    Ok(Keys::new(keys))
+}
+
+// What the transaction sees of the ask over an empty map.
+fn seen(alloc: Global, txn: &Txn, ask: &StoreAsk) -> Result<Reading, Fail> {
+    txn_laws::overlay_is_map_after();
+    let below = Map::new(alloc).reading(&txn.below(ask)?)?;
+    Ok(txn.view(ask, below)?)
+}
+
+fn ask(alloc: Global, stores: &Stores, ask: &StoreAsk, line: &mut String) -> Result<(), Fail> {
+    let ask = ask.copy()?;
+    line.push_str("map")?;
+    tell_reading(line, &stores.map.reading(&ask)?)?;
+    line.push_str("; cache")?;
+    tell_reading(line, &stores.cache.answer(&ask)?)?;
+    line.push_str("; overlay")?;
+    tell_reading(line, &seen(alloc, &stores.txn, &ask)?)
+}
+
+fn list(alloc: Global, stores: &Stores, row: &Json, line: &mut String) -> Result<(), Fail> {
+    let Some(named) = row.get(2) else {
+        return Err("no options")?;
+    };
+    let options = options_of(alloc, named)?;
+    line.push_str("range")?;
+    tell_range(&stores.cache, &options, line)?;
+    line.push_str("; ")?;
+    ask(alloc, stores, &StoreAsk::List(options), line)
+}
+
+// The pairs that the cache lends.
+fn tell_range(cache: &Cache, options: &Options, line: &mut String) -> Result<(), Fail> {
+    let mut range = cache.range(options);
+    for _ in 0..100 {
+        let Some((key, value)) = range.next() else {
+            break;
+        };
+        tell_pair(line, key, value)?;
+    }
+    Ok(())
+}
+
+// The map has an alarm, and then loses all its keys.
+fn wipe(alloc: Global, map: &mut Map) -> Result<(), Fail> {
+    map.apply(&one(alloc, Op::SetAlarm { time: 7, retry: 2 })?)?;
+    map.apply(&one(alloc, Op::DeleteAll)?)?;
+    Ok(())
+}
+
+// The cache takes a delete, of which so many operations count.
+fn delete(alloc: Global, cache: &mut Cache, row: &Json, line: &mut String) -> Result<(), Fail> {
+    let key = Key::new(alloc, word(row, 2))?;
+    let tail = if count(row, 3) == 0 { 0 } else { 1 };
+    let counted = cache.take(&one(alloc, Op::Delete { key })?, tail)?;
+    let told = format!(in alloc; "{counted} of the last {tail}")?;
+    line.push_str(told.as_str())?;
+    Ok(())
+}
+
+fn tell_copies(alloc: Global, map: &Map, line: &mut String) -> Result<(), Fail> {
+    line.push_str(if copies_object(alloc)? {
+        "true, "
+    } else {
+        "false, "
+    })?;
+    let told = format!(in alloc; "{} operation,", copied_ops(alloc)?)?;
+    line.push_str(told.as_str())?;
+    let reading = map.reading(&StoreAsk::Alarm)?;
+    tell_reading(line, &reading.copy()?)
+}
+
+fn copies_object(alloc: Global) -> Result<bool, Fail> {
+    let class = Text::new(alloc, "C")?;
+    let name = Text::new(alloc, "a")?;
+    let object = Identity::new(class, name).ok_or("a long name")?;
+    let again = object.copy()?;
+    Ok(again.equal(&object))
+}
+
+fn copied_ops(alloc: Global) -> Result<usize, Fail> {
+    let batch = one(alloc, put(alloc, "k", 5)?)?;
+    let again = batch.copy()?;
+    Ok(again.as_slice().len())
+}
+
+// A write of the transaction, under the key a.
+fn write(alloc: Global, txn: &mut Txn, row: &Json, line: &mut String) -> Result<(), Fail> {
+    match word(row, 1) {
+        "erase" => tell_done(line, erase(alloc, txn)?),
+        "write" => tell_done(line, put_letters(alloc, txn, count(row, 2))?),
+        "rollback" => tell_done(line, txn.rollback()),
+        _ => commit(alloc, txn, line),
+    }
+}
+
+fn erase(alloc: Global, txn: &mut Txn) -> Result<Result<(), TxnFault>, Fail> {
+    let key = Key::new(alloc, "a")?;
+    Ok(txn.delete(key))
+}
+
+fn put_letters(alloc: Global, txn: &mut Txn, letters: u64) -> Result<Result<(), TxnFault>, Fail> {
+    let key = Key::new(alloc, "a")?;
+    let text = text_of(alloc, letters)?;
+    Ok(txn.put(key, Value::Text(text)))
+}
+
+fn tell_done(line: &mut String, done: Result<(), TxnFault>) -> Result<(), Fail> {
+    match done {
+        Ok(()) => line.push_str("done")?,
+        Err(fault) => {
+            let told = format!(in *line.allocator(); "{fault:?}")?;
+            line.push_str(told.as_str())?;
+        }
+    }
+    Ok(())
+}
+
+/// A text of so many letters.
+pub(crate) fn text_of(alloc: Global, letters: u64) -> Result<Text, Fail> {
+    let mut text = String::new(alloc);
+    for _ in 0..letters {
+        text.push('a')?;
+    }
+    Ok(Text::new(alloc, text.as_str())?)
+}
+
+fn commit(alloc: Global, txn: &mut Txn, line: &mut String) -> Result<(), Fail> {
+    let txn = mem::replace(txn, Txn::new(alloc));
+    let told = format!(in alloc; "{} bytes, ", txn.size())?;
+    line.push_str(told.as_str())?;
+    tell_batch(line, txn.commit())
+}
+
+/// How many operations the batch has.
+pub(crate) fn tell_batch(line: &mut String, batch: Option<Batch>) -> Result<(), Fail> {
+    match batch {
+        Some(batch) => {
+            let told = format!(in *line.allocator(); "{} operations", batch.as_slice().len())?;
+            line.push_str(told.as_str())?;
+        }
+        None => line.push_str("no batch")?,
+    }
+    Ok(())
+}

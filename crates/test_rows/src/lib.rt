@@ -1,0 +1,9 @@
+//! What the programs of cases share. A case is a line of JSON, a list that begins with the word of what is tried; what comes
+//! of it is printed. A line that is no JSON is a heading.
+#![tactic(auto)]
+
+mod row;
+mod tell;
+
+pub use row::{count, flag, number, row_of, value, word};
+pub use tell::{tell_number, tell_record, tell_text, tell_value};

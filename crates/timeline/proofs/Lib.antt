@@ -1,0 +1,9 @@
+pub mod Telling
+pub mod Fronts
+pub mod Sending
+pub mod Begun
+pub mod Links
+pub mod Mapped
+pub mod Older
+pub mod Alarms
+pub mod Sent
