@@ -1,6 +1,10 @@
 //! Scripts that tests share, each with the forms that its name tells.
 #![tactic(auto)]
 
+mod forms;
+
+pub use forms::{COMPUTED, LIMITS, PATHS, STORING};
+
 pub const PUT_AND_READ: &str = r#"export class C extends DurableObject {
   async set(k, v) { this.ctx.storage.put(k, v); return v; }
   async read(k) { return await this.ctx.storage.get(k); }
@@ -94,3 +98,24 @@ pub const ROOM: &str = r#"export class Room extends DurableObject {
   }
 }
 "#;
+
+/// The script of this name, where there is one.
+pub fn named(name: &str) -> Option<&'static str> {
+    match name {
+        "blocks" => Some(BLOCKS),
+        "cabinet" => Some(CABINET),
+        "computed" => Some(COMPUTED),
+        "counter" => Some(COUNTER),
+        "limits" => Some(LIMITS),
+        "paths" => Some(PATHS),
+        "put and read" => Some(PUT_AND_READ),
+        "rearming" => Some(REARMING),
+        "recursion" => Some(RECURSION),
+        "room" => Some(ROOM),
+        "soft reads" => Some(SOFT_READS),
+        "storing" => Some(STORING),
+        "timer" => Some(TIMER),
+        "two classes" => Some(TWO_CLASSES),
+        _ => None,
+    }
+}

@@ -93,7 +93,9 @@ fn limit_of(value: &Value) -> Result<Option<i64>, Stop>
 
 // The listing by these options, of at most so many pairs.
 fn listing(rolled: bool, options: Options, limit: Option<i64>) -> Result<Request, Stop>
-    ensures request { Wants (listing rolled (Some options.start) (Some options.after) (Some options.end) (Some options.prefix) options.reverse (Some limit)) result }
+    ensures request { Wants
+        (listing rolled (Some options.start) (Some options.after) (Some options.end) (Some options.prefix) options.reverse (Some limit))
+        result }
     ensures within { IfOk result AreWithin }
 {
     if options.start.is_some() && options.after.is_some() {

@@ -1,4 +1,4 @@
--- What is done with a part, whatever kind of part it is.
+-- What is done with a call, whatever kind of call it is.
 use Rattle.std.proofs.Common.{◌≡◌, ℕ, Bool, List, Result, Ok, Err, IfOk, refl, sym, ap, subst, arith}
 use Rattle.std.specs.declared.alloc.Global.{Global}
 use Rattle.std.specs.declared.vec.Vec.{Vec}
@@ -6,7 +6,6 @@ use Rattle.do_value.specs.declared.value.Value.{Value}
 use Rattle.script_state.specs.declared.state.State.{State}
 use Rattle.script_steps.specs.declared.focus.Focus.{Focus}
 use Rattle.script_steps.specs.declared.focus.Focus.TheVariants as focus
-use Rattle.script_steps.specs.declared.focus.Outcome.{Outcome}
 use Rattle.script_steps.specs.declared.path.Callee.{Callee}
 use Rattle.script_steps.specs.declared.path.Callee.TheVariants as callee
 use Rattle.script_eval.specs.Acts.{Acts, Changes, Unfolds}
@@ -19,21 +18,10 @@ pub changes_ok : {E : Type 0} (has_handler : Bool) (f g : Focus) (old new : Stat
 changes_ok has_handler f g old new (Ok a) is p = subst (λ x. Acts has_handler x old new a) (sym is) (p has_handler)
 changes_ok has_handler f g old new (Err e) is p = p
 
--- The same of one that leaves what the task has.
-pub unfolds_ok : {E : Type 0} (has_handler : Bool) (f g : Focus) (s : State) (r : Result Act E) → f ≡ g → IfOk r (Unfolds g s)
-    → IfOk r (Acts has_handler f s s)
-unfolds_ok has_handler f g s r is p = changes_ok has_handler f g s s r is p
-
 -- The same of one that does.
 pub acts_ok : {E : Type 0} (has_handler : Bool) (f g : Focus) (old new : State) (r : Result Act E) → f ≡ g → IfOk r (Acts has_handler g old new)
     → IfOk r (Acts has_handler f old new)
 acts_ok has_handler f g old new r is p = subst (λ x. IfOk r (Acts has_handler x old new)) (sym is) p
-
--- An end is for the frame around it.
-pub ends_acts : (has_handler : Bool) (f : Focus) (o : Outcome) (s : State) → f ≡ focus.Ended o → Acts has_handler f s s (act.Ends o)
-ends_acts has_handler f o s is =
-    let ends : Acts has_handler (focus.Ended o) s s (act.Ends o) = record { same = λ calls are next rs. refl; less = omega arith; ready = tt } in
-    subst (λ x. Acts has_handler x s s (act.Ends o)) (sym is) ends
 
 -- A call of a helper is for the machine.
 pub helps_acts : (awaited : Bool) (name : List ℕ) (got : Vec Value Global) (s : State) → Unfolds (focus.Call (callee.Object awaited name) got) s (act.Helps awaited name got)

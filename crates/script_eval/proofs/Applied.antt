@@ -9,12 +9,11 @@ use Rattle.script_steps.specs.declared.focus.Move.TheVariants as move
 use Rattle.script_steps.specs.declared.frame.Frame.{Frame as Waiting}
 use Rattle.script_eval.proofs.Led.{inside_leads, then_leads}
 use Rattle.script_eval.specs.Machines.{Applies, IsDeep}
-use Rattle.script_eval.specs.declared.act.Act.{Act}
 use Rattle.script_eval.specs.declared.act.Act.TheVariants as act
 use Rattle.script_eval.specs.declared.frames.Layer.{Layer}
 use Rattle.script_eval.specs.declared.frames.Layer.TheVariants as layer
-use Rattle.script_eval.specs.declared.machine.Leads.{Leads}
-use Rattle.script_eval.specs.declared.machine.Leads.TheVariants as leads
+use Rattle.script_eval.specs.Leads.{Leads}
+use Rattle.script_eval.specs.Leads as leads
 use Rattle.script_eval.specs.declared.machine.Machine.{Machine}
 
 -- A state with other steps left,
@@ -56,7 +55,3 @@ inside_moved old new s m n cost w f deep is_m is_n took pushed class =
 -- No layer was there to be taken out.
 pub none_popped : (old : Machine) (fs : List Layer) → old.frames ≡ [] → fs ≡ [] → record old { frames = fs } ≡ old
 none_popped old fs none left = ap (with_frames old) (left ∙ sym none)
-
--- An act by another name.
-pub act_is : (class : Class) (a b : Act) (old new : Machine) (n : Leads) → a ≡ b → Applies class b old new n → Applies class a old new n
-act_is class a b old new n is led = subst (λ x. Applies class x old new n) (sym is) led

@@ -38,6 +38,7 @@ use Rattle.script_vars.specs.Seen.{env_of}
 use Rattle.script_vars.specs.declared.bound.Bound.{Bound}
 use Rattle.script_eval.proofs.Charged.{charged_exceeds, charged_takes, left_kept}
 use Rattle.script_eval.specs.Acts.{Changes, IsLess, Unfolds}
+use Rattle.script_eval.specs.Machines.{Reads}
 use Rattle.script_eval.specs.declared.act.Act.TheVariants as act
 use Rattle.std.specs.Prelude.{Option, Some, None}
 
@@ -73,21 +74,26 @@ variable_acts e s o goes =
     done_acts (variable_of (name_of (expr_of e.value))) (focus.Variable e) s s (done.Ended o) (variable_keeps (name_of (expr_of e.value))) (λ calls. refl) (omega arith) goes tt
 
 -- A variable by its name, once its step is charged,
-pub named_acts : (name : List ℕ) (old new : State) (o : Outcome) → 1 ≤ old.left → new ≡ record old { left = old.left - 1 }
-    → Goes (variable_value name) new new o → Changes (focus.Named name) old new (act.Does (done.Ended o))
-named_acts name old new o some is goes = λ has_handler. record {
+pub reads_acts : (f : Focus) (name : List ℕ) (old new : State) (o : Outcome) → Reads f name → 1 ≤ old.left → new ≡ record old { left = old.left - 1 }
+    → Goes (variable_value name) new new o → Changes f old new (act.Does (done.Ended o))
+reads_acts f name old new o reads some is goes = λ has_handler. record {
   same = λ calls are next rs.
-      charged_takes 1 (variable_value name) (env_of old.vars) next (state_of old rs) some
+      ap (λ r. r (env_of old.vars) next (state_of old rs)) (reads.0 calls)
+      ∙ charged_takes 1 (variable_value name) (env_of old.vars) next (state_of old rs) some
       ∙ ap (λ (s : State). variable_value name (env_of s.vars) next (state_of s rs)) (sym is) ∙ goes next rs;
-  less = let fewer : new.left ≡ old.left - 1 = ap (λ (s : State). s.left) is in omega (arith, fewer, some);
+  less =
+      let fewer : new.left ≡ old.left - 1 = ap (λ (s : State). s.left) is in
+      let weighs : 1 ≤ focus_weight f = reads.1 in
+      omega (arith, fewer, some, weighs);
   ready = tt;
 }
 
 -- or where none is left.
-pub named_exceeds : (name : List ℕ) (old new : State) → old.left < 1 → new ≡ old → Changes (focus.Named name) old new (act.Does done.Exceeded)
-named_exceeds name old new none is = λ has_handler. record {
+pub reads_exceeds : (f : Focus) (name : List ℕ) (old new : State) → Reads f name → old.left < 1 → new ≡ old → Changes f old new (act.Does done.Exceeded)
+reads_exceeds f name old new reads none is = λ has_handler. record {
   same = λ calls are next rs.
-      charged_exceeds 1 (variable_value name) (env_of old.vars) next (state_of old rs) none
+      ap (λ r. r (env_of old.vars) next (state_of old rs)) (reads.0 calls)
+      ∙ charged_exceeds 1 (variable_value name) (env_of old.vars) next (state_of old rs) none
       ∙ ap (λ (s : State). task.exceeded s.closed.items ∷ []) (sym is);
   less = tt;
   ready = tt;

@@ -1,5 +1,5 @@
 -- Helpers, looked up and called as the code does that.
-use Rattle.std.proofs.Common.{◌≡◌, ℕ, ◌+◌, Bool, List, [], ◌∷◌, Option, Some, None, refl, sym, ap, ◌∙◌}
+use Rattle.std.proofs.Common.{◌≡◌, ℕ, ◌+◌, Bool, List, [], ◌∷◌, Option, Some, None, refl, sym, ap, ◌∙◌, subst}
 use Rattle.std.specs.Prelude.{option_map}
 use Rattle.std.specs.List.{find}
 use Rattle.std.specs.declared.alloc.Global.{Global}
@@ -13,6 +13,7 @@ use Rattle.do_tree.specs.declared.stmt.Block.{Block}
 use Rattle.do_value.specs.Seen.{trees_in}
 use Rattle.do_value.specs.declared.value.Value.{Value}
 use Rattle.script_mean.specs.Meaning.{method_in, method_scope}
+use Rattle.script_steps.specs.declared.focus.Focus.{Focus}
 use Rattle.script_steps.specs.declared.focus.Focus.TheVariants as focus
 use Rattle.script_eval.specs.declared.frames.Layer.{Layer}
 use Rattle.script_eval.specs.declared.frames.Layer.TheVariants as layer
@@ -20,7 +21,7 @@ use Rattle.script_vars.specs.Seen.{env_of}
 use Rattle.script_vars.specs.declared.bound.Bound.{Bound}
 use Rattle.script_eval.proofs.Led.{find_seen}
 use Rattle.script_eval.specs.Machines.{Calls}
-use Rattle.script_eval.specs.declared.machine.Leads.TheVariants as leads
+use Rattle.script_eval.specs.Leads as leads
 use Rattle.script_eval.specs.declared.machine.Machine.{Machine}
 
 -- No method has the name,
@@ -59,3 +60,8 @@ called_body f awaited args old vars after caller b fs is_after is_caller is_fs b
   ap (λ x. deeper old x fs) is_after
       ∙ ap (deeper old vars) (is_fs ∙ ap (λ c. layer.Caller awaited c ∷ old.frames) is_caller),
 )
+
+-- The same where the body was put.
+pub put_calls : (f : Method) (awaited : Bool) (args : Vec Value Global) (old new : Machine) (g h : Focus) → h ≡ g → Calls f awaited args old new (leads.On g)
+    → Calls f awaited args old new (leads.On h)
+put_calls f awaited args old new g h is calls = subst (λ x. Calls f awaited args old new (leads.On x)) (sym is) calls

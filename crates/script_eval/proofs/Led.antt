@@ -42,13 +42,13 @@ use Rattle.script_vars.specs.Seen.{env_of}
 use Rattle.script_vars.specs.declared.bound.Bound.{Bound}
 use Rattle.script_eval.proofs.Charged.{charged_exceeds, charged_takes}
 use Rattle.script_eval.specs.Acts.{Acts, IsLess, IsReadyAct, act_turns}
-use Rattle.script_eval.specs.Machines.{Applies, Calls, IsBelow, IsDeep, LeadsTo, Steps, calls_in, frames_of, frames_weight, next_in, to_go, turns_of}
+use Rattle.script_eval.specs.Machines.{Applies, Calls, Finishes, IsBelow, IsDeep, LeadsTo, Steps, calls_in, frames_of, frames_weight, next_in, to_go, turns_of}
 use Rattle.script_eval.specs.declared.act.Act.{Act}
 use Rattle.script_eval.specs.declared.act.Act.TheVariants as act
 use Rattle.script_eval.specs.declared.frames.Layer.{Layer}
 use Rattle.script_eval.specs.declared.frames.Layer.TheVariants as layer
-use Rattle.script_eval.specs.declared.machine.Leads.{Leads}
-use Rattle.script_eval.specs.declared.machine.Leads.TheVariants as leads
+use Rattle.script_eval.specs.Leads.{Leads}
+use Rattle.script_eval.specs.Leads as leads
 use Rattle.script_eval.specs.declared.machine.Machine.{Machine}
 use Rattle.script_eval.specs.declared.machine.Stop.TheVariants as stop
 
@@ -59,7 +59,7 @@ path_inner f fs = refl
 
 -- A frame leaves the count.
 pub inner_count : (w : Waiting) (fs : List Frame) → callers (frame_of w ∷ fs) ≡ callers fs
-inner_count (frame.Path f) fs = path_inner f fs
+inner_count (frame.Path f) fs = path_inner f.value fs
 inner_count w fs = refl
 
 -- A part inside a frame.
@@ -68,10 +68,6 @@ pushed_turns : (class : Class) (starts : Bool) (w : Waiting) (ls : List Layer) (
     ≡ focus_run (calls_in class (layer.Inner w ∷ ls)) f env (next_in class starts (layer.Inner w ∷ ls)) st
 pushed_turns class starts w ls f env st =
     ap (λ n. focus_run (calls_of class (most_helpers - n)) f env (next_in class starts (layer.Inner w ∷ ls)) st) (sym (inner_count w (frames_of ls)))
-
--- A part that was done at once.
-pub led_on : (m : Machine) (o : Outcome) → IsDeep m → (class : Class) → Applies class (act.Does (done.Ended o)) m m (leads.On (focus.Ended o))
-led_on m o deep class before below ready = record { same = λ starts rs. refl; deep = deep; less = omega (arith, below); ready = tt }
 
 -- A move without a frame.
 pub then_leads : (old new : Machine) (cost : ℕ) (f : Focus) → IsDeep old → cost ≤ old.state.left
@@ -145,8 +141,8 @@ enter_leads old new w f deep is class before below ready =
 
 -- No frame is left: the task is at its end.
 pub over_leads : (old new : Machine) (o : Outcome) → IsDeep old → old.frames ≡ [] → new ≡ old
-    → (class : Class) → Applies class (act.Ends o) old new (leads.To (stop.Over o))
-over_leads old new o deep none is class before below ready =
+    → (class : Class) → Finishes class o old new (leads.To (stop.Over o))
+over_leads old new o deep none is class before below =
     record {
       same = λ starts rs.
           ap (λ fs. next_in class starts fs (outcome_of o) (env_of old.state.vars) (state_of old.state rs)) none
@@ -160,8 +156,8 @@ over_leads old new o deep none is class before below ready =
 pub pop_leads : (old popped new : Machine) (w : Waiting) (o : Outcome) (m : Move) (n : Leads) → old.frames ≡ layer.Inner w ∷ popped.frames → popped.state ≡ old.state
     → ((calls : mean.Calls) → handed calls (frame_of w) (outcome_of o) ≡ move_run calls m) → LeavesLess (frame_weight w + 8) m
     → ((class : Class) → Applies class (act.Moves m) popped new n)
-    → (class : Class) → Applies class (act.Ends o) old new n
-pop_leads old popped new w o m n frames kept same less led class before below ready =
+    → (class : Class) → Finishes class o old new n
+pop_leads old popped new w o m n frames kept same less led class before below =
     let weighs : frames_weight old.frames ≡ frame_weight w + frames_weight popped.frames = ap frames_weight frames in
     let left : popped.state.left ≡ old.state.left = ap (λ (s : State). s.left) kept in
     let inner : LeadsTo class (λ starts rs. act_turns (calls_in class popped.frames) (act.Moves m) popped.state (next_in class starts popped.frames) rs) before new n = led class before (omega (arith, below, less, weighs, left)) tt in
@@ -179,8 +175,8 @@ pop_leads old popped new w o m n frames kept same less led class before below re
 -- A helper's body has ended: its caller goes on with its own variables.
 pub return_leads : (old new : Machine) (awaited : Bool) (vars : List (List (List ℕ × Bound))) (fs : List Layer) (o : Outcome) → IsDeep old
     → old.frames ≡ layer.Caller awaited vars ∷ fs → new ≡ record old { frames = fs; depth = old.depth - 1 }
-    → (class : Class) → Applies class (act.Ends o) old new (leads.On (focus.Return awaited vars o))
-return_leads old new awaited vars fs o deep frames is class before below ready =
+    → (class : Class) → Finishes class o old new (leads.On (focus.Return awaited vars o))
+return_leads old new awaited vars fs o deep frames is class before below =
     let next : Machine = record old { frames = fs; depth = old.depth - 1 } in
     let weighs : frames_weight old.frames ≡ 2 + frames_weight fs = ap frames_weight frames in
     let less : to_go (focus.Return awaited vars o) next < before = omega (arith, below, weighs) in
@@ -216,7 +212,6 @@ below_of (act.Does (done.Ended o)) f old new kept less = let same : frames_weigh
 below_of (act.Does (done.Asks a w)) f old new kept less = tt
 below_of (act.Does done.Exceeded) f old new kept less = tt
 below_of (act.Does (done.Reset v)) f old new kept less = tt
-below_of (act.Ends o) f old new kept less = let same : frames_weight new.frames ≡ frames_weight old.frames = ap frames_weight kept in omega (arith, less, same)
 below_of (act.Helps awaited name args) f old new kept less = let same : frames_weight new.frames ≡ frames_weight old.frames = ap frames_weight kept in omega (arith, less, same)
 
 -- What is done with a part leads on.

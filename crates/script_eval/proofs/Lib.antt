@@ -5,6 +5,7 @@ pub mod Entered
 pub mod Called
 pub mod Nodes
 pub mod Led
+pub mod Stepped
 pub mod Applied
 pub mod Turned
 pub mod Helped
@@ -12,6 +13,7 @@ pub mod Acted
 pub mod Stopped
 pub mod Started
 pub mod Looked
+pub mod Named
 pub mod SentNodes
 pub mod SentFrames
 pub mod SentTask

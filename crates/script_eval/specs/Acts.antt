@@ -1,4 +1,5 @@
--- What a running task does with one part of a script, before its frames are touched.
+-- What a running task does with one part of a script, before its frames are touched: it unfolds, enters a block, is done at once
+-- or calls a helper.
 use Rattle.std.specs.Prelude.{◌≡◌, ◌<◌, ℕ, ◌+◌, ◌*◌, Bool, List}
 use Rattle.do_value.specs.Seen.{trees_in}
 use Rattle.do_tree.specs.Tree.{Class}
@@ -6,12 +7,12 @@ use Rattle.script_mean.specs.Calls.{Calls}
 use Rattle.script_mean.specs.Frames.{to_leave}
 use Rattle.script_mean.specs.Meaning.{calls_of}
 use Rattle.script_mean.specs.Task.{Resume, Segment}
-use Rattle.script_mean.specs.Turn.{Next, ends}
+use Rattle.script_mean.specs.Turn.{Next}
 use Rattle.script_state.specs.Ends.{IsReady, turns_after}
 use Rattle.script_state.specs.Seen.{state_of}
 use Rattle.script_state.specs.declared.done.Done.TheVariants as done
 use Rattle.script_state.specs.declared.state.State.{State}
-use Rattle.script_steps.specs.Seen.{focus_run, frame_of, framed, move_run, outcome_of}
+use Rattle.script_steps.specs.Seen.{focus_run, frame_of, framed, move_run}
 use Rattle.script_steps.specs.Weight.{step_pays, ended_weight, focus_weight, frame_weight, move_cost, move_weight}
 use Rattle.script_steps.specs.declared.focus.Focus.{Focus}
 use Rattle.script_vars.specs.Seen.{env_of}
@@ -27,7 +28,6 @@ abbrev pub act_turns : Calls → Act → State → Next → List Resume → List
 act_turns calls (act.Moves m) s next rs = move_run calls m (env_of s.vars) next (state_of s rs)
 act_turns calls (act.Enters w f) s next rs = framed calls (frame_of w) (framed calls to_leave (focus_run calls f)) (env_of s.vars) next (state_of s rs)
 act_turns calls (act.Does d) s next rs = turns_after d s next rs
-act_turns calls (act.Ends o) s next rs = ends (outcome_of o) (env_of s.vars) next (state_of s rs)
 act_turns calls (act.Helps awaited name args) s next rs = calls.helper awaited name (trees_in args.items) (env_of s.vars) next (state_of s rs)
 
 -- How much is left to do.
@@ -35,7 +35,6 @@ abbrev pub act_weight : Act → ℕ
 act_weight (act.Moves m) = move_weight m
 act_weight (act.Enters w f) = 2 + frame_weight w + focus_weight f
 act_weight (act.Does d) = ended_weight
-act_weight (act.Ends o) = 7
 act_weight (act.Helps awaited name args) = 13
 
 -- The steps that are still to be charged.

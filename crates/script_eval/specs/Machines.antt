@@ -1,5 +1,5 @@
 -- A machine that runs a turn, as the definition of the meaning has it.
-use Rattle.std.specs.Prelude.{◌≡◌, ◌<◌, ℕ, ◌+◌, ◌-◌, ◌*◌, Bool, List, [], ◌∷◌, map}
+use Rattle.std.specs.Prelude.{◌≡◌, ◌<◌, ◌≤◌, ℕ, ◌+◌, ◌-◌, ◌*◌, Bool, List, [], ◌∷◌, map}
 use Rattle.std.specs.declared.alloc.Global.{Global}
 use Rattle.std.specs.declared.sync.Arc.{Arc}
 use Rattle.std.specs.declared.vec.Vec.{Vec}
@@ -22,6 +22,7 @@ use Rattle.script_steps.specs.Seen.{focus_run, frame_of, outcome_of}
 use Rattle.script_steps.specs.Weight.{step_pays, focus_weight, frame_weight}
 use Rattle.script_steps.specs.declared.focus.Focus.{Focus}
 use Rattle.script_steps.specs.declared.focus.Focus.TheVariants as focus
+use Rattle.script_steps.specs.declared.focus.Outcome.{Outcome}
 use Rattle.script_vars.specs.Seen.{env_of}
 use Rattle.script_vars.specs.declared.bound.Bound.{Bound}
 use Rattle.script_eval.specs.Acts.{IsReadyAct, act_cost, act_turns, act_weight}
@@ -32,8 +33,10 @@ use Rattle.script_eval.specs.declared.frames.Layer.TheVariants as layer
 use Rattle.script_eval.specs.declared.machine.Machine.{Machine}
 use Rattle.script_eval.specs.declared.machine.Stop.{Stop}
 use Rattle.script_eval.specs.declared.machine.Stop.TheVariants as stop
-use Rattle.script_eval.specs.declared.machine.Leads.{Leads}
-use Rattle.script_eval.specs.declared.machine.Leads.TheVariants as leads
+use Rattle.script_eval.specs.declared.machine.Progress.{Progress}
+use Rattle.script_eval.specs.declared.machine.Progress.TheVariants as progress
+use Rattle.script_eval.specs.Leads as leads
+use Rattle.script_eval.specs.Leads.{Leads}
 
 -- What is around the part that runs, as the definition has it,
 abbrev pub layer_of : Layer → Frame
@@ -112,6 +115,11 @@ IsBelow before m (act.Does done.Exceeded) = Unit {0}
 IsBelow before m (act.Does (done.Reset v)) = Unit {0}
 IsBelow before m a = act_weight a + step_pays * m.state.left + frames_weight m.frames < before + step_pays * act_cost a
 
+-- What a step leads to, where it puts this as the turn's focus.
+abbrev pub leads_of : Progress → Focus → Leads
+leads_of progress.GoesOn f = leads.On f
+leads_of (progress.Stops s) f = leads.To s.value
+
 -- What was done inside the machine's frames leads there.
 abbrev pub Applies : Class → Act → Machine → Machine → Leads → Type 0
 Applies class a old new n = (before : ℕ) → IsBelow before old a → IsReadyAct old.state a
@@ -120,6 +128,19 @@ Applies class a old new n = (before : ℕ) → IsBelow before old a → IsReadyA
 -- What is done next leads there, with less left to do.
 abbrev pub Steps : Class → Focus → Machine → Machine → Leads → Type 0
 Steps class f old new n = LeadsTo class (λ starts rs. turns_of class starts f old rs) (to_go f old) new n
+
+-- The same whatever the class.
+abbrev pub StepsFrom : Focus → Machine → Machine → Leads → Type 0
+StepsFrom f old new n = (class : Class) → Steps class f old new n
+
+-- A part that reads the variable of this name, once its step is charged, and does nothing else.
+abbrev pub Reads : Focus → List ℕ → Type 0
+Reads f name = ((calls : calls.Calls) → focus_run calls f ≡ focus_run calls (focus.Named name)) × (1 ≤ focus_weight f)
+
+-- A part inside the machine's frames that ended so leads there.
+abbrev pub Finishes : Class → Outcome → Machine → Machine → Leads → Type 0
+Finishes class o old new n = (before : ℕ) → 7 + step_pays * old.state.left + frames_weight old.frames < before
+    → LeadsTo class (λ starts rs. next_in class starts old.frames (outcome_of o) (env_of old.state.vars) (state_of old.state rs)) before new n
 
 -- One turn ends so.
 pub record Runs (class : Class) (f : Focus) (old new : Machine) (s : Stop) : Type 0 where

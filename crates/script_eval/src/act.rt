@@ -1,71 +1,82 @@
-//! What a running task does with one part of a script, before its frames are touched.
-ghost use Rattle.std.specs.Prelude.{IfOk};
-ghost use Rattle.script_eval.specs.Acts.{Acts};
+//! What a call does before the frames are touched, and what the machine does with the part that is next.
+ghost use Rattle.std.specs.Prelude.{◌≡◌, IfOk};
+ghost use Rattle.do_tree.specs.Seen.{class_of};
+ghost use Rattle.script_mean.specs.Meaning.{has_alarm_handler};
+ghost use Rattle.script_eval.specs.Machines.{IsDeep, Steps, leads_of};
 
-use crate::{blocks, calls, ends, unfold, variables};
+use crate::machine::{Machine, Progress};
+use do_tree::Class;
 use do_value::{Mem, Text, Value};
-use script_state::{Done, State};
-use script_steps::{Focus, Frame, Move, Outcome};
+use script_state::Done;
+use script_steps::{Focus, Frame, Move};
 use std::alloc::Global;
 
-/// What was done with a part.
+/// What was done with a call.
 #[derive(Drop)]
 pub(crate) enum Act {
-    /// The part unfolds so.
+    /// It unfolds so.
     Moves(Move),
-    /// What is left of the part is the frame, and inside it a block that was entered, whose focus this is.
+    /// What is left of it is the frame, and inside it a block that was entered, whose focus this is.
     Enters(Frame, Focus),
-    /// The part was done at once.
+    /// It was done at once.
     Does(Done),
-    /// The part has ended so: the frame around it goes on.
-    Ends(Outcome),
-    /// The part calls this helper. The flag tells that the call is awaited.
+    /// It calls this helper. The flag tells that the call is awaited.
     Helps(bool, Text, Vec<Value>),
 }
 
-/// What is done with the part that is next, in a class with an alarm handler or without.
-#[tactic(auto, using(crate::proofs::Acted::ends_acts, crate::proofs::Acted::changes_ok, crate::proofs::Acted::unfolds_ok, crate::proofs::Acted::acts_ok))]
-pub(crate) fn act_on(alloc: Global, state: &mut State, has_handler: bool, focus: Focus) -> Mem<Act>
-    ensures { IfOk result (Acts has_handler focus state.old state.new) }
-{
-    match focus {
-        Focus::Ended(outcome) => Ok(Act::Ends(outcome)),
-        Focus::Value(awaited, expr) => unfold::value(alloc, state, awaited, expr),
-        Focus::Variable(expr) => variables::variable(state, &expr),
-        Focus::Named(name) => variables::named(state, name),
-        Focus::Run(stmt) => unfold::run(state, &stmt),
-        Focus::Body(block, place) => unfold::body(state, block, place),
-        Focus::Block(block) => blocks::block(state, block),
-        Focus::Declare(block, place, value) => variables::declare(
-            alloc, state, &block, place, value,
-        ),
-        Focus::Loop(test, body, between) => unfold::again(state, test, body, between),
-        Focus::Count(node, value) => blocks::count(alloc, state, node, value),
-        Focus::Visit(node, value) => blocks::visit(alloc, state, node, value),
-        Focus::Handle(node, value) => blocks::handle(alloc, state, node, value),
-        Focus::Simple(inner) => unfold::simple(state, &inner),
-        Focus::Write(inner) => unfold::write(alloc, state, &inner),
-        Focus::Leave(outcome) => blocks::leave(state, outcome),
-        Focus::Handed(frame, value) => unfold::handed(alloc, state, frame, value),
-        Focus::Walk(awaited, point, node, place) => unfold::walk_on(
-            alloc, state, awaited, point, node, place,
-        ),
-        Focus::Arguments(callee, got, node, link, place) => unfold::arguments_from(
-            state, callee, got, node, link, place,
-        ),
-        Focus::Call(callee, got) => calls::call(alloc, state, has_handler, callee, got),
-        Focus::Push(root, steps, node, place) => unfold::push_to(
-            alloc, state, root, steps, node, place,
-        ),
-        Focus::Place(writing, root, steps, node, place) => unfold::place_of(
-            alloc, state, writing, root, steps, node, place,
-        ),
-        Focus::Written(writing, root, steps) => unfold::write_at(
-            alloc, state, writing, root, steps,
-        ),
-        Focus::Assign(root, steps, value) => variables::assign(alloc, state, &root, &steps, value),
-        Focus::Return(awaited, vars, outcome) => ends::back(state, awaited, vars, outcome),
-        Focus::Commit(outcome) => ends::commit(state, outcome),
-        Focus::Unblock(awaited, outcome) => ends::unblock(state, awaited, outcome),
+impl Machine {
+    /// One step of the turn: the part is done or unfolds, and what comes next is put as the focus.
+    pub(crate) fn step(
+        &mut self,
+        alloc: Global,
+        class: &Class,
+        has_handler: bool,
+        part: Focus,
+        focus: &mut Focus,
+    ) -> Mem<Progress>
+        requires deep { IsDeep self.old }
+        requires handler { has_alarm_handler (class_of class.now) ≡ has_handler }
+        ensures { IfOk result (λ p. Steps (class_of class.now) part self.old self.new (leads_of p focus.new)) }
+    {
+        match part {
+            Focus::Ended(outcome) => self.end_part(alloc, outcome, focus),
+            Focus::Value(awaited, expr) => self.unfold_value(alloc, awaited, expr, focus),
+            Focus::Variable(expr) => self.read_variable(alloc, &expr, focus),
+            Focus::Named(name) => self.read_named(alloc, name, focus),
+            Focus::Run(stmt) => self.unfold_statement(alloc, &stmt, focus),
+            Focus::Body(block, place) => self.unfold_body(alloc, block, place, focus),
+            Focus::Block(block) => self.enter_names(alloc, block, focus),
+            Focus::Declare(block, place, value) => self.declare(alloc, &block, place, value, focus),
+            Focus::Loop(test, body, between) => self.unfold_loop(alloc, test, body, between, focus),
+            Focus::Count(node, value) => self.enter_count(alloc, node, value, focus),
+            Focus::Visit(node, value) => self.enter_visit(alloc, node, value, focus),
+            Focus::Handle(node, value) => self.enter_handler(alloc, node, value, focus),
+            Focus::Simple(inner) => self.unfold_simple(alloc, &inner, focus),
+            Focus::Write(inner) => self.unfold_write(alloc, &inner, focus),
+            Focus::Leave(outcome) => self.leave_block(alloc, outcome, focus),
+            Focus::Handed(frame, value) => self.hand_to_path(alloc, frame, value, focus),
+            Focus::Walk(awaited, point, node, place) => self.walk_on(
+                alloc, awaited, point, node, place, focus,
+            ),
+            Focus::Arguments(callee, got, node, link, place) => self.unfold_arguments(
+                alloc, callee, got, node, link, place, focus,
+            ),
+            Focus::Call(callee, got) => self.call(alloc, class, has_handler, callee, got, focus),
+            Focus::Push(root, steps, node, place) => self.unfold_push(
+                alloc, root, steps, node, place, focus,
+            ),
+            Focus::Place(writing, root, steps, node, place) => self.unfold_place(
+                alloc, writing, root, steps, node, place, focus,
+            ),
+            Focus::Written(writing, root, steps) => self.write_at(
+                alloc, writing, root, steps, focus,
+            ),
+            Focus::Assign(root, steps, value) => self.assign(alloc, &root, &steps, value, focus),
+            Focus::Return(awaited, vars, outcome) => self.return_to(
+                alloc, awaited, vars, outcome, focus,
+            ),
+            Focus::Commit(outcome) => self.commit(alloc, outcome, focus),
+            Focus::Unblock(awaited, outcome) => self.unblock(alloc, awaited, outcome, focus),
+        }
     }
 }

@@ -1,10 +1,14 @@
 //! Calls, whose arguments are evaluated.
-ghost use Rattle.std.specs.Prelude.{IfOk};
+ghost use Rattle.std.specs.Prelude.{◌≡◌, IfOk};
+ghost use Rattle.do_tree.specs.Seen.{class_of};
+ghost use Rattle.script_mean.specs.Meaning.{has_alarm_handler};
 ghost use Rattle.script_eval.specs.Acts.{Acts, Changes, Unfolds};
+ghost use Rattle.script_eval.specs.Machines.{IsDeep, Steps, leads_of};
 
 use crate::act::Act;
+use crate::machine::{Machine, Progress};
 use crate::node::again;
-use do_tree::{Callback, Expr};
+use do_tree::{Callback, Class, Expr};
 use do_value::{Mem, Text, Value};
 use script_calls::{call_handle, call_object, call_owner, call_storage, call_value, call_word};
 use script_paths::{identified, instance};
@@ -16,7 +20,7 @@ use std::sync::Arc;
 
 /// A call.
 #[tactic(auto, using(crate::proofs::Acted::call_changes, crate::proofs::Acted::call_unfolds, crate::proofs::Acted::call_acts, crate::proofs::Acted::call_helps))]
-pub(crate) fn call(
+fn act_on_call(
     alloc: Global,
     state: &mut State,
     has_handler: bool,
@@ -182,5 +186,25 @@ fn block(
             state.vars.enter()?;
             Ok(Act::Enters(Frame::Unblock(awaited), Focus::Body(body, 0)))
         }
+    }
+}
+
+impl Machine {
+    /// A call, whose arguments are evaluated.
+    pub(crate) fn call(
+        &mut self,
+        alloc: Global,
+        class: &Class,
+        has_handler: bool,
+        callee: Callee,
+        got: Vec<Value>,
+        focus: &mut Focus,
+    ) -> Mem<Progress>
+        requires deep { IsDeep self.old }
+        requires handler { has_alarm_handler (class_of class.now) ≡ has_handler }
+        ensures { IfOk result (λ p. Steps (class_of class.now) (Focus.Call callee got) self.old self.new (leads_of p focus.new)) }
+    {
+        let a = act_on_call(alloc, &mut self.state, has_handler, callee, got)?;
+        self.apply(alloc, class, a, focus)
     }
 }

@@ -1,31 +1,56 @@
 //! The ends of helpers, of transactions and of blocks.
 ghost use Rattle.std.specs.Prelude.{IfOk};
-ghost use Rattle.script_steps.specs.declared.focus.Focus.TheVariants as focus;
-ghost use Rattle.script_eval.specs.Acts.{Changes};
+ghost use Rattle.script_eval.specs.Machines.{IsDeep, StepsFrom, leads_of};
 
-use crate::act::Act;
+use crate::machine::{Machine, Progress};
 use do_value::Mem;
-use script_state::{Done, State};
-use script_steps::Outcome;
+use script_steps::{Focus, Outcome};
 use script_vars::Vars;
+use std::alloc::Global;
 
-/// A helper's body ended so: its caller goes on with its own variables.
-pub(crate) fn back(state: &mut State, awaited: bool, caller: Vars, ended: Outcome) -> Mem<Act>
-    ensures { IfOk result (Changes (focus.Return awaited caller ended) state.old state.new) }
-{
-    Ok(Act::Does(Done::Ended(state.return_to(awaited, caller, ended)?)))
-}
+impl Machine {
+    /// A helper's body ended so: its caller goes on with its own variables.
+    pub(crate) fn return_to(
+        &mut self,
+        alloc: Global,
+        awaited: bool,
+        caller: Vars,
+        ended: Outcome,
+        focus: &mut Focus,
+    ) -> Mem<Progress>
+        requires { IsDeep self.old }
+        ensures { IfOk result (λ p. StepsFrom (Focus.Return awaited caller ended) self.old self.new (leads_of p focus.new)) }
+    {
+        let outcome = self.state.return_to(awaited, caller, ended)?;
+        self.end_part(alloc, outcome, focus)
+    }
 
-/// A transaction's body ended so.
-pub(crate) fn commit(state: &mut State, ended: Outcome) -> Mem<Act>
-    ensures { IfOk result (Changes (focus.Commit ended) state.old state.new) }
-{
-    Ok(Act::Does(state.end_transaction(ended)?))
-}
+    /// A transaction's body ended so.
+    pub(crate) fn commit(
+        &mut self,
+        alloc: Global,
+        ended: Outcome,
+        focus: &mut Focus,
+    ) -> Mem<Progress>
+        requires { IsDeep self.old }
+        ensures { IfOk result (λ p. StepsFrom (Focus.Commit ended) self.old self.new (leads_of p focus.new)) }
+    {
+        let done = self.state.end_transaction(ended)?;
+        self.finish(alloc, done, focus)
+    }
 
-/// A block's body ended so.
-pub(crate) fn unblock(state: &mut State, awaited: bool, ended: Outcome) -> Mem<Act>
-    ensures { IfOk result (Changes (focus.Unblock awaited ended) state.old state.new) }
-{
-    Ok(Act::Does(state.end_block(awaited, ended)?))
+    /// A block's body ended so.
+    pub(crate) fn unblock(
+        &mut self,
+        alloc: Global,
+        awaited: bool,
+        ended: Outcome,
+        focus: &mut Focus,
+    ) -> Mem<Progress>
+        requires { IsDeep self.old }
+        ensures { IfOk result (λ p. StepsFrom (Focus.Unblock awaited ended) self.old self.new (leads_of p focus.new)) }
+    {
+        let done = self.state.end_block(awaited, ended)?;
+        self.finish(alloc, done, focus)
+    }
 }

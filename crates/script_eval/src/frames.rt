@@ -46,6 +46,7 @@ impl Frames {
     }
 
     /// The layer is the innermost from here on.
+    #[inline(always)]
     pub(crate) fn push(&mut self, layer: Layer) -> Mem<()>
         ensures { OnOk result (self.new ≡ layer ∷ self.old) }
     {

@@ -8,11 +8,11 @@ ghost use Rattle.script_mean.specs.declared.limits.TheConstants.{MOST_HELPERS};
 ghost use Rattle.script_mean.specs.Errors.{nested_too_deep};
 ghost use Rattle.script_mean.specs.Meaning.{method_scope};
 ghost use Rattle.script_vars.specs.Seen.{env_of};
-ghost use Rattle.script_eval.specs.Machines.{Applies, Calls, IsDeep};
+ghost use Rattle.script_eval.specs.Machines.{Applies, Calls, IsDeep, leads_of};
 
 use crate::act::Act;
 use crate::frames::Layer;
-use crate::machine::{Leads, Machine};
+use crate::machine::{Machine, Progress, put_next};
 use crate::node::again;
 use do_tree::{Class, Method, MethodKind};
 use do_value::{Mem, NoMemory, Text, Value};
@@ -55,43 +55,50 @@ fn too_deep(alloc: Global) -> Mem<Value>
 
 impl Machine {
     /// A helper is called. Too many calls inside each other throw; so does a name that no method has.
-    pub(crate) fn helped(
+    pub(crate) fn call_helper(
         &mut self,
         alloc: Global,
         class: &Class,
         awaited: bool,
         name: Text,
         args: Vec<Value>,
-    ) -> Mem<Leads>
+        focus: &mut Focus,
+    ) -> Mem<Progress>
         requires { IsDeep self.old }
-        ensures { IfOk result (Applies (class_of class.now) (Act.Helps awaited name args) self.old self.new) }
+        ensures { IfOk result (λ p. Applies (class_of class.now) (Act.Helps awaited name args) self.old self.new (leads_of p focus.new)) }
     {
         if self.depth >= MOST_HELPERS as usize {
             let error = too_deep(alloc)?;
-            return Ok(Leads::On(Focus::Ended(Outcome::Threw(error))));
+            put_next(focus, Focus::Ended(Outcome::Threw(error)));
+            return Ok(Progress::GoesOn);
         }
         match method_named(&class.methods, name.as_str()) {
-            None => Ok(Leads::On(Focus::Ended(Outcome::Threw(Value::Undefined)))),
-            Some(method) => self.called(alloc, method, awaited, args),
+            None => {
+                put_next(focus, Focus::Ended(Outcome::Threw(Value::Undefined)));
+                Ok(Progress::GoesOn)
+            }
+            Some(method) => self.enter_method(alloc, method, awaited, args, focus),
         }
     }
 
     /// The body of a helper is run, with variables of its own.
-    fn called(
+    fn enter_method(
         &mut self,
         alloc: Global,
         method: &Method,
         awaited: bool,
         args: Vec<Value>,
-    ) -> Mem<Leads>
+        focus: &mut Focus,
+    ) -> Mem<Progress>
         requires { self.old.depth < MOST_HELPERS }
-        ensures { IfOk result (Calls method.now awaited args self.old self.new) }
+        ensures { IfOk result (λ p. Calls method.now awaited args self.old self.new (leads_of p focus.new)) }
     {
         let vars = method_vars(alloc, method, args)?;
         let body = again(&method.body)?;
         let caller = mem::replace(&mut self.state.vars, vars);
         self.frames.push(Layer::Caller(awaited, caller))?;
         self.depth += 1;
-        Ok(Leads::On(Focus::Body(body, 0)))
+        put_next(focus, Focus::Body(body, 0));
+        Ok(Progress::GoesOn)
     }
 }

@@ -4,16 +4,19 @@ ghost use Rattle.do_tree.specs.Seen.{class_of};
 ghost use Rattle.do_tree.specs.Tree.{Class as SeenClass};
 ghost use Rattle.script_mean.specs.Meaning.{has_alarm_handler};
 ghost use Rattle.script_steps.specs.Weight.{move_cost};
-ghost use Rattle.script_eval.specs.Machines.{Applies, IsDeep, Runs, Steps};
+ghost use Rattle.script_steps.specs.declared.focus.Focus.{Focus as SeenFocus};
+ghost use Rattle.script_eval.specs.Leads.{To};
+ghost use Rattle.script_eval.specs.Machines.{Applies, Finishes, IsDeep, Runs, Steps, leads_of};
 
-use crate::act::{Act, act_on};
+use crate::act::Act;
 use crate::frames::{Frames, Layer};
 use do_tree::Class;
-use do_value::{Mem, Value};
+use do_value::{Mem, NoMemory, Value};
 use script_mean::Ask;
 use script_state::{Done, State, Waiting};
 use script_steps::{Focus, Frame, Move, Outcome, hand_on};
 use std::alloc::Global;
+use std::mem;
 
 /// A task that runs: what it has, the frames around the part that is next, and how many helper calls they are inside of.
 #[derive(Drop)]
@@ -38,28 +41,33 @@ pub(crate) enum Stop {
 
 /// What a step leads to.
 #[derive(Drop)]
-pub(crate) enum Leads {
-    /// This is next.
-    On(Focus),
+pub(crate) enum Progress {
+    /// The turn goes on with what was put as its focus.
+    GoesOn,
     /// The turn ends so.
-    To(Stop),
+    Stops(Box<Stop>),
 }
 
-/// What was done at once leads on, or to the turn's end.
-#[tactic(auto, using(crate::proofs::Led::led_on))]
-fn led(machine: &Machine, d: Done) -> Leads
-    requires { IsDeep machine.now }
-    ensures { (class : SeenClass) → Applies class (Act.Does d) machine.now machine.now result }
+/// The turn ends so.
+fn stop_at(alloc: Global, stop: Stop) -> Mem<Progress>
+    ensures { IfOk result (λ p. (f : SeenFocus) → leads_of p f ≡ To stop) }
 {
-    match d {
-        Done::Ended(outcome) => Leads::On(Focus::Ended(outcome)),
-        Done::Asks(ask, wait) => Leads::To(Stop::Asks(ask, wait)),
-        Done::Exceeded => Leads::To(Stop::Exceeded),
-        Done::Reset(value) => Leads::To(Stop::Reset(value)),
+    match Box::new(alloc, stop) {
+        Ok(stop) => Ok(Progress::Stops(stop)),
+        Err(_) => Err(NoMemory),
     }
 }
 
+/// Puts what is next. What stood there is a mark that owns nothing, so nothing is dropped.
+#[inline(always)]
+pub(crate) fn put_next(focus: &mut Focus, next: Focus)
+    ensures { focus.new ≡ next }
+{
+    mem::forget(mem::replace(focus, next));
+}
+
 /// How many steps a move charges.
+#[inline(always)]
 fn cost_of(m: &Move) -> usize
     ensures { result ≡ move_cost m.now }
 {
@@ -71,109 +79,144 @@ fn cost_of(m: &Move) -> usize
 
 impl Machine {
     /// The frame is the innermost from here on.
+    #[inline(always)]
     fn push(&mut self, frame: Frame) -> Mem<()>
         ensures { OnOk result (self.new ≡ record self.old { frames = Layer.Inner frame ∷ self.old.frames }) }
     {
         self.frames.push(Layer::Inner(frame))
     }
 
-    /// The steps of a move are charged, and its frame, if it has one, is pushed.
-    #[tactic(auto, using(crate::proofs::Led::then_leads, crate::proofs::Led::inside_leads, crate::proofs::Led::exceed_leads))]
-    fn moved(&mut self, m: Move) -> Mem<Leads>
+    /// The frame is pushed, and inside it the end of a block.
+    fn push_block(&mut self, frame: Frame) -> Mem<()>
+        ensures { OnOk result (self.new ≡ record self.old { frames = Layer.Inner Frame.Leave ∷ Layer.Inner frame ∷ self.old.frames }) }
+    {
+        self.push(frame)?;
+        self.push(Frame::Leave)
+    }
+
+    /// The steps of a move are charged, its frame, if it has one, is pushed, and its focus is next.
+    #[inline(always)]
+    pub(crate) fn apply_move(&mut self, alloc: Global, m: Move, focus: &mut Focus) -> Mem<Progress>
         requires { IsDeep self.old }
-        ensures { IfOk result (λ n. (class : SeenClass) → Applies class (Act.Moves m) self.old self.new n) }
+        ensures { IfOk result (λ p. (class : SeenClass) → Applies class (Act.Moves m) self.old self.new (leads_of p focus.new)) }
     {
         if !self.state.charge(cost_of(&m)) {
-            return Ok(Leads::To(Stop::Exceeded));
+            return stop_at(alloc, Stop::Exceeded);
         }
         match m {
-            Move::Then(_, focus) => Ok(Leads::On(focus)),
-            Move::Inside(_, frame, focus) => {
+            Move::Then(_, next) => {
+                put_next(focus, next);
+                Ok(Progress::GoesOn)
+            }
+            Move::Inside(_, frame, next) => {
                 self.push(frame)?;
-                Ok(Leads::On(focus))
+                put_next(focus, next);
+                Ok(Progress::GoesOn)
             }
         }
     }
 
     /// A block that was entered is left inside this frame.
-    #[tactic(auto, using(crate::proofs::Led::enter_leads))]
-    fn entered(&mut self, frame: Frame, focus: Focus) -> Mem<Leads>
+    fn enter_block(&mut self, frame: Frame, next: Focus, focus: &mut Focus) -> Mem<Progress>
         requires { IsDeep self.old }
-        ensures { IfOk result (λ n. (class : SeenClass) → Applies class (Act.Enters frame focus) self.old self.new n) }
+        ensures { IfOk result (λ p. (class : SeenClass) → Applies class (Act.Enters frame next) self.old self.new (leads_of p focus.new)) }
     {
-        self.push(frame)?;
-        self.push(Frame::Leave)?;
-        Ok(Leads::On(focus))
+        put_next(focus, next);
+        self.push_block(frame)?;
+        Ok(Progress::GoesOn)
     }
 
-    /// The innermost layer goes on, or, where none is left, the task is at its end. A caller of a helper is no longer counted.
-    #[tactic(auto, using(crate::proofs::Led::popped_caller, crate::proofs::Led::popped_inner))]
-    fn ended(&mut self, alloc: Global, outcome: Outcome) -> Mem<Leads>
+    /// A part has ended: the innermost layer goes on, or, where none is left, the task is at its end. A caller of a helper is
+    /// no longer counted.
+    pub(crate) fn end_part(
+        &mut self,
+        alloc: Global,
+        outcome: Outcome,
+        focus: &mut Focus,
+    ) -> Mem<Progress>
         requires { IsDeep self.old }
-        ensures { IfOk result (λ n. (class : SeenClass) → Applies class (Act.Ends outcome) self.old self.new n) }
+        ensures { IfOk result (λ p. (class : SeenClass) → Finishes class outcome self.old self.new (leads_of p focus.new)) }
     {
         match self.frames.pop() {
-            None => Ok(Leads::To(Stop::Over(outcome))),
+            None => stop_at(alloc, Stop::Over(outcome)),
             Some(Layer::Inner(frame)) => {
                 let m = hand_on(alloc, frame, outcome)?;
-                self.moved(m)
+                self.apply_move(alloc, m, focus)
             }
             Some(Layer::Caller(awaited, vars)) => {
                 self.depth -= 1;
-                Ok(Leads::On(Focus::Return(awaited, vars, outcome)))
+                put_next(focus, Focus::Return(awaited, vars, outcome));
+                Ok(Progress::GoesOn)
             }
         }
     }
 
-    /// What was done with a part leads on, or to the turn's end.
-    fn applied(&mut self, alloc: Global, class: &Class, a: Act) -> Mem<Leads>
+    /// What was done at once leads on, or to the turn's end.
+    pub(crate) fn finish(&mut self, alloc: Global, d: Done, focus: &mut Focus) -> Mem<Progress>
         requires { IsDeep self.old }
-        ensures { IfOk result (Applies (class_of class.now) a self.old self.new) }
+        ensures { IfOk result (λ p. (class : SeenClass) → Applies class (Act.Does d) self.old self.new (leads_of p focus.new)) }
     {
-        match a {
-            Act::Moves(m) => self.moved(m),
-            Act::Enters(frame, focus) => self.entered(frame, focus),
-            Act::Does(d) => Ok(led(self, d)),
-            Act::Ends(outcome) => self.ended(alloc, outcome),
-            Act::Helps(awaited, name, args) => self.helped(alloc, class, awaited, name, args),
+        match d {
+            Done::Ended(outcome) => self.end_part(alloc, outcome, focus),
+            Done::Asks(ask, wait) => stop_at(alloc, Stop::Asks(ask, wait)),
+            Done::Exceeded => stop_at(alloc, Stop::Exceeded),
+            Done::Reset(value) => stop_at(alloc, Stop::Reset(value)),
         }
     }
 
-    /// One step of the turn.
-    #[tactic(auto, using(crate::proofs::Led::step_leads))]
-    pub(crate) fn step(
+    /// What was done with a call leads on, or to the turn's end.
+    pub(crate) fn apply(
+        &mut self,
+        alloc: Global,
+        class: &Class,
+        a: Act,
+        focus: &mut Focus,
+    ) -> Mem<Progress>
+        requires { IsDeep self.old }
+        ensures { IfOk result (λ p. Applies (class_of class.now) a self.old self.new (leads_of p focus.new)) }
+    {
+        match a {
+            Act::Moves(m) => self.apply_move(alloc, m, focus),
+            Act::Enters(frame, next) => self.enter_block(frame, next, focus),
+            Act::Does(d) => self.finish(alloc, d, focus),
+            Act::Helps(awaited, name, args) => self.call_helper(
+                alloc, class, awaited, name, args, focus,
+            ),
+        }
+    }
+
+    /// One step from what is next, in whose place a mark stands meanwhile.
+    fn advance(
         &mut self,
         alloc: Global,
         class: &Class,
         has_handler: bool,
-        focus: Focus,
-    ) -> Mem<Leads>
+        focus: &mut Focus,
+    ) -> Mem<Progress>
         requires deep { IsDeep self.old }
         requires handler { has_alarm_handler (class_of class.now) ≡ has_handler }
-        ensures { IfOk result (Steps (class_of class.now) focus self.old self.new) }
+        ensures { IfOk result (λ p. Steps (class_of class.now) focus.old self.old self.new (leads_of p focus.new)) }
     {
-        let a = act_on(alloc, &mut self.state, has_handler, focus)?;
-        self.applied(alloc, class, a)
+        let part = mem::replace(focus, Focus::Ended(Outcome::Broke));
+        self.step(alloc, class, has_handler, part, focus)
     }
 
     /// One turn, from what is next.
-    #[tactic(auto, using(crate::proofs::Turned::turn_on, crate::proofs::Turned::turn_less, crate::proofs::Turned::turn_deep, crate::proofs::Turned::turn_to))]
     pub(crate) fn turn(
         &mut self,
         alloc: Global,
         class: &Class,
         has_handler: bool,
-        first: Focus,
+        focus: &mut Focus,
     ) -> Mem<Stop>
         requires deep { IsDeep self.old }
         requires handler { has_alarm_handler (class_of class.now) ≡ has_handler }
-        ensures { IfOk result (Runs (class_of class.now) first self.old self.new) }
+        ensures { IfOk result (Runs (class_of class.now) focus.old self.old self.new) }
     {
-        let mut focus = first;
         'steps: loop {
-            match self.step(alloc, class, has_handler, focus)? {
-                Leads::On(next) => focus = next,
-                Leads::To(stop) => return Ok(stop),
+            match self.advance(alloc, class, has_handler, focus)? {
+                Progress::GoesOn => {}
+                Progress::Stops(stop) => return Ok(Box::into_inner(stop)),
             }
         }
     }

@@ -9,13 +9,13 @@ ghost use Rattle.do_tree.specs.Seen.{class_of, method_of};
 ghost use Rattle.do_tree.specs.Tree.{Method as SeenMethod, Script};
 ghost use Rattle.script_mean.specs.Meaning.{has_alarm_handler, meaning};
 ghost use Rattle.script_mean.specs.Task.{Resume};
-ghost use Rattle.script_eval.specs.Machines.{IsDeep, turns_of};
+ghost use Rattle.script_eval.specs.Machines.{IsDeep, Runs, turns_of};
 ghost use Rattle.script_eval.specs.Tasks.{HasClass, HasMethod, IsOfClass, class_in, has_block, later, rest_in, segment_of};
 
 use crate::frames::Frames;
 use crate::giving::given;
 use crate::helper::{method_named, method_vars};
-use crate::machine::Machine;
+use crate::machine::{Machine, Stop};
 use crate::node::again;
 use crate::outcome::Outcome;
 use crate::task::Task;
@@ -82,7 +82,19 @@ fn moment(now: i64) -> Num
     }
 }
 
-/// One turn of a machine, from what is next.
+/// One turn of a machine, from what is next, to where it stops.
+fn run_turn(alloc: Global, seen: &Class, machine: &mut Machine, focus: Focus) -> Mem<Stop>
+    requires { IsDeep machine.old }
+    ensures { IfOk result (Runs (class_of seen.now) focus machine.old machine.new) }
+{
+    let mut focus = focus;
+    let has_handler = has_alarm(seen);
+    let stop = machine.turn(alloc, seen, has_handler, &mut focus);
+    drop(focus);
+    stop
+}
+
+/// One turn of a machine, from what is next, to the outcome.
 fn run(
     alloc: Global,
     seen: &Class,
@@ -97,8 +109,7 @@ fn run(
     ensures kept { IfOk result (IsOfClass class) }
 {
     let mut machine = machine;
-    let has_handler = has_alarm(seen);
-    let stop = machine.turn(alloc, seen, has_handler, focus)?;
+    let stop = run_turn(alloc, seen, &mut machine, focus)?;
     given(machine, stop, class, starts)
 }
 
@@ -118,7 +129,8 @@ impl Task {
         requires method { HasMethod (tree_of checked.now) class method }
         requires now { IsSafe now }
         ensures meaning { IfOk result (λ o. (rs : List Resume)
-            → meaning (tree_of checked.now) class method (trees_in args.items) (record { fields = fields; now = now }) rs ≡ segment_of o ∷ later (tree_of checked.now) o rs) }
+            → meaning (tree_of checked.now) class method (trees_in args.items) (record { fields = fields; now = now }) rs
+            ≡ segment_of o ∷ later (tree_of checked.now) o rs) }
         ensures class { IfOk result (IsOfClass class) }
     {
         let seen = class_at(checked, class);
@@ -160,7 +172,8 @@ impl Task {
         requires class { HasClass (tree_of checked.now) (class_in self) }
         requires now { IsSafe now }
         ensures rest { IfOk result (λ o. (rs : List Resume)
-            → rest_in (tree_of checked.now) self (record { answer = answer; fields = fields; now = now } ∷ rs) ≡ segment_of o ∷ later (tree_of checked.now) o rs) }
+            → rest_in (tree_of checked.now) self (record { answer = answer; fields = fields; now = now } ∷ rs)
+            ≡ segment_of o ∷ later (tree_of checked.now) o rs) }
         ensures class { IfOk result (IsOfClass (class_in self)) }
     {
         let Task {

@@ -1,150 +1,219 @@
-//! Parts that unfold, and leave what the task has as it is.
+//! Parts that unfold, and leave what the task has as it is but for the steps that are charged.
 ghost use Rattle.std.specs.Prelude.{IfOk};
-ghost use Rattle.script_steps.specs.declared.focus.Focus.TheVariants as focus;
-ghost use Rattle.script_eval.specs.Acts.{Unfolds};
+ghost use Rattle.script_eval.specs.Machines.{IsDeep, StepsFrom, leads_of};
 
-use crate::act::Act;
+use crate::machine::{Machine, Progress};
 use do_tree::{Block, Expr, Simple, Stmt};
 use do_value::{Mem, Value};
 use script_mean::laws::loops_unfold;
 use script_paths::{arguments, begin, begin_write, hand_path, place, push, walk, written};
 use script_places::Step;
-use script_state::State;
 use script_steps::{
-    Between, Callee, PathFrame, Point, Root, Writing, begin_body, begin_loop, begin_run,
+    Between, Callee, Focus, PathFrame, Point, Root, Writing, begin_body, begin_loop, begin_run,
     begin_simple,
 };
 use std::alloc::Global;
 use std::sync::Arc;
 
-/// An expression.
-#[tactic(auto, using(crate::proofs::Moved::in_acts))]
-pub(crate) fn value(alloc: Global, state: &State, awaited: bool, expr: Arc<Expr>) -> Mem<Act>
-    ensures { IfOk result (Unfolds (focus.Value awaited expr) state.now) }
-{
-    Ok(Act::Moves(begin(alloc, awaited, expr, &state.vars)?))
-}
+impl Machine {
+    /// An expression.
+    pub(crate) fn unfold_value(
+        &mut self,
+        alloc: Global,
+        awaited: bool,
+        expr: Arc<Expr>,
+        focus: &mut Focus,
+    ) -> Mem<Progress>
+        requires { IsDeep self.old }
+        ensures { IfOk result (λ p. StepsFrom (Focus.Value awaited expr) self.old self.new (leads_of p focus.new)) }
+    {
+        if let Expr::Variable(name) = &*expr {
+            return self.read_charged(alloc, &name.text, focus);
+        }
+        let m = begin(alloc, awaited, expr, &self.state.vars)?;
+        self.apply_move(alloc, m, focus)
+    }
 
-/// A statement.
-#[tactic(auto, using(crate::proofs::Moved::move_acts))]
-pub(crate) fn run(state: &State, stmt: &Arc<Stmt>) -> Mem<Act>
-    ensures { IfOk result (Unfolds (focus.Run stmt.now) state.now) }
-{
-    Ok(Act::Moves(begin_run(stmt)?))
-}
+    /// A statement.
+    pub(crate) fn unfold_statement(
+        &mut self,
+        alloc: Global,
+        stmt: &Arc<Stmt>,
+        focus: &mut Focus,
+    ) -> Mem<Progress>
+        requires { IsDeep self.old }
+        ensures { IfOk result (λ p. StepsFrom (Focus.Run stmt.now) self.old self.new (leads_of p focus.new)) }
+    {
+        let m = begin_run(stmt)?;
+        self.apply_move(alloc, m, focus)
+    }
 
-/// The items of a block from that place on.
-#[tactic(auto, using(crate::proofs::Moved::move_acts))]
-pub(crate) fn body(state: &State, block: Arc<Block>, place: usize) -> Mem<Act>
-    ensures { IfOk result (Unfolds (focus.Body block place) state.now) }
-{
-    Ok(Act::Moves(begin_body(block, place)?))
-}
+    /// The items of a block from that place on.
+    pub(crate) fn unfold_body(
+        &mut self,
+        alloc: Global,
+        block: Arc<Block>,
+        place: usize,
+        focus: &mut Focus,
+    ) -> Mem<Progress>
+        requires { IsDeep self.old }
+        ensures { IfOk result (λ p. StepsFrom (Focus.Body block place) self.old self.new (leads_of p focus.new)) }
+    {
+        let m = begin_body(block, place)?;
+        self.apply_move(alloc, m, focus)
+    }
 
-/// A loop from its test on.
-#[tactic(auto, using(crate::proofs::Moved::loop_acts))]
-pub(crate) fn again(state: &State, test: Arc<Expr>, body: Arc<Stmt>, between: Between) -> Mem<Act>
-    ensures { IfOk result (Unfolds (focus.Loop test body between) state.now) }
-{
-    loops_unfold();
-    Ok(Act::Moves(begin_loop(test, body, between)?))
-}
+    /// A loop from its test on.
+    pub(crate) fn unfold_loop(
+        &mut self,
+        alloc: Global,
+        test: Arc<Expr>,
+        body: Arc<Stmt>,
+        between: Between,
+        focus: &mut Focus,
+    ) -> Mem<Progress>
+        requires { IsDeep self.old }
+        ensures { IfOk result (λ p. StepsFrom (Focus.Loop test body between) self.old self.new (leads_of p focus.new)) }
+    {
+        loops_unfold();
+        let m = begin_loop(test, body, between)?;
+        self.apply_move(alloc, m, focus)
+    }
 
-/// An expression that is run for itself, or a write to a place.
-#[tactic(auto, using(crate::proofs::Moved::move_acts))]
-pub(crate) fn simple(state: &State, inner: &Arc<Simple>) -> Mem<Act>
-    ensures { IfOk result (Unfolds (focus.Simple inner.now) state.now) }
-{
-    Ok(Act::Moves(begin_simple(inner)?))
-}
+    /// An expression that is run for itself, or a write to a place.
+    pub(crate) fn unfold_simple(
+        &mut self,
+        alloc: Global,
+        inner: &Arc<Simple>,
+        focus: &mut Focus,
+    ) -> Mem<Progress>
+        requires { IsDeep self.old }
+        ensures { IfOk result (λ p. StepsFrom (Focus.Simple inner.now) self.old self.new (leads_of p focus.new)) }
+    {
+        let m = begin_simple(inner)?;
+        self.apply_move(alloc, m, focus)
+    }
 
-/// A write, whose step was charged.
-#[tactic(auto, using(crate::proofs::Moved::move_acts))]
-pub(crate) fn write(alloc: Global, state: &State, inner: &Arc<Simple>) -> Mem<Act>
-    ensures { IfOk result (Unfolds (focus.Write inner.now) state.now) }
-{
-    Ok(Act::Moves(begin_write(alloc, inner)?))
-}
+    /// A write, whose step was charged.
+    pub(crate) fn unfold_write(
+        &mut self,
+        alloc: Global,
+        inner: &Arc<Simple>,
+        focus: &mut Focus,
+    ) -> Mem<Progress>
+        requires { IsDeep self.old }
+        ensures { IfOk result (λ p. StepsFrom (Focus.Write inner.now) self.old self.new (leads_of p focus.new)) }
+    {
+        let m = begin_write(alloc, inner)?;
+        self.apply_move(alloc, m, focus)
+    }
 
-/// A part of a path is handed the value that it waits for.
-#[tactic(auto, using(crate::proofs::Moved::move_acts))]
-pub(crate) fn handed(alloc: Global, state: &State, frame: PathFrame, value: Value) -> Mem<Act>
-    ensures { IfOk result (Unfolds (focus.Handed frame value) state.now) }
-{
-    Ok(Act::Moves(hand_path(alloc, frame, value)?))
-}
+    /// A part of a path is handed the value that it waits for.
+    pub(crate) fn hand_to_path(
+        &mut self,
+        alloc: Global,
+        frame: Box<PathFrame>,
+        value: Value,
+        focus: &mut Focus,
+    ) -> Mem<Progress>
+        requires { IsDeep self.old }
+        ensures { IfOk result (λ p. StepsFrom (Focus.Handed frame value) self.old self.new (leads_of p focus.new)) }
+    {
+        let part = Box::into_inner(frame);
+        let m = hand_path(alloc, part, value)?;
+        self.apply_move(alloc, m, focus)
+    }
 
-/// A path from this point and this link on.
-#[tactic(auto, using(crate::proofs::Moved::on_acts))]
-pub(crate) fn walk_on(
-    alloc: Global,
-    state: &State,
-    awaited: bool,
-    point: Point,
-    node: Arc<Expr>,
-    place: usize,
-) -> Mem<Act>
-    ensures { IfOk result (Unfolds (focus.Walk awaited point node place) state.now) }
-{
-    Ok(Act::Moves(walk(alloc, awaited, point, node, place, &state.fields)?))
-}
+    /// A path from this point and this link on.
+    pub(crate) fn walk_on(
+        &mut self,
+        alloc: Global,
+        awaited: bool,
+        point: Point,
+        node: Arc<Expr>,
+        place: usize,
+        focus: &mut Focus,
+    ) -> Mem<Progress>
+        requires { IsDeep self.old }
+        ensures { IfOk result (λ p. StepsFrom (Focus.Walk awaited point node place) self.old self.new (leads_of p focus.new)) }
+    {
+        let m = walk(alloc, awaited, point, node, place, &self.state.fields)?;
+        self.apply_move(alloc, m, focus)
+    }
 
-/// The arguments of a call from this one on.
-#[tactic(auto, using(crate::proofs::Moved::move_acts))]
-pub(crate) fn arguments_from(
-    state: &State,
-    callee: Callee,
-    got: Vec<Value>,
-    node: Arc<Expr>,
-    link: usize,
-    place: usize,
-) -> Mem<Act>
-    ensures { IfOk result (Unfolds (focus.Arguments callee got node link place) state.now) }
-{
-    Ok(Act::Moves(arguments(callee, got, node, link, place)?))
-}
+    /// The arguments of a call from this one on.
+    pub(crate) fn unfold_arguments(
+        &mut self,
+        alloc: Global,
+        callee: Callee,
+        got: Vec<Value>,
+        node: Arc<Expr>,
+        link: usize,
+        place: usize,
+        focus: &mut Focus,
+    ) -> Mem<Progress>
+        requires { IsDeep self.old }
+        ensures { IfOk result (λ p. StepsFrom (Focus.Arguments callee got node link place) self.old self.new (leads_of p focus.new)) }
+    {
+        let m = arguments(alloc, callee, got, node, link, place)?;
+        self.apply_move(alloc, m, focus)
+    }
 
-/// The rest of the place of a push from that link on, and the push.
-#[tactic(auto, using(crate::proofs::Moved::move_acts))]
-pub(crate) fn push_to(
-    alloc: Global,
-    state: &State,
-    root: Root,
-    steps: Vec<Step>,
-    node: Arc<Expr>,
-    place: usize,
-) -> Mem<Act>
-    ensures { IfOk result (Unfolds (focus.Push root steps node place) state.now) }
-{
-    Ok(Act::Moves(push(alloc, root, steps, node, place)?))
-}
+    /// The rest of the place of a push from that link on, and the push.
+    pub(crate) fn unfold_push(
+        &mut self,
+        alloc: Global,
+        root: Root,
+        steps: Vec<Step>,
+        node: Arc<Expr>,
+        place: usize,
+        focus: &mut Focus,
+    ) -> Mem<Progress>
+        requires { IsDeep self.old }
+        ensures { IfOk result (λ p. StepsFrom (Focus.Push root steps node place) self.old self.new (leads_of p focus.new)) }
+    {
+        let m = push(alloc, root, steps, node, place)?;
+        self.apply_move(alloc, m, focus)
+    }
 
-/// The rest of the place of a write from that link on, and the write.
-#[tactic(auto, using(crate::proofs::Moved::move_acts))]
-pub(crate) fn place_of(
-    alloc: Global,
-    state: &State,
-    writing: Writing,
-    root: Root,
-    steps: Vec<Step>,
-    node: Arc<Expr>,
-    link: usize,
-) -> Mem<Act>
-    ensures { IfOk result (Unfolds (focus.Place writing root steps node link) state.now) }
-{
-    Ok(Act::Moves(place(alloc, writing, root, steps, node, link)?))
-}
+    /// The rest of the place of a write from that link on, and the write.
+    pub(crate) fn unfold_place(
+        &mut self,
+        alloc: Global,
+        writing: Writing,
+        root: Root,
+        steps: Vec<Step>,
+        node: Arc<Expr>,
+        link: usize,
+        focus: &mut Focus,
+    ) -> Mem<Progress>
+        requires { IsDeep self.old }
+        ensures { IfOk result (λ p. StepsFrom (Focus.Place writing root steps node link) self.old self.new (leads_of p focus.new)) }
+    {
+        let m = place(alloc, writing, root, steps, node, link)?;
+        self.apply_move(alloc, m, focus)
+    }
 
-/// The write to a place that is found.
-#[tactic(auto, using(crate::proofs::Moved::with_acts))]
-pub(crate) fn write_at(
-    alloc: Global,
-    state: &State,
-    writing: Writing,
-    root: Root,
-    steps: Vec<Step>,
-) -> Mem<Act>
-    ensures { IfOk result (Unfolds (focus.Written writing root steps) state.now) }
-{
-    Ok(Act::Moves(written(alloc, writing, root, steps, &state.vars, &state.fields)?))
+    /// The write to a place that is found.
+    pub(crate) fn write_at(
+        &mut self,
+        alloc: Global,
+        writing: Writing,
+        root: Root,
+        steps: Vec<Step>,
+        focus: &mut Focus,
+    ) -> Mem<Progress>
+        requires { IsDeep self.old }
+        ensures { IfOk result (λ p. StepsFrom (Focus.Written writing root steps) self.old self.new (leads_of p focus.new)) }
+    {
+        let m = written(
+            alloc,
+            writing,
+            root,
+            steps,
+            &self.state.vars,
+            &self.state.fields,
+        )?;
+        self.apply_move(alloc, m, focus)
+    }
 }

@@ -1,57 +1,91 @@
 //! Variables, and writes to places.
 ghost use Rattle.std.specs.Prelude.{IfOk};
-ghost use Rattle.script_steps.specs.declared.focus.Focus.TheVariants as focus;
-ghost use Rattle.script_eval.specs.Acts.{Changes, Unfolds};
+ghost use Rattle.script_steps.specs.declared.focus.Focus.{Focus as SeenFocus};
+ghost use Rattle.script_eval.specs.Machines.{IsDeep, Reads, StepsFrom, leads_of};
 
-use crate::act::Act;
+use crate::machine::{Machine, Progress};
 use do_tree::{Block, Expr};
 use do_value::{Mem, Text, Value};
 use script_places::Step;
-use script_state::{Done, State};
-use script_steps::Root;
+use script_state::Done;
+use script_steps::{Focus, Root};
 use std::alloc::Global;
 use std::sync::Arc;
 
-/// The variable that this expression names is read.
-pub(crate) fn variable(state: &State, expr: &Arc<Expr>) -> Mem<Act>
-    ensures { IfOk result (Unfolds (focus.Variable expr.now) state.now) }
-{
-    Ok(Act::Does(Done::Ended(state.variable(expr)?)))
-}
-
-/// The variable of this name is read, for which a step is charged.
-#[tactic(auto, using(crate::proofs::Doings::named_acts, crate::proofs::Doings::named_exceeds))]
-pub(crate) fn named(state: &mut State, name: Text) -> Mem<Act>
-    ensures { IfOk result (Changes (focus.Named name) state.old state.new) }
-{
-    if !state.charge(1) {
-        return Ok(Act::Does(Done::Exceeded));
+impl Machine {
+    /// The variable that this expression names is read.
+    pub(crate) fn read_variable(
+        &mut self,
+        alloc: Global,
+        expr: &Arc<Expr>,
+        focus: &mut Focus,
+    ) -> Mem<Progress>
+        requires { IsDeep self.old }
+        ensures { IfOk result (λ p. StepsFrom (Focus.Variable expr.now) self.old self.new (leads_of p focus.new)) }
+    {
+        let outcome = self.state.variable(expr)?;
+        self.end_part(alloc, outcome, focus)
     }
-    Ok(Act::Does(Done::Ended(state.named(&name)?)))
-}
 
-/// The name that the item at this place of the block declares is bound.
-pub(crate) fn declare(
-    alloc: Global,
-    state: &mut State,
-    block: &Arc<Block>,
-    place: usize,
-    value: Value,
-) -> Mem<Act>
-    ensures { IfOk result (Changes (focus.Declare block.now place value) state.old state.new) }
-{
-    Ok(Act::Does(Done::Ended(state.declare(alloc, block, place, value)?)))
-}
+    /// A part is done that reads the variable of this name and does nothing else, for which a step is charged.
+    pub(crate) fn read_charged(
+        &mut self,
+        alloc: Global,
+        name: &Text,
+        focus: &mut Focus,
+    ) -> Mem<Progress>
+        requires { IsDeep self.old }
+        ensures { IfOk result (λ p. (f : SeenFocus) → Reads f name.now → StepsFrom f self.old self.new (leads_of p focus.new)) }
+    {
+        if !self.state.charge(1) {
+            return self.finish(alloc, Done::Exceeded, focus);
+        }
+        let outcome = self.state.named(name)?;
+        self.end_part(alloc, outcome, focus)
+    }
 
-/// The place has this value.
-pub(crate) fn assign(
-    alloc: Global,
-    state: &mut State,
-    root: &Root,
-    steps: &Vec<Step>,
-    value: Value,
-) -> Mem<Act>
-    ensures { IfOk result (Changes (focus.Assign root.now steps.now value) state.old state.new) }
-{
-    Ok(Act::Does(Done::Ended(state.assign(alloc, root, steps, value)?)))
+    /// The variable of this name is read, for which a step is charged.
+    pub(crate) fn read_named(
+        &mut self,
+        alloc: Global,
+        name: Text,
+        focus: &mut Focus,
+    ) -> Mem<Progress>
+        requires { IsDeep self.old }
+        ensures { IfOk result (λ p. StepsFrom (Focus.Named name) self.old self.new (leads_of p focus.new)) }
+    {
+        self.read_charged(alloc, &name, focus)
+    }
+
+    /// The name that the item at this place of the block declares is bound.
+    pub(crate) fn declare(
+        &mut self,
+        alloc: Global,
+        block: &Arc<Block>,
+        place: usize,
+        value: Value,
+        focus: &mut Focus,
+    ) -> Mem<Progress>
+        requires { IsDeep self.old }
+        ensures { IfOk result (λ p. StepsFrom (Focus.Declare block.now place value) self.old self.new (leads_of p focus.new)) }
+    {
+        let outcome = self.state.declare(alloc, block, place, value)?;
+        self.end_part(alloc, outcome, focus)
+    }
+
+    /// The place has this value.
+    pub(crate) fn assign(
+        &mut self,
+        alloc: Global,
+        root: &Root,
+        steps: &Vec<Step>,
+        value: Value,
+        focus: &mut Focus,
+    ) -> Mem<Progress>
+        requires { IsDeep self.old }
+        ensures { IfOk result (λ p. StepsFrom (Focus.Assign root.now steps.now value) self.old self.new (leads_of p focus.new)) }
+    {
+        let outcome = self.state.assign(alloc, root, steps, value)?;
+        self.end_part(alloc, outcome, focus)
+    }
 }

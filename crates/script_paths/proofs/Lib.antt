@@ -1,5 +1,6 @@
 mod Args
 pub mod Counted
+mod Framed
 mod Found
 mod Handed
 pub mod Links

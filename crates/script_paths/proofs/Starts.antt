@@ -27,11 +27,11 @@ use Rattle.script_steps.proofs.Begun.{charged_steps}
 use Rattle.script_steps.specs.Parts.{IsBare, IsPlain, links_in, links_of}
 use Rattle.script_steps.specs.Paths.{point_of}
 use Rattle.script_steps.specs.Seen.{charged, framed}
-use Rattle.script_steps.specs.Weight.{LeavesLess}
+use Rattle.script_steps.specs.Weight.{LeavesLess, frame_weight, path_frame_weight}
 use Rattle.script_steps.specs.declared.path.Point.{Point}
 use Rattle.script_steps.specs.declared.path.Point.TheVariants as come
 use Rattle.script_steps.specs.declared.path.PathFrame.TheVariants as waiting
-use Rattle.script_steps.specs.declared.frame.Frame.TheVariants as frame
+use Rattle.script_steps.specs.declared.frame.Frame.{Frame}
 use Rattle.script_steps.specs.declared.focus.Focus.TheVariants as focus
 use Rattle.script_steps.specs.declared.focus.Move.TheVariants as move
 use Rattle.script_places.specs.Steps.{steps_in}
@@ -201,8 +201,9 @@ parts_are (tree.index at e ls) = omega arith
 parts_are (tree.call at args ls) = omega arith
 
 pub other_less : (awaited : Bool) (nd base : Arc Expr Global) (ls : Links) (n : ℕ)
-    → links_of (expr_of nd.value) ≡ ls → n ≡ parts_of_value ls → LeavesLess 2 (move.Inside n (frame.Path (waiting.Walk awaited nd 0)) (focus.Value false base))
-other_less awaited nd base ls n same many =
+    → links_of (expr_of nd.value) ≡ ls → n ≡ parts_of_value ls → (w : Frame) → frame_weight w ≡ path_frame_weight (waiting.Walk awaited nd 0)
+    → LeavesLess 2 (move.Inside n w (focus.Value false base))
+other_less awaited nd base ls n same many w weighs =
     let a : parts (links_in (expr_of nd.value) 0) ≡ parts ls = ap parts same in
     let b = parts_are ls in
     omega arith

@@ -17,7 +17,7 @@ ghost use Rattle.script_vars.specs.Seen.{bound_of, env_of};
 use crate::counts::{parts_from, parts_of_push, parts_of_value, pushes};
 use do_tree::{Expr, Link};
 use do_value::{Mem, Text};
-use script_steps::{Focus, Frame, Move, PathFrame, Point, Root, again, bare, begin_value};
+use script_steps::{Focus, Move, PathFrame, Point, Root, again, bare, begin_value, path_frame};
 use script_vars::{Bound, Vars};
 use std::alloc::Global;
 use std::sync::Arc;
@@ -70,12 +70,18 @@ fn begin_path(
     match &**base {
         Expr::This { .. } => begin_at(awaited, node, Point::Itself, links),
         Expr::Variable(name) => begin_named(alloc, awaited, node, &name.text, links, vars),
-        _ => begin_value_path(awaited, node, base, links),
+        _ => begin_value_path(alloc, awaited, node, base, links),
     }
 }
 
 /// How a path begins that another expression begins.
-fn begin_value_path(awaited: bool, node: &Arc<Expr>, base: &Arc<Expr>, links: &[Link]) -> Mem<Move>
+fn begin_value_path(
+    alloc: Global,
+    awaited: bool,
+    node: &Arc<Expr>,
+    base: &Arc<Expr>,
+    links: &[Link],
+) -> Mem<Move>
     requires { links_of (expr_of node.now.value) ≡ list_in links.now }
     ensures same { IfOk result (λ m. (calls : Calls) → value_path awaited calls (expr_of base.now.value) (list_in links.now) ≡ move_run calls m) }
     ensures less { IfOk result (LeavesLess 2) }
@@ -83,7 +89,7 @@ fn begin_value_path(awaited: bool, node: &Arc<Expr>, base: &Arc<Expr>, links: &[
     let node = again(node)?;
     let base = again(base)?;
     let cost = parts_of_value(links);
-    let frame = Frame::Path(PathFrame::Walk(awaited, node, 0));
+    let frame = path_frame(alloc, PathFrame::Walk(awaited, node, 0))?;
     Ok(Move::Inside(cost, frame, Focus::Value(false, base)))
 }
 

@@ -12,11 +12,13 @@ ghost use Rattle.script_steps.specs.Weight.{LeavesLess, callee_weight};
 
 use do_tree::{Arg, Expr};
 use do_value::{Mem, Value};
-use script_steps::{Callee, Focus, Frame, Move, PathFrame, again, arg_at};
+use script_steps::{Callee, Focus, Move, PathFrame, again, arg_at, path_frame};
+use std::alloc::Global;
 use std::sync::Arc;
 
 /// The arguments of a call from this one on, after the first of them, and then the call. Callbacks are passed over.
 pub fn arguments(
+    alloc: Global,
     callee: Callee,
     got: Vec<Value>,
     node: Arc<Expr>,
@@ -32,11 +34,9 @@ pub fn arguments(
         match arg_at(&node, link, place) {
             Some(Arg::Value(expr)) => {
                 let expr = again(expr)?;
-                return Ok(Move::Inside(
-                    0,
-                    Frame::Path(PathFrame::Call(callee, got, node, link, place + 1)),
-                    Focus::Value(false, expr),
-                ));
+                let part = PathFrame::Call(callee, got, node, link, place + 1);
+                let frame = path_frame(alloc, part)?;
+                return Ok(Move::Inside(0, frame, Focus::Value(false, expr)));
             }
             Some(Arg::Callback(_)) => place += 1,
             None => return Ok(Move::Then(0, Focus::Call(callee, got))),

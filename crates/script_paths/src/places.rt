@@ -26,7 +26,7 @@ use do_tree::{Expr, Link, Simple, Write};
 use do_value::{BinOp, Fields, Mem, NoMemory, Value};
 use script_ops::OpFault;
 use script_places::{Step, moved, part_at};
-use script_steps::{Focus, Frame, Move, Outcome, PathFrame, Root, Writing, again, link_at};
+use script_steps::{Focus, Move, Outcome, PathFrame, Root, Writing, again, link_at, path_frame};
 use script_vars::{Bound, Vars};
 use std::alloc::Global;
 use std::sync::Arc;
@@ -134,11 +134,9 @@ pub fn place(
             }
             Some(Link::Index { index, .. }) => {
                 let index = again(index)?;
-                return Ok(Move::Inside(
-                    0,
-                    Frame::Path(PathFrame::PlaceIndex(writing, root, steps, node, place + 1)),
-                    Focus::Value(false, index),
-                ));
+                let part = PathFrame::PlaceIndex(writing, root, steps, node, place + 1);
+                let frame = path_frame(alloc, part)?;
+                return Ok(Move::Inside(0, frame, Focus::Value(false, index)));
             }
             Some(Link::Call { .. }) => return Ok(nowhere()),
             None => return Ok(Move::Then(0, Focus::Written(writing, root, steps))),
@@ -160,11 +158,10 @@ pub fn written(
     ensures less { IfOk result (LeavesLess 10) }
 {
     match writing {
-        Writing::Assigns(value) => Ok(Move::Inside(
-            0,
-            Frame::Path(PathFrame::Assign(root, steps)),
-            Focus::Value(false, value),
-        )),
+        Writing::Assigns(value) => {
+            let frame = path_frame(alloc, PathFrame::Assign(root, steps))?;
+            Ok(Move::Inside(0, frame, Focus::Value(false, value)))
+        }
         Writing::Updates(op, right) => update(alloc, root, steps, op, right, vars, fields),
         Writing::Moves(by) => move_by(alloc, root, steps, by, vars, fields),
     }
@@ -186,11 +183,10 @@ fn update(
     ensures less { IfOk result (LeavesLess 10) }
 {
     match place_value(alloc, &root, &steps, vars, fields) {
-        Ok(old) => Ok(Move::Inside(
-            0,
-            Frame::Path(PathFrame::Update(root, steps, op, old)),
-            Focus::Value(false, right),
-        )),
+        Ok(old) => {
+            let frame = path_frame(alloc, PathFrame::Update(root, steps, op, old))?;
+            Ok(Move::Inside(0, frame, Focus::Value(false, right)))
+        }
         Err(OpFault::Throw(error)) => Ok(Move::Then(0, Focus::Ended(Outcome::Threw(error)))),
         Err(OpFault::NoMemory) => Err(NoMemory),
     }

@@ -18,7 +18,7 @@ use do_tree::Expr;
 use do_value::{Mem, NoMemory, Text, Value};
 use script_ops::OpFault;
 use script_places::property;
-use script_steps::{Callee, Focus, Frame, Move, Outcome, PathFrame, Point};
+use script_steps::{Callee, Focus, Move, Outcome, PathFrame, Point, path_frame};
 use std::alloc::Global;
 use std::sync::Arc;
 
@@ -57,13 +57,13 @@ fn value_goes_on(
         Ahead::Field(name) => part_of(alloc, awaited, &value, &name, node, place + 1),
         Ahead::Method(name) => {
             let got = one(alloc, value)?;
-            call_at(awaited, Callee::Value(name), got, node, place + 1, 0)
+            call_at(alloc, awaited, Callee::Value(name), got, node, place + 1, 0)
         }
-        Ahead::Index(index) => Ok(Move::Inside(
-            0,
-            Frame::Path(PathFrame::Index(awaited, value, node, place + 1)),
-            Focus::Value(false, index),
-        )),
+        Ahead::Index(index) => {
+            let part = PathFrame::Index(awaited, value, node, place + 1);
+            let frame = path_frame(alloc, part)?;
+            Ok(Move::Inside(0, frame, Focus::Value(false, index)))
+        }
         Ahead::Call => Ok(nowhere()),
     }
 }

@@ -19,7 +19,7 @@ use crate::storing::{from_context, from_handle, from_storage};
 use crate::values::{from_value, from_word};
 use do_tree::Expr;
 use do_value::{Fields, Mem, Value};
-use script_steps::{Callee, Focus, Frame, Move, Outcome, PathFrame, Point, again};
+use script_steps::{Callee, Focus, Move, Outcome, PathFrame, Point, again, path_frame};
 use std::alloc::Global;
 use std::sync::Arc;
 
@@ -51,6 +51,7 @@ pub fn walk(
 /// The call at that link, whose arguments are evaluated from that one on behind those that are there, and then the path from
 /// its value on.
 pub(crate) fn call_at(
+    alloc: Global,
     awaited: bool,
     callee: Callee,
     got: Vec<Value>,
@@ -65,11 +66,8 @@ pub(crate) fn call_at(
     ensures less { IfOk result (LeavesLess (20 + 10 * parts (links_in (expr_of node.value) (link + 1)) + callee_weight callee)) }
 {
     let rest = again(&node)?;
-    Ok(Move::Inside(
-        0,
-        Frame::Path(PathFrame::Walk(awaited, rest, link + 1)),
-        Focus::Arguments(callee, got, node, link, first),
-    ))
+    let frame = path_frame(alloc, PathFrame::Walk(awaited, rest, link + 1))?;
+    Ok(Move::Inside(0, frame, Focus::Arguments(callee, got, node, link, first)))
 }
 
 /// The same where no argument is there yet.
@@ -87,7 +85,7 @@ pub(crate) fn call_from(
         (arguments calls (args_in (expr_of node.value) link first) [] (called calls (callee_of callee))) ≡ move_run calls m) }
     ensures less { IfOk result (LeavesLess (20 + 10 * parts (links_in (expr_of node.value) (link + 1)) + callee_weight callee)) }
 {
-    call_at(awaited, callee, Vec::new(alloc), node, link, first)
+    call_at(alloc, awaited, callee, Vec::new(alloc), node, link, first)
 }
 
 /// What a checked script doesn't have.

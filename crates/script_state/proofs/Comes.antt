@@ -5,6 +5,7 @@ use Rattle.std.specs.List.{All}
 use Rattle.std.proofs.lemmas.List.{take_min}
 use Rattle.std.proofs.lemmas.List.Elements.{All-take}
 use Rattle.do_value.specs.Tree.{Tree}
+use Rattle.do_value.specs.Seen.{tree_of}
 use Rattle.do_value.specs.declared.value.Value.{Value}
 use Rattle.storage_map.specs.declared.answer.Reading.{Reading}
 use Rattle.storage_map.specs.declared.answer.Reading.TheVariants.{One, Pairs, Alarm, Count}
@@ -45,14 +46,11 @@ pub first_keyed : (n : ℕ) (ops : List Op) → All IsOnKey ops → All IsOnKey 
 first_keyed n ops all = All-take IsOnKey n ops all
 
 -- What a delete finds, through the first of the operations of a transaction that is there.
-pub found_ends : {E : Type 0} (made : Option (Option (List Op))) (txn : Option (List Op)) (n : ℕ) (ask : StoreAsk) (below reading : Reading) (answer : Result Value OpFault) (r : Result Outcome E)
-    → made ≡ Some txn → reading ≡ view (take n (ops_of txn)) ask below → Answers (Ok (found reading)) answer
-    → ((meant : Result Tree Tree) → Answers meant answer → IfOk r (λ o. answers.outcome_of meant ≡ outcome_of o))
-    → IfOk r (λ o. answers.gave (found (view (take n (writes_of made)) ask below)) ≡ outcome_of o)
-found_ends made txn n ask below reading answer r is read told ends =
-    if_ok r
-    (λ o end. ap (λ t. answers.gave (found (view (take n (writes_of t)) ask below))) is ∙ ap (λ x. answers.gave (found x)) (sym read) ∙ end)
-    (ends (Ok (found reading)) told)
+pub found_ends : (made : Option (Option (List Op))) (txn : Option (List Op)) (n : ℕ) (ask : StoreAsk) (below reading : Reading) (v : Value)
+    → made ≡ Some txn → reading ≡ view (take n (ops_of txn)) ask below → tree_of v ≡ found reading
+    → answers.gave (found (view (take n (writes_of made)) ask below)) ≡ answers.gave (tree_of v)
+found_ends made txn n ask below reading v is read told =
+    ap (λ t. answers.gave (found (view (take n (writes_of t)) ask below))) is ∙ ap (λ x. answers.gave (found x)) (sym read) ∙ ap answers.gave (sym told)
 
 -- A reading of the kind that was asked gives what is read in it, one of another kind something else.
 pub of_kind : {E : Type 0} (k b : Bool) (x y : answers.Outcome) (r : Result Outcome E) → k ≡ b → k ≡ true

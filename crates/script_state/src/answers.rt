@@ -166,7 +166,7 @@ fn was_there(
     ensures { IfOk result (λ o. answers.gave (found (view (take count (writes_of transaction.now)) ask.now below)) ≡ outcome_of o) }
 {
     match transaction {
-        Some(txn) => worked(found(&before(alloc, txn, ask, count, below)?)),
+        Some(txn) => Ok(Outcome::Gave(found(&before(alloc, txn, ask, count, below)?))),
         None => unreachable!(),
     }
 }

@@ -8,11 +8,52 @@ use Rattle.do_tree.specs.declared.stmt.Stmt.{Stmt}
 use Rattle.script_mean.specs.Answers.{broke, continued, returned, threw}
 use Rattle.script_mean.specs.Calls.{Calls}
 use Rattle.script_mean.specs.Turn.{ends}
+use Rattle.script_steps.specs.Paths.{path_frame_of}
 use Rattle.script_steps.specs.Seen.{frame_of, handed, left}
 use Rattle.script_steps.specs.declared.frame.Between.{Between as Standing}
 use Rattle.script_steps.specs.declared.frame.Frame.{Frame}
 use Rattle.script_steps.specs.declared.frame.Frame.TheVariants as waiting
+use Rattle.script_steps.specs.declared.path.PathFrame.{PathFrame}
 use Rattle.script_steps.specs.declared.path.PathFrame.TheVariants as path
+
+module _ (calls : Calls) where
+  -- A part of a path catches no throw,
+  path_throws : (f : PathFrame) (v : Tree) → handed calls (path_frame_of f) (threw v) ≡ ends (threw v)
+  path_throws (path.Walk a b c) v = refl
+  path_throws (path.Index a b c d) v = refl
+  path_throws (path.Call a b c d e) v = refl
+  path_throws (path.PushIndex a b c d) v = refl
+  path_throws (path.PlaceIndex a b c d e) v = refl
+  path_throws (path.Assign a b) v = refl
+  path_throws (path.Update a b c d) v = refl
+
+  -- and no exit.
+  path_returns : (f : PathFrame) (v : Tree) → handed calls (path_frame_of f) (returned v) ≡ ends (returned v)
+  path_returns (path.Walk a b c) v = refl
+  path_returns (path.Index a b c d) v = refl
+  path_returns (path.Call a b c d e) v = refl
+  path_returns (path.PushIndex a b c d) v = refl
+  path_returns (path.PlaceIndex a b c d e) v = refl
+  path_returns (path.Assign a b) v = refl
+  path_returns (path.Update a b c d) v = refl
+
+  path_breaks : (f : PathFrame) → handed calls (path_frame_of f) broke ≡ ends broke
+  path_breaks (path.Walk a b c) = refl
+  path_breaks (path.Index a b c d) = refl
+  path_breaks (path.Call a b c d e) = refl
+  path_breaks (path.PushIndex a b c d) = refl
+  path_breaks (path.PlaceIndex a b c d e) = refl
+  path_breaks (path.Assign a b) = refl
+  path_breaks (path.Update a b c d) = refl
+
+  path_continues : (f : PathFrame) → handed calls (path_frame_of f) continued ≡ ends continued
+  path_continues (path.Walk a b c) = refl
+  path_continues (path.Index a b c d) = refl
+  path_continues (path.Call a b c d e) = refl
+  path_continues (path.PushIndex a b c d) = refl
+  path_continues (path.PlaceIndex a b c d e) = refl
+  path_continues (path.Assign a b) = refl
+  path_continues (path.Update a b c d) = refl
 
 module _ (calls : Calls) where
   -- A throw passes by what catches none.
@@ -41,13 +82,7 @@ module _ (calls : Calls) where
   throw_passes waiting.Pass v not_catch not_leave not_commit not_unblock = refl
   throw_passes waiting.Leave v not_catch not_leave not_commit not_unblock = absurd (not_leave refl)
   throw_passes (waiting.Catch a) v not_catch not_leave not_commit not_unblock = absurd (not_catch a refl)
-  throw_passes (waiting.Path (path.Walk a b c)) v not_catch not_leave not_commit not_unblock = refl
-  throw_passes (waiting.Path (path.Index a b c d)) v not_catch not_leave not_commit not_unblock = refl
-  throw_passes (waiting.Path (path.Call a b c d e)) v not_catch not_leave not_commit not_unblock = refl
-  throw_passes (waiting.Path (path.PushIndex a b c d)) v not_catch not_leave not_commit not_unblock = refl
-  throw_passes (waiting.Path (path.PlaceIndex a b c d e)) v not_catch not_leave not_commit not_unblock = refl
-  throw_passes (waiting.Path (path.Assign a b)) v not_catch not_leave not_commit not_unblock = refl
-  throw_passes (waiting.Path (path.Update a b c d)) v not_catch not_leave not_commit not_unblock = refl
+  throw_passes (waiting.Path f) v not_catch not_leave not_commit not_unblock = path_throws calls f.value v
   throw_passes waiting.Commit v not_catch not_leave not_commit not_unblock = absurd (not_commit refl)
   throw_passes (waiting.Unblock a) v not_catch not_leave not_commit not_unblock = absurd (not_unblock a refl)
 
@@ -77,13 +112,7 @@ module _ (calls : Calls) where
   return_passes waiting.Pass v not_leave not_commit not_unblock = refl
   return_passes waiting.Leave v not_leave not_commit not_unblock = absurd (not_leave refl)
   return_passes (waiting.Catch a) v not_leave not_commit not_unblock = refl
-  return_passes (waiting.Path (path.Walk a b c)) v not_leave not_commit not_unblock = refl
-  return_passes (waiting.Path (path.Index a b c d)) v not_leave not_commit not_unblock = refl
-  return_passes (waiting.Path (path.Call a b c d e)) v not_leave not_commit not_unblock = refl
-  return_passes (waiting.Path (path.PushIndex a b c d)) v not_leave not_commit not_unblock = refl
-  return_passes (waiting.Path (path.PlaceIndex a b c d e)) v not_leave not_commit not_unblock = refl
-  return_passes (waiting.Path (path.Assign a b)) v not_leave not_commit not_unblock = refl
-  return_passes (waiting.Path (path.Update a b c d)) v not_leave not_commit not_unblock = refl
+  return_passes (waiting.Path f) v not_leave not_commit not_unblock = path_returns calls f.value v
   return_passes waiting.Commit v not_leave not_commit not_unblock = absurd (not_commit refl)
   return_passes (waiting.Unblock a) v not_leave not_commit not_unblock = absurd (not_unblock a refl)
 
@@ -113,13 +142,7 @@ module _ (calls : Calls) where
   break_passes waiting.Pass not_turn not_next not_leave not_commit not_unblock = refl
   break_passes waiting.Leave not_turn not_next not_leave not_commit not_unblock = absurd (not_leave refl)
   break_passes (waiting.Catch a) not_turn not_next not_leave not_commit not_unblock = refl
-  break_passes (waiting.Path (path.Walk a b c)) not_turn not_next not_leave not_commit not_unblock = refl
-  break_passes (waiting.Path (path.Index a b c d)) not_turn not_next not_leave not_commit not_unblock = refl
-  break_passes (waiting.Path (path.Call a b c d e)) not_turn not_next not_leave not_commit not_unblock = refl
-  break_passes (waiting.Path (path.PushIndex a b c d)) not_turn not_next not_leave not_commit not_unblock = refl
-  break_passes (waiting.Path (path.PlaceIndex a b c d e)) not_turn not_next not_leave not_commit not_unblock = refl
-  break_passes (waiting.Path (path.Assign a b)) not_turn not_next not_leave not_commit not_unblock = refl
-  break_passes (waiting.Path (path.Update a b c d)) not_turn not_next not_leave not_commit not_unblock = refl
+  break_passes (waiting.Path f) not_turn not_next not_leave not_commit not_unblock = path_breaks calls f.value
   break_passes waiting.Commit not_turn not_next not_leave not_commit not_unblock = absurd (not_commit refl)
   break_passes (waiting.Unblock a) not_turn not_next not_leave not_commit not_unblock = absurd (not_unblock a refl)
 
@@ -149,13 +172,7 @@ module _ (calls : Calls) where
   continue_passes waiting.Pass not_turn not_next not_leave not_commit not_unblock = refl
   continue_passes waiting.Leave not_turn not_next not_leave not_commit not_unblock = absurd (not_leave refl)
   continue_passes (waiting.Catch a) not_turn not_next not_leave not_commit not_unblock = refl
-  continue_passes (waiting.Path (path.Walk a b c)) not_turn not_next not_leave not_commit not_unblock = refl
-  continue_passes (waiting.Path (path.Index a b c d)) not_turn not_next not_leave not_commit not_unblock = refl
-  continue_passes (waiting.Path (path.Call a b c d e)) not_turn not_next not_leave not_commit not_unblock = refl
-  continue_passes (waiting.Path (path.PushIndex a b c d)) not_turn not_next not_leave not_commit not_unblock = refl
-  continue_passes (waiting.Path (path.PlaceIndex a b c d e)) not_turn not_next not_leave not_commit not_unblock = refl
-  continue_passes (waiting.Path (path.Assign a b)) not_turn not_next not_leave not_commit not_unblock = refl
-  continue_passes (waiting.Path (path.Update a b c d)) not_turn not_next not_leave not_commit not_unblock = refl
+  continue_passes (waiting.Path f) not_turn not_next not_leave not_commit not_unblock = path_continues calls f.value
   continue_passes waiting.Commit not_turn not_next not_leave not_commit not_unblock = absurd (not_commit refl)
   continue_passes (waiting.Unblock a) not_turn not_next not_leave not_commit not_unblock = absurd (not_unblock a refl)
 

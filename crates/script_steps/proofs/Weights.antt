@@ -40,6 +40,6 @@ frame_weighs waiting.Return = omega arith
 frame_weighs waiting.Pass = omega arith
 frame_weighs waiting.Leave = omega arith
 frame_weighs (waiting.Catch a) = omega arith
-frame_weighs (waiting.Path f) = path_frame_weighs f
+frame_weighs (waiting.Path f) = path_frame_weighs f.value
 frame_weighs waiting.Commit = omega arith
 frame_weighs (waiting.Unblock a) = omega arith

@@ -62,7 +62,7 @@ frame_of waiting.Return = frame.to_return
 frame_of waiting.Pass = frame.to_pass
 frame_of waiting.Leave = frame.to_leave
 frame_of (waiting.Catch s) = frame.to_catch (caught_in (stmt_of s.value)) (handler_in (stmt_of s.value))
-frame_of (waiting.Path f) = path_frame_of f
+frame_of (waiting.Path f) = path_frame_of f.value
 frame_of waiting.Commit = frame.to_commit
 frame_of (waiting.Unblock awaited) = frame.to_unblock awaited
 
@@ -143,7 +143,7 @@ focus_run calls (focus.Handle s v) = handling calls (stmt_of s.value) (tree_of v
 focus_run calls (focus.Simple p) = simple calls (simple_of p.value)
 focus_run calls (focus.Write p) = writing calls (simple_of p.value)
 focus_run calls (focus.Leave o) = left (outcome_of o)
-focus_run calls (focus.Handed f v) = handed calls (path_frame_of f) (gave (tree_of v))
+focus_run calls (focus.Handed f v) = handed calls (path_frame_of f.value) (gave (tree_of v))
 focus_run calls (focus.Walk awaited p e n) = links awaited calls (point_of p) (links_in (expr_of e.value) n)
 focus_run calls (focus.Arguments c got e n k) = arguments calls (args_in (expr_of e.value) n k) (trees_in got.items) (called calls (callee_of c))
 focus_run calls (focus.Call c got) = called calls (callee_of c) (trees_in got.items)

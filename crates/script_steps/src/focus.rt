@@ -57,7 +57,7 @@ pub enum Focus {
     /// A block is left, and its names with it, and ended so.
     Leave(Outcome),
     /// A part of a path is handed the value that it waits for.
-    Handed(PathFrame, Value),
+    Handed(Box<PathFrame>, Value),
     /// A path goes on from this point with this link. The flag tells that it is the operand of an await.
     Walk(bool, Point, Arc<Expr>, usize),
     /// The arguments of a call are to be evaluated: what is called, the arguments so far, the path and the call's link, and

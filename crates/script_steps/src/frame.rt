@@ -1,7 +1,13 @@
 //! The parts of a script that are still to run.
+ghost use Rattle.std.specs.Prelude.{◌≡◌, IfOk};
+ghost use Rattle.script_steps.specs.Paths.{path_frame_of};
+ghost use Rattle.script_steps.specs.Seen.{frame_of};
+ghost use Rattle.script_steps.specs.Weight.{frame_weight, path_frame_weight};
+
 use crate::path::PathFrame;
 use do_tree::{Block, Expr, Simple, Stmt};
-use do_value::{BinOp, Items, Text, UnOp, Value};
+use do_value::{BinOp, Items, Mem, NoMemory, Text, UnOp, Value};
+use std::alloc::Global;
 use std::sync::Arc;
 
 /// A part that is still to run once the part inside it is over. It points into the script and copies none of its tree: a
@@ -53,11 +59,22 @@ pub enum Frame {
     /// `try`, whose block runs.
     Catch(Arc<Stmt>),
     /// A part of a path or of a write.
-    Path(PathFrame),
+    Path(Box<PathFrame>),
     /// The end of a transaction.
     Commit,
     /// The end of a block. The flag tells that it is awaited.
     Unblock(bool),
+}
+
+/// The frame of a part of a path or of a write.
+pub fn path_frame(alloc: Global, part: PathFrame) -> Mem<Frame>
+    ensures frame { IfOk result (λ w. frame_of w ≡ path_frame_of part) }
+    ensures weight { IfOk result (λ w. frame_weight w ≡ path_frame_weight part) }
+{
+    match Box::new(alloc, part) {
+        Ok(part) => Ok(Frame::Path(part)),
+        Err(_) => Err(NoMemory),
+    }
 }
 
 /// What stands between two turns of a loop.

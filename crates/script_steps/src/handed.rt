@@ -11,7 +11,7 @@ ghost use Rattle.script_steps.specs.Parts.{chain_of, exprs_from, exprs_of, opera
 ghost use Rattle.script_steps.specs.Seen.{applied, focus_run, frame_of, handed, move_run};
 ghost use Rattle.script_steps.specs.Weight.{LeavesLess, focus_weight, frame_weight};
 
-use crate::block::{branch, declared, tested, turned, visit_from, visited};
+use crate::block::{begin_body, branch, declared, tested, turned, visit_from, visited};
 use crate::focus::{Focus, Move, Outcome};
 use crate::frame::Frame;
 use crate::lists::{list_from, put, put_pair, record_from};
@@ -46,7 +46,7 @@ pub fn hand(alloc: Global, frame: Frame, value: Value) -> Mem<Move>
         }
         Frame::Error => Ok(Move::Then(0, Focus::Ended(error_of(alloc, &[value])?))),
         Frame::Declare(block, place, next) => declared(block, place, next, value),
-        Frame::GoOn(block, next) => Ok(Move::Then(0, Focus::Body(block, next))),
+        Frame::GoOn(block, next) => begin_body(block, next),
         Frame::Branch(yes, other) => Ok(Move::Then(0, branch(yes, other, &value))),
         Frame::Test(test, body, between) => tested(test, body, between, &value),
         Frame::Turn(test, body, between) => turned(test, body, between),

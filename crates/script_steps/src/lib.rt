@@ -18,7 +18,7 @@ mod value;
 
 pub use block::{begin_body, begin_loop};
 pub use focus::{Focus, Move, Outcome};
-pub use frame::{Between, Frame};
+pub use frame::{Between, Frame, path_frame};
 pub use handed::hand;
 pub use link::{arg_at, link_at};
 pub use node::again;

@@ -53,7 +53,7 @@ pub fn begin_run(stmt: &Arc<Stmt>) -> Mem<Move>
         Stmt::Return { value, .. } => begin_return(value),
         Stmt::Break { .. } => Ok(Move::Then(1, Focus::Ended(Outcome::Broke))),
         Stmt::Continue { .. } => Ok(Move::Then(1, Focus::Ended(Outcome::Continued))),
-        Stmt::Simple(inner) => Ok(Move::Then(0, Focus::Simple(again(inner)?))),
+        Stmt::Simple(inner) => begin_simple(inner),
     }
 }
 

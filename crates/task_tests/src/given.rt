@@ -1,22 +1,20 @@
-//! What the tables give: values as JSON, answers, and the turns of a task that are expected.
+//! Tasks turn by turn, and what their asks are answered.
 ghost use Rattle.std.specs.Prelude.{◌≡◌, ◌<◌, length, IfOk, IfSome};
 ghost use Rattle.do_tree.specs.Checked.{tree_of};
 ghost use Rattle.script_eval.specs.Tasks.{HasMethod};
 ghost use Rattle.task_tests.specs.Waits.{class_or};
 ghost use Rattle.storage_map.specs.Ops.{IsOp};
 
-use crate::told::told;
 use do_check::check;
 use do_parse::parse;
 use do_tree::Checked;
 use do_value::{Fields, Num, Value};
-use do_wire::from_json;
 use script_eval::{Answer, Outcome, Task};
 use serde_json::Value as Json;
 use std::alloc::Global;
-use std::process::Abort;
 use std::test::Fail;
 use storage_map::{Alarm, Key, Map, Op, Options, Reading, StoreAsk};
+use test_rows::{count, flag, number, value, word};
 
 /// The moment at which each task starts.
 const START: i64 = 1_000;
@@ -24,57 +22,22 @@ const START: i64 = 1_000;
 /// The moment at which each task goes on.
 const LATER: i64 = 2_000;
 
-/// An answer. Values are JSON.
-#[derive(Debug, Clone, Copy, Drop)]
-pub(crate) enum Given {
-    /// A key's value.
-    One(&'static str),
-    /// A key has no value.
-    Absent,
-    /// These keys with their numbers, in ascending order of the keys.
-    Pairs(&'static [(&'static str, i64)]),
-    /// The same in descending order.
-    Reversed(&'static [(&'static str, i64)]),
-    /// The alarm's time, if there is an alarm.
-    Alarm(Option<u32>),
-    /// How many keys a write took out.
-    Count(u64),
-    /// What a call or a fetch gives.
-    Value(&'static str),
-    /// What a call or a fetch throws.
-    Thrown(&'static str),
-    /// Nothing but that it is done.
-    Nothing,
-}
-
-/// What a task does: its method, the arguments as a JSON list, the object's fields as a JSON record, the first turn, and the
-/// answers to its asks, each with the turn that follows.
-pub(crate) type Row = (
-    &'static str,
-    &'static str,
-    &'static str,
-    &'static str,
-    &'static [(Given, &'static str)],
-);
-
-// A value from JSON.
-fn value(alloc: Global, text: &str) -> Result<Value, Fail> {
-    let json = Json::from_str(alloc, text)?;
-    Ok(from_json(alloc, &json)?)
-}
-
-fn values(alloc: Global, text: &str) -> Result<Vec<Value>, Fail> {
-    match value(alloc, text)? {
+// The list of values at this place of the case.
+fn values(alloc: Global, row: &Json, at: usize) -> Result<Vec<Value>, Fail> {
+    match value(alloc, row, at)? {
         Value::List(items) => Ok(items.into_values()?),
-        _ => Err("no list")?,
+        _ => Ok(Vec::new(alloc)),
     }
 }
 
-/// The fields of an object from JSON.
-pub(crate) fn fields(alloc: Global, text: &str) -> Result<Fields, Fail> {
-    match value(alloc, text)? {
+// The fields of an object at this place of the case, none where no record is there.
+fn fields(alloc: Global, row: &Json, at: usize) -> Result<Fields, Fail> {
+    match value(alloc, row, at)? {
         Value::Rec(fields) => Ok(fields),
-        _ => Err("no record")?,
+        _ => match Value::fields(Vec::new(alloc))? {
+            Value::Rec(none) => Ok(none),
+            _ => Err("no record")?,
+        },
     }
 }
 
@@ -85,11 +48,14 @@ fn put(alloc: Global, key: &str, number: i64) -> Result<Op, Fail>
     Ok(Op::put(key, Value::Num(number))?)
 }
 
-// A listing of these keys with their numbers.
-fn pairs(alloc: Global, given: &[(&'static str, i64)], reverse: bool) -> Result<Reading, Fail> {
+// A listing of the keys with the numbers behind them, from this place of the case on.
+fn pairs(alloc: Global, row: &Json, reverse: bool) -> Result<Reading, Fail> {
     let mut map = Map::new(alloc);
-    for (key, number) in given {
-        map.apply_op(&put(alloc, *key, *number)?)?;
+    for pair in 0..4 {
+        let at = 1 + 2 * pair;
+        if row.get(at).is_some() {
+            map.apply_op(&put(alloc, word(row, at), number(row, at + 1))?)?;
+        }
     }
     let all = Options {
         start: None,
@@ -102,21 +68,22 @@ fn pairs(alloc: Global, given: &[(&'static str, i64)], reverse: bool) -> Result<
     Ok(map.reading(&StoreAsk::List(all))?)
 }
 
-// The answer that is given.
-fn answer(alloc: Global, given: Given) -> Result<Answer, Fail> {
-    Ok(match given {
-        Given::One(text) => Answer::Read(Reading::One(value(alloc, text)?)),
-        Given::Absent => Answer::Read(Reading::One(Value::Undefined)),
-        Given::Pairs(given) => Answer::Read(pairs(alloc, given, false)?),
-        Given::Reversed(given) => Answer::Read(pairs(alloc, given, true)?),
-        Given::Alarm(None) => Answer::Read(Reading::Alarm(None)),
-        Given::Alarm(Some(time)) => {
-            Answer::Read(Reading::Alarm(Some(Alarm::new(i64::from(time), 0))))
-        }
-        Given::Count(count) => Answer::Read(Reading::Count(count)),
-        Given::Value(text) => Answer::Value(value(alloc, text)?),
-        Given::Thrown(text) => Answer::Thrown(value(alloc, text)?),
-        Given::Nothing => Answer::Value(Value::Undefined),
+// The alarm of this time, or none.
+fn alarm(row: &Json) -> Option<Alarm> {
+    let time = row.get(1).and_then(Json::as_u64)?;
+    Some(Alarm::new(i64::from(u32::try_from(time).unwrap_or(0)), 0))
+}
+
+// The answer that the case gives: its word, and what belongs to it.
+fn answer(alloc: Global, row: &Json) -> Result<Answer, Fail> {
+    Ok(match word(row, 0) {
+        "one" => Answer::Read(Reading::One(value(alloc, row, 1)?)),
+        "pairs" => Answer::Read(pairs(alloc, row, false)?),
+        "reversed" => Answer::Read(pairs(alloc, row, true)?),
+        "alarm" => Answer::Read(Reading::Alarm(alarm(row))),
+        "count" => Answer::Read(Reading::Count(count(row, 1))),
+        "thrown" => Answer::Thrown(value(alloc, row, 1)?),
+        _ => Answer::Value(value(alloc, row, 1)?),
     })
 }
 
@@ -148,26 +115,24 @@ fn found(checked: &Checked, class: u32, method: &str) -> Option<u32>
 pub(crate) struct Running {
     checked: Checked,
     class: u32,
-    outcome: Outcome,
+    pub(crate) outcome: Outcome,
     ghost there: { class < length (tree_of checked).classes },
     ghost kept: { class_or class outcome ≡ class },
 }
 
 impl Running {
-    /// The first turn of a task.
+    /// The first turn of a task: `start METHOD ARGUMENTS FIELDS`.
     #[tactic(auto, using(crate::proofs::Found::class_within, crate::proofs::Found::class_kept))]
     pub(crate) fn start(
         alloc: Global,
         text: &str,
         class: &str,
-        method: &str,
-        args: &str,
-        with: &str,
+        row: &Json,
     ) -> Result<Running, Fail> {
         let checked = script(alloc, text)?;
         let class = checked.class(class).ok_or("no class")?;
-        let method = found(&checked, class, method).ok_or("no method")?;
-        let (args, with) = (values(alloc, args)?, fields(alloc, with)?);
+        let method = found(&checked, class, word(row, 1)).ok_or("no method")?;
+        let (args, with) = (values(alloc, row, 2)?, fields(alloc, row, 3)?);
         let outcome = Task::start(alloc, &checked, class, method, args, with, START)?;
         Ok(Running {
             checked,
@@ -176,26 +141,9 @@ impl Running {
         })
     }
 
-    /// The last turn is told so.
-    pub(crate) fn expect(
-        &self,
-        rt: &impl Abort,
-        alloc: Global,
-        expected: &str,
-    ) -> Result<(), Fail> {
-        let line = told(alloc, &self.outcome)?;
-        assert_eq!(rt; line.as_str(), expected);
-        Ok(())
-    }
-
-    /// The next turn, on an object with these fields, or with those that the last turn left.
+    /// The next turn, on an object with the fields of the case's record `with`, or with those that the last turn left.
     #[tactic(auto, using(crate::proofs::Found::has_class, crate::proofs::Found::class_kept))]
-    pub(crate) fn go_on(
-        self,
-        alloc: Global,
-        given: Given,
-        found: Option<Fields>,
-    ) -> Result<Running, Fail> {
+    pub(crate) fn go_on(self, alloc: Global, row: &Json) -> Result<Running, Fail> {
         let Running {
             checked,
             class,
@@ -204,44 +152,16 @@ impl Running {
         let Outcome::Paused { task, fields, .. } = outcome else {
             return Err("no pause")?;
         };
-        let answer = answer(alloc, given)?;
-        let outcome = task.resume(alloc, &checked, answer, found.unwrap_or(fields), LATER)?;
+        let answer = answer(alloc, row)?;
+        let fields = match flag(row, 2) {
+            true => self::fields(alloc, row, 3)?,
+            false => fields,
+        };
+        let outcome = task.resume(alloc, &checked, answer, fields, LATER)?;
         Ok(Running {
             checked,
             class,
             outcome,
         })
     }
-}
-
-// The task does what the row says.
-fn expect_row(
-    rt: &impl Abort,
-    alloc: Global,
-    text: &str,
-    class: &str,
-    row: Row,
-) -> Result<(), Fail> {
-    let (method, args, with, first, turns) = row;
-    let mut task = Running::start(alloc, text, class, method, args, with)?;
-    task.expect(rt, alloc, first)?;
-    for (given, expected) in turns {
-        task = task.go_on(alloc, *given, None)?;
-        task.expect(rt, alloc, *expected)?;
-    }
-    Ok(())
-}
-
-/// The tasks of a class do what the rows say.
-pub(crate) fn expect(
-    rt: &impl Abort,
-    alloc: Global,
-    text: &str,
-    class: &str,
-    rows: &[Row],
-) -> Result<(), Fail> {
-    for row in rows {
-        expect_row(rt, alloc, text, class, *row)?;
-    }
-    Ok(())
 }

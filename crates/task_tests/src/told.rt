@@ -1,9 +1,10 @@
-//! How a turn is told in the tables: the batches that it closed, how it ended, and the object's fields where it has any.
-use do_value::{Fields, Items, Text, Value};
+//! How a turn is told: the batches that it closed, how it ended, and the object's fields where it has any.
+use do_value::{Fields, Text, Value};
 use script_eval::{Ask, Outcome};
 use std::alloc::Global;
 use std::test::Fail;
 use storage_map::{Batch, Op, Options, StoreAsk};
+use test_rows::{tell_number, tell_record, tell_text, tell_value};
 
 /// A turn as it is told.
 pub(crate) fn told(alloc: Global, outcome: &Outcome) -> Result<String, Fail> {
@@ -179,53 +180,6 @@ fn tell_fields(line: &mut String, fields: &Fields) -> Result<(), Fail> {
     Ok(())
 }
 
-#[cycle(tell)]
-fn tell_value(line: &mut String, value: &Value) -> Result<(), Fail> {
-    match value {
-        Value::Undefined => line.push_str("undefined")?,
-        Value::Null => line.push_str("null")?,
-        Value::Bool(true) => line.push_str("true")?,
-        Value::Bool(false) => line.push_str("false")?,
-        Value::Num(n) => tell_number(line, n.get())?,
-        Value::Text(text) => tell_text(line, text.as_str())?,
-        Value::List(items) => tell_list(line, items)?,
-        Value::Rec(fields) => tell_record(line, fields)?,
-    }
-    Ok(())
-}
-
-#[cycle(tell)]
-fn tell_list(line: &mut String, list: &Items) -> Result<(), Fail> {
-    line.push_str("[")?;
-    let mut first = true;
-    for part in list.as_slice() {
-        if !first {
-            line.push_str(",")?;
-        }
-        first = false;
-        tell_value(line, part)?;
-    }
-    line.push_str("]")?;
-    Ok(())
-}
-
-#[cycle(tell)]
-fn tell_record(line: &mut String, of: &Fields) -> Result<(), Fail> {
-    line.push_str("{")?;
-    let mut first = true;
-    for (key, part) in of.as_slice() {
-        if !first {
-            line.push_str(",")?;
-        }
-        first = false;
-        line.push_str(key.as_str())?;
-        line.push_str(":")?;
-        tell_value(line, part)?;
-    }
-    line.push_str("}")?;
-    Ok(())
-}
-
 // The arguments of a call.
 fn tell_args(line: &mut String, values: &[Value]) -> Result<(), Fail> {
     line.push_str("[")?;
@@ -238,19 +192,5 @@ fn tell_args(line: &mut String, values: &[Value]) -> Result<(), Fail> {
         tell_value(line, value)?;
     }
     line.push_str("]")?;
-    Ok(())
-}
-
-// A text stands in single quotes.
-fn tell_text(line: &mut String, text: &str) -> Result<(), Fail> {
-    line.push_str("'")?;
-    line.push_str(text)?;
-    line.push_str("'")?;
-    Ok(())
-}
-
-fn tell_number(line: &mut String, n: i64) -> Result<(), Fail> {
-    let digits = format!(in *line.allocator(); "{n}")?;
-    line.push_str(digits.as_str())?;
     Ok(())
 }

@@ -7,3 +7,12 @@ pub mod Mapped
 pub mod Older
 pub mod Alarms
 pub mod Sent
+pub mod Few
+pub mod FewPlaces
+pub mod FewCalls
+pub mod FewLoops
+pub mod FewParts
+pub mod FewMethods
+pub mod Asking
+pub mod Refused
+pub mod Bounds

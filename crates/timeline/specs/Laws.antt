@@ -1,16 +1,24 @@
 -- Laws of what an object says, each proved by a function of `laws`.
-use Rattle.std.specs.Prelude.{◌≡◌, ℕ, zero, suc, ◌+◌, ◌<◌, ◌≤◌, List, [], ◌∷◌, ◌++◌, length, Some}
+use Rattle.std.specs.List.{count_by, last_or}
+use Rattle.std.specs.Prelude.{◌≡◌, ℕ, zero, suc, ◌+◌, ◌<◌, ◌≤◌, Bool, true, false, not, List, [], ◌∷◌, ◌++◌, length, slice_get, Some, None}
+use Rattle.do_value.specs.Tree.{Tree}
+use Rattle.do_tree.specs.Tree.{Method, Class, Script}
 use Rattle.storage_map.specs.Contents.{Contents}
-use Rattle.script_mean.specs.Meaning.{meaning}
+use Rattle.script_mean.specs.Law.{asks}
+use Rattle.script_mean.specs.Limits.{most_storage_awaits, most_outside_calls}
+use Rattle.script_mean.specs.Meaning.{First, meaning}
+use Rattle.script_mean.specs.Task as task
 use Rattle.script_mean.specs.Task.{Resume, Segment}
 use Rattle.script_mean.specs.declared.answer.Answer.{Answer}
+use Rattle.script_mean.specs.declared.ask.Ask.{Ask}
+use Rattle.script_mean.specs.declared.ask.Ask.TheVariants as ask
 use Rattle.timeline.specs.Headline.{IsPrefix}
 use Rattle.timeline.specs.History.{incarnations}
 use Rattle.timeline.specs.Logs.{Fronted, Backed}
 use Rattle.timeline.specs.declared.entry.Entry.{Entry}
 use Rattle.timeline.specs.Intake.{Kind, Front, life, Mode, serves, Taken, delivered, noticed, front_after, sent_by, IsIntake, answer_in, events_in, answers_in, StaysIn}
 use Rattle.timeline.specs.Object.{Life, Object, OpenTask, State, idle, waiting, ended}
-use Rattle.timeline.specs.Steps.{delivers, answers, resumed, latest_turn}
+use Rattle.timeline.specs.Steps.{delivers, answers, resumed, latest_turn, on_turn, runs, goes_on, most_refused}
 use Rattle.timeline.specs.Told.{Storage, Run, by_map, by_answers, settles, settled, stored_answer, written, written_by, told_from, told_on, after_saying, asking, all_said, most_waits}
 use Rattle.timeline.specs.declared.entry.Body.{Body}
 use Rattle.timeline.specs.declared.event.Event.{Event}
@@ -133,3 +141,80 @@ alarm_of (ended cause) m = Unit {0}
 abbrev pub AlarmIsTheMaps : Type 0
 AlarmIsTheMaps = (l : Life) (m : Contents) (o : Object) (events : List Event) → o.alarm ≡ m.alarm
     → let r = told_from by_map l m (idle o) events in alarm_of r.state r.storage
+
+-- Whether an ask is one of the storage: a read, or a wait for what was written. The others are calls and fetches.
+abbrev pub is_of_storage : Ask → Bool
+is_of_storage (ask.Store a) = true
+is_of_storage (ask.Written tail) = true
+is_of_storage ask.Sync = true
+is_of_storage (ask.Call to method args) = false
+is_of_storage (ask.Fetch value) = false
+
+-- Whether a turn ends with an ask of the storage, and whether with a call or a fetch.
+abbrev pub asks_storage : Segment → Bool
+asks_storage (task.asked batches fields a block) = is_of_storage a
+asks_storage _ = false
+
+abbrev pub asks_outside : Segment → Bool
+asks_outside (task.asked batches fields a block) = not (is_of_storage a)
+asks_outside _ = false
+
+-- Whatever answers come, a task asks the storage at most 65,536 times, and calls and fetches at most 2,000 times, refused calls
+-- counted.
+pub record AsksAreLimited : Type 0 where
+  pub storage : (script : Script) (class method : ℕ) (args : List Tree) (first : First) (rs : List Resume)
+      → count_by asks_storage (meaning script class method args first rs) ≤ most_storage_awaits
+  pub outside : (script : Script) (class method : ℕ) (args : List Tree) (first : First) (rs : List Resume)
+      → count_by asks_outside (meaning script class method args first rs) ≤ most_outside_calls
+
+-- A task that asks has asked once for each answer and once more, so that fewer answers came than both limits together; and one to
+-- which so many came has a last turn that doesn't ask.
+abbrev pub most_asks : ℕ
+most_asks = most_storage_awaits + most_outside_calls
+
+pub record TasksEnd : Type 0 where
+  pub counts : (script : Script) (class method : ℕ) (args : List Tree) (first : First) (rs : List Resume) (turn : Segment)
+      → last_or None (meaning script class method args first rs) ≡ Some turn → asks turn ≡ true
+      → let turns = meaning script class method args first rs in count_by asks_storage turns + count_by asks_outside turns ≡ suc (length rs)
+  pub waits : (script : Script) (class method : ℕ) (args : List Tree) (first : First) (rs : List Resume) (turn : Segment)
+      → last_or None (meaning script class method args first rs) ≡ Some turn → asks turn ≡ true → length rs < most_asks
+  pub ends : (script : Script) (class method : ℕ) (args : List Tree) (first : First) (rs : List Resume) (c : Class) (m : Method)
+      → slice_get script.classes class ≡ Some c → slice_get c.methods method ≡ Some m → most_asks ≤ length rs
+      → (turn : Segment) × (last_or None (meaning script class method args first rs) ≡ Some turn) × (asks turn ≡ false)
+
+-- The turns of an open task at the answers so far. A further answer leaves what it has asked, and where its turn then asks that
+-- is one more: so a task that went on through so many asks of a kind has made so many.
+abbrev pub turns_of : Life → OpenTask → List Segment
+turns_of l t = meaning l.script l.class t.method t.args t.first t.resumes
+
+pub record AsksAddUp (kind : Segment → Bool) : Type 0 where
+  pub keeps : (l : Life) (o : Object) (t : OpenTask) (a : Answer) → count_by kind (turns_of l t) ≤ count_by kind (turns_of l (resumed o t a))
+  pub adds : (l : Life) (o : Object) (t : OpenTask) (a : Answer) (turn : Segment) → latest_turn l (resumed o t a) ≡ Some turn → kind turn ≡ true
+      → count_by kind (turns_of l t) < count_by kind (turns_of l (resumed o t a))
+
+-- The bound on the refused calls of one input doesn't show: a task goes on from turn to turn as if there were none.
+pub record RefusedBoundIsEnough : Type 0 where
+  pub more : (n : ℕ) → most_refused ≤ n → (l : Life) (o : Object) (t : OpenTask) → runs n l o t ≡ goes_on l o t
+  pub unfolds : (l : Life) (o : Object) (t : OpenTask) → goes_on l o t ≡ on_turn (λ new u. goes_on l new u) l o t (latest_turn l t)
+
+-- The map that answers to one event so often at most.
+abbrev pub by_map_within : ℕ → Storage Contents
+by_map_within n = record by_map { most = λ m. n }
+
+-- The bound on the storage waits of one event doesn't show either: any larger one tells the same, and no event is left waiting.
+pub record BoundIsEnough : Type 0 where
+  pub more : (n : ℕ) → most_waits ≤ n → (l : Life) (m : Contents) (o : Object) (events : List Event)
+      → told_from (by_map_within n) l m (idle o) events ≡ told_from by_map l m (idle o) events
+  pub ends : (l : Life) (m : Contents) (o : Object) (events : List Event)
+      → IsAtRest (serves (told_from by_map l m (idle o) events).state)
+
+-- The answers of an intake are the map's, and nothing is said of how many come to one event: they fit all the same.
+abbrev pub AreTheMaps : Life → Contents → State → List Taken → Type 0
+AreTheMaps l m state [] = Unit {0}
+AreTheMaps l m (idle o) (delivered e ∷ taken) = let step = delivers l o e in AreTheMaps l (written m step.says) step.state taken
+AreTheMaps l m (waiting o t b) (noticed x ∷ taken) = (answer_in x ≡ stored_answer m b ∷ [])
+    × (let step = answers l o t (stored_answer m b) in AreTheMaps l (written (written_by m b) step.says) step.state taken)
+AreTheMaps l m state (t ∷ taken) = ⊥
+
+abbrev pub MapsAnswersFit : Type 0
+MapsAnswersFit = (n : ℕ) (l : Life) (m : Contents) (o : Object) (taken : List Taken) → AreTheMaps l m (idle o) taken → FitsMap n l m (idle o) taken

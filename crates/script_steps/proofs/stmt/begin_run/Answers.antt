@@ -1,4 +1,4 @@
-use Rattle.std.proofs.Common.{◌≡◌, ◌∙◌, arith}
+use Rattle.std.proofs.Common.{◌≡◌, ◌∙◌, refl, arith}
 use Rattle.std.proofs.lemmas.Grind.{common_steps}
 use Rattle.do_tree.specs.declared.stmt.Stmt.TheVariants as node
 use Rattle.script_steps.proofs.Begun.{if_ok}
@@ -55,7 +55,7 @@ returns-in-Continue-clause-moves c =
     let is : c.args.stmt.now.value ≡ node.Continue c.in-Continue.at = grind (arith, common_steps) in
     λ calls. continue_begins calls _ _ is
 
-pub returns-in_ok-again-in-Simple-clause-moves : goal.returns-in_ok-again-in-Simple-clause-moves
-returns-in_ok-again-in-Simple-clause-moves c =
+pub returns-in-Simple-clause-moves : goal.returns-in-Simple-clause-moves
+returns-in-Simple-clause-moves c =
     let is : c.args.stmt.now.value ≡ node.Simple c.in-Simple.inner = grind (arith, common_steps) in
-    λ calls. simple_begins calls c.in-Simple.inner c.in_ok-again-in-Simple.field-0 _ is c.in_ok-again-in-Simple.ensures
+    if_ok c.begin_simple.result (λ m p calls. simple_begins calls c.in-Simple.inner c.in-Simple.inner _ is refl ∙ p calls) c.begin_simple.ensures.moves

@@ -7,7 +7,7 @@ use Rattle.script_eval.proofs.machine.Machine.turn.Given as goal
 abbrev pub invariant-steps : goal.invariant-steps
 invariant-steps l = record {
   deep : IsDeep l.self;
-  same : (starts : Bool) (rs : List Resume) → turns_of (class_of l.class) starts l.fn.first l.fn.self rs ≡ turns_of (class_of l.class) starts l.focus l.self rs;
+  same : (starts : Bool) (rs : List Resume) → turns_of (class_of l.class) starts l.fn.focus l.fn.self rs ≡ turns_of (class_of l.class) starts l.focus l.self rs;
 }
 
 abbrev pub decreases-steps : goal.decreases-steps

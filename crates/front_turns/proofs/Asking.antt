@@ -1,0 +1,44 @@
+-- Where an ask leads.
+use Rattle.std.proofs.Common.{◌≡◌, ◌∙◌, sym, refl, ap, ℕ, List, [], ◌∷◌, ◌++◌, map, append_assoc}
+use Rattle.std.specs.Prelude.{Some}
+use Rattle.storage_map.specs.declared.op.Op.{Op}
+use Rattle.timeline.specs.Object as seen
+use Rattle.timeline.specs.Object.{Life, OpenTask, Step}
+use Rattle.timeline.specs.Steps.{batch, before, asks, asks_written, resumed}
+use Rattle.script_mean.specs.declared.answer.Answer.TheVariants.{Thrown}
+use Rattle.front_turns.specs.Held.{object_of}
+use Rattle.timeline.specs.declared.entry.Body.{Body}
+use Rattle.timeline.specs.declared.entry.Body.TheVariants as body
+use Rattle.front_turns.specs.Paused.{Paused}
+use Rattle.front_turns.specs.Goes.{Goes}
+use Rattle.front_turns.specs.declared.asks.Went.{Went}
+use Rattle.front_turns.specs.declared.asks.Went.TheVariants as went
+use Rattle.front_turns.proofs.Saying.{says_more}
+
+written_last : (o : seen.Object) (t : OpenTask) (tail : ℕ) (first : List (List Op)) (last : List Op)
+    → asks_written o t tail (first ++ last ∷ []) ≡ before (map batch first) (asks o t (body.Batch last (Some tail)))
+written_last o t tail [] last = refl
+written_last o t tail (a ∷ []) last = refl
+written_last o t tail (a ∷ b ∷ first) last = ap (before (batch a ∷ [])) (written_last o t tail (b ∷ first) last)
+
+-- All batches but the last are said, and then the last one is asked.
+pub written_by_last : (o : seen.Object) (t : OpenTask) (tail : ℕ) (all first : List (List Op)) (last : List Op) → all ≡ first ++ last ∷ []
+    → asks_written o t tail all ≡ before (map batch first) (asks o t (body.Batch last (Some tail)))
+written_by_last o t tail all first last e = ap (asks_written o t tail) e ∙ written_last o t tail first last
+
+before_both : (xs ys : List Body) (s : Step) → before xs (before ys s) ≡ before (xs ++ ys) s
+before_both xs ys s = ap (λ (says : List Body). record { says = says; state = s.state }) (sym (append_assoc xs ys s.says))
+
+-- This was said, and then it goes on.
+pub goes_more : {T : Type 0} (see : T → Paused) (l : Life) (old mid new : List Body) (w : Went T) (again : seen.Object → OpenTask → Step) (step : Step)
+    (bodies : List Body) → mid ≡ old ++ bodies → Goes see l mid new w again step → Goes see l old new w again (before bodies step)
+goes_more see l old mid new (went.Rests s) again step bodies e goes = says_more bodies e goes
+goes_more see l old mid new (went.Refused o r task v) again step bodies e goes = record {
+  tasks = goes.tasks;
+  goes = goes.goes;
+  says = bodies ++ goes.says;
+  held = goes.held;
+  paused = goes.paused;
+  said = goes.said ∙ ap (λ (x : List Body). x ++ goes.says) e ∙ append_assoc old bodies goes.says;
+  gives = ap (before bodies) goes.gives ∙ before_both bodies goes.says (again (object_of o goes.tasks) (resumed (object_of o goes.tasks) goes.goes (Thrown v)));
+}

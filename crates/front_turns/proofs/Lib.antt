@@ -1,0 +1,9 @@
+pub mod Alarms
+pub mod Values
+pub mod Holding
+pub mod Turning
+pub mod Asking
+pub mod Saying
+pub mod Ending
+pub mod Stating
+pub mod Methods

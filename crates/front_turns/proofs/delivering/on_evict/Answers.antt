@@ -1,0 +1,6 @@
+use Rattle.std.proofs.Common.{refl}
+use Rattle.front_turns.proofs.Saying.{rests_says}
+use Rattle.front_turns.proofs.delivering.on_evict.Goals as goal
+
+pub returns : goal.returns
+returns g c = λ l ts old held. rests_says ts _ held refl refl

@@ -1,0 +1,17 @@
+use Rattle.alarm_core.specs.AlarmRule.{after_success}
+use Rattle.front_turns.proofs.Values.{value_back}
+use Rattle.front_turns.proofs.Ending.{handled_so, success_op}
+use Rattle.front_turns.proofs.ends.on_done.Goals as goal
+
+pub returns-in-Starts : goal.returns-in-Starts
+returns-in-Starts g c = λ l ts held. rw c.in-Starts.is (c.rests.ensures l ts _ held)
+
+pub handled-requires : goal.handled-requires
+handled-requires g c = success_op c.after_success-op.result c.args.object.touched c.after_success-op.ensures.written
+
+pub returns-in-Handles : goal.returns-in-Handles
+returns-in-Handles g c = rw (c.in-Handles.is) (handled_so g.T.Task.seen _ _ _ c.args.object _ (after_success c.args.object.touched)
+    (λ l ts held. c.after_success-op.ensures.written) c.handled.ensures)
+
+pub returns-in-Serves : goal.returns-in-Serves
+returns-in-Serves g c = rw (c.in-Serves.is, value_back c.args.value) c.replies.ensures

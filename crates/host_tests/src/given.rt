@@ -1,0 +1,117 @@
+//! What a run is given.
+use do_disk::{Fails, MemDepot, MemDisk, MemSink, MemSource};
+use do_host::PUT_AND_READ;
+use sample_scripts::named;
+use serde_json::Value as Json;
+use std::alloc::Global;
+use std::test::Fail;
+
+// The number of a call that doesn't come.
+const NEVER: u64 = 0xffff_ffff_ffff_ffff;
+
+/// The number of this name, where there is one.
+pub(crate) fn number_of(given: &Json, name: &str) -> Option<u64> {
+    given.get(name).and_then(Json::as_u64)
+}
+
+/// The calls of this name that fail: from the given one on, counted from 1, or none.
+pub(crate) fn fails_of(given: &Json, name: &str) -> Fails {
+    Fails::From(number_of(given, name).unwrap_or(NEVER))
+}
+
+// The script's text as it is given, or else the sample of that name, or else the one that puts and reads.
+fn script_of(given: &Json) -> &str {
+    match given.get("script").and_then(Json::as_str) {
+        Some(script) => script,
+        None => given
+            .get("sample")
+            .and_then(Json::as_str)
+            .and_then(named)
+            .unwrap_or(PUT_AND_READ),
+    }
+}
+
+/// The script at the path s, and one disk that holds the file, or none.
+pub(crate) fn depot_of(alloc: Global, given: &Json, file: &[u8]) -> Result<MemDepot, Fail> {
+    let path = String::from_str(alloc, "s")?;
+    let text = script_of(given).as_bytes().to_vec(alloc)?;
+    let mut disks = Vec::new(alloc);
+    if number_of(given, "disks") != Some(0) {
+        let disk = MemDisk::new(file.to_vec(alloc)?, fails_of(given, "disk"));
+        disks.push(disk)?;
+    }
+    Ok(MemDepot::new(vec![in alloc; (path, text)]?, disks))
+}
+
+/// The source that gives the lines, in pieces of so many bytes, 7 where none are said.
+pub(crate) fn source_of(alloc: Global, given: &Json) -> Result<MemSource, Fail> {
+    let piece = number_of(given, "piece").unwrap_or(7).clamp(1, 4096) as usize;
+    let bytes = input_of(alloc, given)?;
+    Ok(MemSource::new(bytes, piece, fails_of(given, "read")))
+}
+
+/// The sink, which takes five bytes at a time.
+pub(crate) fn sink_of(alloc: Global, given: &Json) -> MemSink {
+    MemSink::new(alloc, 5, fails_of(given, "write"))
+}
+
+// The lines, each with its LF.
+fn input_of(alloc: Global, given: &Json) -> Result<Vec<u8>, Fail> {
+    let mut input = Vec::new(alloc);
+    let lines = given.get("lines").and_then(Json::as_array);
+    for line in lines.map_or(&[][..], |lines| lines.as_slice()) {
+        add_line(alloc, &mut input, line)?;
+    }
+    Ok(input)
+}
+
+// A record of pieces is written as they stand, any other JSON compactly and with LF.
+fn add_line(alloc: Global, input: &mut Vec<u8>, line: &Json) -> Result<(), Fail> {
+    match line.get("raw").and_then(Json::as_array) {
+        Some(pieces) => {
+            for piece in pieces.as_slice() {
+                add_piece(alloc, input, piece)?;
+            }
+        }
+        None => {
+            let text = line.to_string(alloc)?;
+            input.extend_from_slice(text.as_bytes())?;
+            input.push(b'\n')?;
+        }
+    }
+    Ok(())
+}
+
+// A text as it stands, so many letters, or the bytes of a record `{"hex": ..}`.
+fn add_piece(alloc: Global, input: &mut Vec<u8>, piece: &Json) -> Result<(), Fail> {
+    match (piece.as_str(), piece.get("hex").and_then(Json::as_str)) {
+        (Some(text), _) => input.extend_from_slice(text.as_bytes())?,
+        (None, Some(text)) => {
+            let bytes = hex::decode(alloc, text.as_bytes())?;
+            input.extend_from_slice(&bytes)?;
+        }
+        (None, None) => {
+            for _ in 0..piece.as_u64().unwrap_or(0) {
+                input.push(b'x')?;
+            }
+        }
+    }
+    Ok(())
+}
+
+// More bytes are told by their number.
+const MOST: usize = 1024;
+
+/// Adds the bytes of a text to the line, each LF as a mark.
+pub(crate) fn tell_bytes(line: &mut String, bytes: &[u8]) -> Result<(), Fail> {
+    if bytes.len() > MOST {
+        let told = format!(in *line.allocator(); "({} bytes)", bytes.len())?;
+        line.push_str(told.as_str())?;
+        return Ok(());
+    }
+    for byte in bytes {
+        let shown = if *byte == b'\n' { '⏎' } else { *byte as char };
+        line.push(shown)?;
+    }
+    Ok(())
+}

@@ -1,0 +1,137 @@
+-- What an entry of the newest incarnation does to a back.
+use Rattle.std.proofs.Common.{◌≡◌, ◌∙◌, ap, sym, refl, ℕ, ◌<◌, List, [], ◌∷◌, ◌++◌, Option, inl, inr, subst, append-nil, length, ◌-◌}
+use Rattle.std.proofs.lemmas.Bool.{ltb-true}
+use Rattle.std.specs.Prelude.{◌⊎◌, Some, Bool, true, false, not, ◌&&◌, nat_lt, Result, Ok, Err, OnErr, None, slice_get}
+use Rattle.storage_map.specs.declared.op.Op.{Op}
+use Rattle.timeline.specs.Logs.{Backed, backed}
+use Rattle.timeline.specs.declared.back_log.BackLog.{BackLog}
+use Rattle.timeline.specs.declared.entry.Entry.{Entry}
+use Rattle.timeline.specs.declared.notice.Notice.{Notice}
+use Rattle.output_gate.specs.Entering.{CanTake, TakesOwn, CanTakeDown, TakesDown, TakesLate, Enters, LosesEntry, TakesLateEntry, logged_as, notice_as, notice_at, is_unfit, held_as, late_by}
+use Rattle.output_gate.specs.Fits.{comes_behind, last_of}
+use Rattle.output_gate.specs.Serving.{IsMounted, IsUnmounted, IsBack}
+use Rattle.output_gate.specs.Taking.{LogSame, LogRoom, may_take, is_wanted, fit_of, most_unflushed}
+use Rattle.output_gate.specs.declared.back.Back.{Back}
+use Rattle.output_gate.specs.declared.fit.Fit.{Fit}
+use Rattle.output_gate.specs.declared.fit.Fit.TheVariants as fit
+use Rattle.output_gate.proofs.Fitting.{and_both, own_of, mounted_of, down_of, down_mode, unmounted_of}
+use Rattle.output_gate.proofs.Gone.{back_room}
+use Rattle.output_gate.proofs.Helds.{true_false}
+
+-- a fact that another one gives, where an error is
+pub err_weaker : {X E : Type 0} (r : Result X E) (P Q : Type 0) → (P → Q) → OnErr r P → OnErr r Q
+err_weaker (Ok x) P Q f p = tt
+err_weaker (Err e) P Q f p = f p
+
+not_true : (b : Bool) → not b ≡ true → b ≡ false
+not_true true is = absurd (true_false (sym is))
+not_true false is = refl
+
+abbrev is_notice : Option Notice → Type 0
+is_notice (Some n) = Unit {0}
+is_notice None = ⊥
+
+-- An entry of an incarnation that has ended tells the front nothing at once.
+pub not_late : {D : Type 0} (old : Back D) (e : Entry) (n : Notice) (X : Type 0) → Some n ≡ notice_at old e → (fit_of old e ≡ fit.Late) ⊎ X → X
+not_late old e n X told (inl late) = absurd (subst is_notice (told ∙ ap (λ (x : Fit). notice_as x e old.cache) late) tt)
+not_late old e n X told (inr x) = x
+
+pub late_entry : {D : Type 0} (old : Back D) (e : Entry) (before after : List Entry) (X : Type 0) → after ≡ before ++ e ∷ [] → (fit_of old e ≡ fit.Late) ⊎ X
+    → TakesLateEntry old before after ⊎ X
+late_entry old e before after X took (inl late) = inl (record { entry = e; took = took; late = late })
+late_entry old e before after X took (inr x) = inr x
+
+logged_or_not : (f : Fit) (old new : Backed) (e : Entry) → new ≡ logged_as f old e → (new ≡ old) ⊎ (new ≡ record old { taken = old.taken ++ e ∷ [] })
+logged_or_not fit.Unfit old new e is = inl is
+logged_or_not fit.Own old new e is = inr is
+logged_or_not fit.Down old new e is = inr is
+logged_or_not fit.Late old new e is = inr is
+
+-- It is none that a front sends.
+pub unfit_enters : {D : Type 0} (old : Back D) (e : Entry) → fit_of old e ≡ fit.Unfit → Enters old (record old { stuck = true }) e
+unfit_enters old e is = record {
+  log = ap (λ (x : Fit). logged_as x (backed old.log) e) (sym is);
+  stuck = ap is_unfit (sym is);
+  held = sym (append-nil old.held.items) ∙ ap (λ (x : Fit). old.held.items ++ held_as x old e) (sym is);
+}
+
+-- The notice of it is lost.
+pub loses : {D : Type 0} (old new : Back D) (e : Entry) (before after : List Entry) (sent_before sent : List Notice) → Enters old new e → after ≡ before ++ e ∷ [] → sent ≡ sent_before
+    → LosesEntry old new before after sent_before sent
+loses old new e before after sent_before sent enters took same =
+    record { entry = e; took = took; told = same; log = logged_or_not (fit_of old e) (backed old.log) (backed new.log) e enters.log }
+
+module _ {D : Type 0} (moment_of : D → ℕ) (left_since : D → ℕ → List ℕ → Type 0) (told : D → Option (List ℕ)) (image : D → List ℕ → Type 0) where
+  pub few_of : (old : Back D) → may_take old ≡ true → old.unflushed < most_unflushed
+  few_of old may = ltb-true old.unflushed most_unflushed (and_both (not old.stuck && not (is_wanted old.mode)) (nat_lt old.unflushed most_unflushed) may).1
+
+  pub free_of : (old : Back D) → may_take old ≡ true → old.stuck ≡ false
+  free_of old may =
+      not_true old.stuck (and_both (not old.stuck) (not (is_wanted old.mode)) (and_both (not old.stuck && not (is_wanted old.mode)) (nat_lt old.unflushed most_unflushed) may).0).0
+
+  pub own_mounted : (start : List (List Op)) (opening : ℕ) (old : Back D) (log : BackLog) (e : Entry) → LogSame old.log log → fit_of old e ≡ fit.Own
+      → IsBack moment_of left_since told image start opening true old → IsMounted moment_of left_since told image start opening true (record old { log = log })
+  own_mounted start opening old log e same is b =
+      mounted_of moment_of left_since told image start opening true (record old { log = log }) (back_room moment_of left_since told image start opening old log same b) (own_of old e is).mounted
+
+  pub own_can : (start : List (List Op)) (opening : ℕ) (old : Back D) (log : BackLog) (e : Entry) → LogSame old.log log → LogRoom log → may_take old ≡ true → fit_of old e ≡ fit.Own
+      → IsBack moment_of left_since told image start opening true old → CanTake moment_of left_since told image (record old { log = log }) e.number e.body
+  own_can start opening old log e same room may is b =
+      let f = own_of old e is in
+      record {
+        start = start;
+        opening = opening;
+        back = own_mounted start opening old log e same is b;
+        room = room;
+        comes = ap (λ (x : Backed). comes_behind (last_of x.taken) (record { incarnation = old.number; number = e.number; body = e.body })) same.same
+            ∙ ap (λ (n : ℕ). comes_behind (last_of old.log.taken.items) (record { incarnation = n; number = e.number; body = e.body })) (sym f.own) ∙ f.comes;
+        fits = f.fits;
+        few = few_of old may;
+      }
+
+  pub own_enters : (old new : Back D) (log : BackLog) (e : Entry) → LogSame old.log log → may_take old ≡ true → fit_of old e ≡ fit.Own
+      → TakesOwn moment_of left_since told image (record old { log = log }) new e.number e.body → Enters old new e
+  own_enters old new log e same may is t =
+      let f = own_of old e is in
+      record {
+        log = t.log ∙ ap (λ (x : Backed). record x { taken = x.taken ++ record { incarnation = old.number; number = e.number; body = e.body } ∷ [] }) same.same
+            ∙ ap (λ (n : ℕ). record (backed old.log) { taken = old.log.taken.items ++ record { incarnation = n; number = e.number; body = e.body } ∷ [] }) (sym f.own)
+            ∙ ap (λ (x : Fit). logged_as x (backed old.log) e) (sym is);
+        stuck = t.stuck ∙ free_of old may ∙ ap is_unfit (sym is);
+        held = t.holds ∙ ap (λ (x : Fit). old.held.items ++ held_as x old e) (sym is);
+      }
+
+  pub down_unmounted : (start : List (List Op)) (opening : ℕ) (old : Back D) (log : BackLog) (e : Entry) → LogSame old.log log → fit_of old e ≡ fit.Down
+      → IsBack moment_of left_since told image start opening true old → IsUnmounted moment_of left_since told image start opening (record old { log = log })
+  down_unmounted start opening old log e same is b =
+      unmounted_of moment_of left_since told image start opening true (record old { log = log }) (back_room moment_of left_since told image start opening old log same b) (down_of old e is).unmounted
+
+  pub down_can : (start : List (List Op)) (opening : ℕ) (old : Back D) (log : BackLog) (e : Entry) → LogSame old.log log → LogRoom log → may_take old ≡ true → fit_of old e ≡ fit.Down
+      → IsBack moment_of left_since told image start opening true old → CanTakeDown moment_of left_since told image (record old { log = log }) e.number e.body
+  down_can start opening old log e same room may is b =
+      let f = down_of old e is in
+      let wanted = not_true (is_wanted old.mode) (and_both (not old.stuck) (not (is_wanted old.mode)) (and_both (not old.stuck && not (is_wanted old.mode)) (nat_lt old.unflushed most_unflushed) may).0).1 in
+      let mode = down_mode old.mode f.unmounted wanted in
+      record { start = start; opening = opening; back = down_unmounted start opening old log e same is b; room = room; fits = f.fits; ending = mode.0; down = mode.1 }
+
+  pub down_enters : (old new : Back D) (log : BackLog) (e : Entry) → LogSame old.log log → may_take old ≡ true → fit_of old e ≡ fit.Down
+      → TakesDown moment_of left_since told image (record old { log = log }) new e.number e.body → Enters old new e
+  down_enters old new log e same may is t =
+      let f = down_of old e is in
+      record {
+        log = t.log ∙ ap (λ (x : Backed). record x { taken = x.taken ++ record { incarnation = old.number; number = e.number; body = e.body } ∷ [] }) same.same
+            ∙ ap (λ (n : ℕ). record (backed old.log) { taken = old.log.taken.items ++ record { incarnation = n; number = e.number; body = e.body } ∷ [] }) (sym f.own)
+            ∙ ap (λ (x : Fit). logged_as x (backed old.log) e) (sym is);
+        stuck = t.stuck ∙ free_of old may ∙ ap is_unfit (sym is);
+        held = t.holds ∙ ap (λ (x : Fit). old.held.items ++ held_as x old e) (sym is);
+      }
+
+  pub late_enters : (old new : Back D) (log : BackLog) (e : Entry) → LogSame old.log log → may_take old ≡ true → fit_of old e ≡ fit.Late
+      → TakesLate (record old { log = log }) new e → Enters old new e
+  late_enters old new log e same may is t = record {
+    log = t.log ∙ ap (λ (x : Backed). record x { taken = x.taken ++ e ∷ [] }) same.same ∙ ap (λ (x : Fit). logged_as x (backed old.log) e) (sym is);
+    stuck = ap (λ (b : Back D). b.stuck) t.same ∙ free_of old may ∙ ap is_unfit (sym is);
+    held = t.holds
+        ∙ ap (λ (x : Backed). old.held.items ++ late_by (slice_get x.stops (length x.stops - 1)) old.settled e.incarnation e.body) same.same
+        ∙ ap (λ (x : Fit). old.held.items ++ held_as x old e) (sym is);
+  }

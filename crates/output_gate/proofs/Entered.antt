@@ -1,0 +1,241 @@
+-- What each entry does to a back that serves, in one step.
+use Rattle.std.proofs.Common.{◌≡◌, ◌∙◌, ap, sym, refl, subst, inl, inr, ℕ, ◌+◌, ◌-◌, List, [], ◌∷◌, ◌++◌, Option, Some, None, length, append-nil}
+use Rattle.std.specs.Prelude.{Result, Ok, Err, OnErr, true, false, not, is_some}
+use Rattle.storage_map.specs.Contents.{Contents, apply}
+use Rattle.storage_map.specs.Limits.{Object}
+use Rattle.storage_map.specs.declared.op.Op.{Op}
+use Rattle.timeline.specs.Logs.{backed}
+use Rattle.timeline.specs.Passed.{is_mend}
+use Rattle.timeline.specs.Told.{said_by, batches_of}
+use Rattle.timeline.specs.declared.entry.Body.{Body}
+use Rattle.timeline.specs.declared.entry.Body.TheVariants as body
+use Rattle.timeline.specs.declared.entry.Entry.{Entry}
+use Rattle.timeline.specs.declared.message.Message.{Message}
+use Rattle.output_gate.specs.Entering.{TakesOwn, FailsOwn, TakesDown, FailsDown, held_by}
+use Rattle.output_gate.specs.Storing.{Stages}
+use Rattle.output_gate.specs.declared.back.Ending.{Ending}
+use Rattle.output_gate.specs.declared.back.Mode.{Mode}
+use Rattle.output_gate.specs.declared.back.Mode.TheVariants.{Wanted, Down}
+use Rattle.output_gate.specs.declared.store.Store.{Store}
+use Rattle.output_gate.specs.declared.store.Store.TheVariants as store
+use Rattle.batch_journal.specs.declared.journal.Journal.{Journal}
+use Rattle.do_value.specs.declared.fault.NoMemory.{NoMemory}
+use Rattle.storage_map.specs.Ops.{batch_bytes}
+use Rattle.output_gate.proofs.Unmounting.{unmounted_held, unmounted_message, unmounted_mend}
+use Rattle.output_gate.specs.Fits.{is_halt, comes_behind, last_of}
+use Rattle.output_gate.specs.Held.{passed_by, is_held_halt, halts_well}
+use Rattle.output_gate.proofs.Helds.{true_false}
+use Rattle.output_gate.specs.Passing.{IsSilent}
+use Rattle.output_gate.specs.Serving.{IsMounted, IsUnmounted, IsAtEnd}
+use Rattle.output_gate.specs.Taking.{LogTook}
+use Rattle.output_gate.specs.declared.back.Back.{Back}
+use Rattle.output_gate.specs.declared.held.Held.{Held}
+use Rattle.output_gate.specs.declared.held.HeldBody.{HeldBody}
+use Rattle.output_gate.specs.declared.held.HeldBody.TheVariants as held_body
+use Rattle.output_gate.proofs.Takings.{HoldsMore, mounted_silent, mounted_message, mounted_bind, mounted_batch, mounted_same, kept_fails, same_log}
+
+-- a fact, where an error is
+pub on_err : {X E : Type 0} (r : Result X E) (P : Type 0) → P → OnErr r P
+on_err (Ok x) P fact = tt
+on_err (Err e) P fact = fact
+
+module _ {D : Type 0} (moment_of : D → ℕ) (left_since : D → ℕ → List ℕ → Type 0) (told : D → Option (List ℕ)) (image : D → List ℕ → Type 0) where
+  pub failed_hold : (old new : Back D) → new.held.items ≡ old.held.items → new ≡ record old { held = new.held } → FailsOwn moment_of left_since told image old new
+  failed_hold old new items same = record {
+    log = ap (λ (b : Back D). backed b.log) same;
+    back = λ start opening m. kept_fails moment_of left_since told image start opening true old new old.cache new.held old.log same (same_log moment_of left_since told image start opening true old.log) items m;
+  }
+
+  pub failed_same : (old : Back D) → FailsOwn moment_of left_since told image old old
+  failed_same old = record {
+    log = refl;
+    back = λ start opening m. kept_fails moment_of left_since told image start opening true old old old.cache old.held old.log refl (same_log moment_of left_since told image start opening true old.log) refl m;
+  }
+
+  abbrev entry_of : Back D → ℕ → Body → Entry
+  entry_of old number b = record { incarnation = old.number; number = number; body = b }
+
+  abbrev held_now : Back D → HeldBody → Held
+  held_now old b = record { body = b; needs = old.before; since = old.number }
+
+  -- the log of what was held first
+  log_behind : (old mid new : Back D) (number : ℕ) (b : Body) → mid ≡ record old { held = mid.held } → LogTook mid.log new.log (entry_of mid number b) → LogTook old.log new.log (entry_of old number b)
+  log_behind old mid new number b same took = record {
+    taken = took.taken ∙ ap (λ (x : Back D). record (backed x.log) { taken = x.log.taken.items ++ entry_of x number b ∷ [] }) same;
+    flights = took.flights;
+    stops = took.stops;
+  }
+
+  same_behind : (old mid new : Back D) → mid ≡ record old { held = mid.held } → new ≡ record mid { log = new.log } → new ≡ record old { held = new.held; log = new.log }
+  same_behind old mid new first then =
+      then ∙ ap (λ (x : Back D). record x { log = new.log }) first ∙ ap (λ h. record old { held = h; log = new.log }) (ap (λ (x : Back D). x.held) (sym then))
+
+  pub took_silent : (old mid new : Back D) (number : ℕ) (b : Body) (h : HeldBody) → comes_behind (last_of old.log.taken.items) (entry_of old number b) ≡ true
+      → is_mend b ≡ false → IsSilent b → batches_of (said_by b) ≡ [] → ((n s : ℕ) → passed_by h n s ≡ []) → (is_held_halt h ≡ true → halts_well h ≡ true) → is_held_halt h ≡ is_halt b
+      → mid.held.items ≡ old.held.items ++ held_now old h ∷ [] → mid ≡ record old { held = mid.held } → LogTook mid.log new.log (entry_of mid number b) → new ≡ record mid { log = new.log }
+      → held_now old h ∷ [] ≡ held_by old.before old.number number b → TakesOwn moment_of left_since told image old new number b
+  took_silent old mid new number b h comes other silent nothing says well halts items first log then so =
+      let took = log_behind old mid new number b first log in
+      let same = same_behind old mid new first then in
+      let held : new.held.items ≡ old.held.items ++ held_now old h ∷ [] = ap (λ (x : Back D). x.held.items) then ∙ items in
+      record {
+        log = took.taken;
+        stuck = ap (λ (x : Back D). x.stuck) same;
+        holds = held ∙ ap (λ more. old.held.items ++ more) so;
+        back = λ start opening m. subst (IsMounted moment_of left_since told image start opening true) (sym same)
+            (mounted_silent moment_of left_since told image start opening true old new.log new.held (entry_of old number b) m took refl comes other silent nothing
+            (HoldsMore.one_more (held_now old h) held (sym (says old.before old.number)) (λ yes. (refl, well yes)) halts));
+      }
+
+  pub took_message : (old mid new : Back D) (number : ℕ) (sent copy : Message) → copy ≡ sent → comes_behind (last_of old.log.taken.items) (entry_of old number (body.Message sent)) ≡ true
+      → mid.held.items ≡ old.held.items ++ held_now old (held_body.Message copy) ∷ [] → mid ≡ record old { held = mid.held } → LogTook mid.log new.log (entry_of mid number (body.Message sent)) → new ≡ record mid { log = new.log }
+      → TakesOwn moment_of left_since told image old new number (body.Message sent)
+  took_message old mid new number sent copy equal comes items first log then =
+      let took = log_behind old mid new number (body.Message sent) first log in
+      let same = same_behind old mid new first then in
+      let held : new.held.items ≡ old.held.items ++ held_now old (held_body.Message sent) ∷ [] =
+      ap (λ (x : Back D). x.held.items) then ∙ items ∙ ap (λ (m : Message). old.held.items ++ held_now old (held_body.Message m) ∷ []) equal in
+      record {
+        log = took.taken;
+        stuck = ap (λ (x : Back D). x.stuck) same;
+        holds = held;
+        back = λ start opening m. subst (IsMounted moment_of left_since told image start opening true) (sym same)
+            (mounted_message moment_of left_since told image start opening true old new.log new.held (entry_of old number (body.Message sent)) sent m took refl comes refl
+            (HoldsMore.one_more (held_now old (held_body.Message sent)) held refl (λ yes. absurd (true_false (sym yes))) refl));
+      }
+
+  -- nothing more is held
+  pub took_only : (old new : Back D) (number : ℕ) (b : Body) → comes_behind (last_of old.log.taken.items) (entry_of old number b) ≡ true
+      → is_mend b ≡ false → IsSilent b → batches_of (said_by b) ≡ [] → is_halt b ≡ false → LogTook old.log new.log (entry_of old number b) → new ≡ record old { log = new.log }
+      → [] ≡ held_by old.before old.number number b → TakesOwn moment_of left_since told image old new number b
+  took_only old new number b comes other silent nothing halts took same so = record {
+    log = took.taken;
+    stuck = ap (λ (x : Back D). x.stuck) same;
+    holds = ap (λ (x : Back D). x.held.items) same ∙ sym (append-nil old.held.items) ∙ ap (λ more. old.held.items ++ more) so;
+    back = λ start opening m. subst (IsMounted moment_of left_since told image start opening true) (sym same)
+        (mounted_silent moment_of left_since told image start opening true old new.log old.held (entry_of old number b) m took refl comes other silent nothing
+        (HoldsMore.nothing_more refl refl halts));
+  }
+
+  is_nobody : (identity : Option Object) → not (is_some identity) ≡ true → identity ≡ None
+  is_nobody None is = refl
+  is_nobody (Some object) is = absurd (true_false (sym is))
+
+  pub took_bind : (old new : Back D) (number : ℕ) (object copy : Object) → copy ≡ object → comes_behind (last_of old.log.taken.items) (entry_of old number (body.Bind object)) ≡ true
+      → not (is_some old.identity) ≡ true → LogTook old.log new.log (entry_of old number (body.Bind object)) → new ≡ record old { identity = Some copy; log = new.log }
+      → TakesOwn moment_of left_since told image old new number (body.Bind object)
+  took_bind old new number object copy equal comes known took same = record {
+    log = took.taken;
+    stuck = ap (λ (x : Back D). x.stuck) same;
+    holds = ap (λ (x : Back D). x.held.items) same ∙ sym (append-nil old.held.items);
+    back = λ start opening m. subst (IsMounted moment_of left_since told image start opening true) (ap (λ o. record old { identity = Some o; log = new.log }) (sym equal) ∙ sym same)
+        (mounted_bind moment_of left_since told image start opening true old new.log number object m took (is_nobody old.identity known) comes);
+  }
+
+  -- a batch
+  pub somebody : (identity : Option Object) → is_some identity ≡ true → (object : Object) × (identity ≡ Some object)
+  somebody None is = absurd (true_false (sym is))
+  somebody (Some object) is = (object, refl)
+
+  pub failed_cache : (old : Back D) (cache : Contents) → FailsOwn moment_of left_since told image old (record old { cache = cache })
+  failed_cache old cache = record {
+    log = refl;
+    back = λ start opening m. kept_fails moment_of left_since told image start opening true old (record old { cache = cache }) cache old.held old.log refl
+        (same_log moment_of left_since told image start opening true old.log) refl m;
+  }
+
+  pub failed_stage : (old new : Back D) (cache : Contents) (object : Object) (ops : List Op) (e : NoMemory)
+      → ((journal : Journal D) → old.store ≡ store.Journal journal → Stages told image journal new.store object ops (Err e))
+      → new ≡ record old { cache = cache; store = new.store } → FailsOwn moment_of left_since told image old new
+  failed_stage old new cache object ops e stages same = record {
+    log = ap (λ (b : Back D). backed b.log) same;
+    back = λ start opening m.
+        let st = stages m.journal m.safe.store in
+        subst (IsMounted moment_of left_since told image start opening false)
+        (ap (λ (s : Store D). record old { store = s; cache = cache }) (sym st.is) ∙ sym same)
+        (mounted_same moment_of left_since told image start opening true false old old.log old.held st.new cache old.stuck m
+        (same_log moment_of left_since told image start opening true old.log) refl st.same_staged st.frames st.disk (λ yes. absurd (true_false (sym yes))));
+  }
+
+  pub took_batch : (old mid add : Back D) (number : ℕ) (ops : List Op) (tail : Option ℕ) (cache : Contents) (size : ℕ) (object : Object) → old.identity ≡ Some object
+      → comes_behind (last_of old.log.taken.items) (entry_of old number (body.Batch ops tail)) ≡ true → cache ≡ apply old.cache ops → size ≡ length (batch_bytes ops)
+      → ((journal : Journal D) → old.store ≡ store.Journal journal → Stages told image journal mid.store object ops (Ok tt))
+      → mid ≡ record old { cache = cache; store = mid.store } → LogTook mid.log add.log (entry_of mid number (body.Batch ops tail)) → add ≡ record mid { log = add.log }
+      → TakesOwn moment_of left_since told image old (record add { before = add.before + 1; own = add.own + 1; unflushed = add.unflushed + size }) number (body.Batch ops tail)
+  took_batch old mid add number ops tail cache size object named comes wrote is_size stages first log then =
+      let e : Entry = entry_of old number (body.Batch ops tail) in
+      let f : Back D → Back D = λ x. record x { before = x.before + 1; own = x.own + 1; unflushed = x.unflushed + size } in
+      let same : add ≡ record old { cache = cache; store = mid.store; log = add.log } = then ∙ ap (λ (x : Back D). record x { log = add.log }) first in
+      let took : LogTook old.log add.log e = record {
+        taken = log.taken ∙ ap (λ (x : Back D). record (backed x.log) { taken = x.log.taken.items ++ entry_of x number (body.Batch ops tail) ∷ [] }) first;
+        flights = log.flights;
+        stops = log.stops;
+      } in
+      record {
+        log = took.taken;
+        stuck = ap (λ (x : Back D). x.stuck) same;
+        holds = ap (λ (x : Back D). x.held.items) same ∙ sym (append-nil old.held.items);
+        back = λ start opening m.
+            let st = stages m.journal m.safe.store in
+            subst (IsMounted moment_of left_since told image start opening true)
+            (ap (λ (s : Store D). f (record old { cache = cache; store = s; log = add.log })) (sym st.is) ∙ ap f (sym same))
+            (mounted_batch moment_of left_since told image start opening true old add.log number ops tail st.new cache (old.unflushed + size) object m took named comes st.staged st.frames st.disk wrote
+            (ap (λ (n : ℕ). old.unflushed + n) is_size));
+      }
+
+  -- of an incarnation that isn't mounted
+  pub failed_down : (old new : Back D) → new.held.items ≡ old.held.items → new ≡ record old { held = new.held } → FailsDown moment_of left_since told image old new
+  failed_down old new items same = record {
+    log = ap (λ (b : Back D). backed b.log) same;
+    back = λ start opening u. subst (IsUnmounted moment_of left_since told image start opening) (sym same) (unmounted_held moment_of left_since told image start opening old new.held u items);
+  }
+
+  abbrev ending_or : Mode → Ending → Ending
+  ending_or (Down e) other = e
+  ending_or mode other = other
+
+  abbrev is_down_now : Mode → Type 0
+  is_down_now (Down e) = Unit {0}
+  is_down_now mode = ⊥
+
+  never_both : (one ending : Ending) → Down ending ≡ Wanted one → ⊥
+  never_both one ending same = subst is_down_now same tt
+
+  same_ending : (one ending : Ending) (mode : Mode) → IsAtEnd one mode → mode ≡ Down ending → one ≡ ending
+  same_ending one ending mode (inl wanted) down = absurd (never_both one ending (sym down ∙ wanted))
+  same_ending one ending mode (inr is) down = ap (λ m. ending_or m one) (sym is ∙ down)
+
+  pub took_mend : (old mid new : Back D) (number : ℕ) (ending : Ending) → old.mode ≡ Down ending → mid ≡ record old { mode = Wanted ending }
+      → LogTook mid.log new.log (entry_of mid number body.Mend) → new ≡ record mid { log = new.log } → TakesDown moment_of left_since told image old new number body.Mend
+  took_mend old mid new number ending down first log then =
+      let same : new ≡ record old { mode = Wanted ending; log = new.log } = then ∙ ap (λ (x : Back D). record x { log = new.log }) first in
+      let took : LogTook old.log new.log (entry_of old number body.Mend) = record {
+        taken = log.taken ∙ ap (λ (x : Back D). record (backed x.log) { taken = x.log.taken.items ++ entry_of x number body.Mend ∷ [] }) first;
+        flights = log.flights;
+        stops = log.stops;
+      } in
+      record {
+        log = took.taken;
+        stuck = ap (λ (x : Back D). x.stuck) same;
+        holds = ap (λ (x : Back D). x.held.items) same ∙ sym (append-nil old.held.items);
+        back = λ start opening u. subst (IsUnmounted moment_of left_since told image start opening)
+            (ap (λ (e : Ending). record old { mode = Wanted e; log = new.log }) (same_ending u.ending ending old.mode u.safe.mode down) ∙ sym same)
+            (unmounted_mend moment_of left_since told image start opening old new.log (entry_of old number body.Mend) u took refl refl);
+      }
+
+  pub took_down : (old mid new : Back D) (number : ℕ) (sent copy : Message) (ending : Ending) → old.mode ≡ Down ending → copy ≡ sent
+      → mid.held.items ≡ old.held.items ++ record { body = held_body.Message copy; needs = old.before; since = old.number - 1 } ∷ [] → mid ≡ record old { held = mid.held }
+      → LogTook mid.log new.log (entry_of mid number (body.Message sent)) → new ≡ record mid { log = new.log } → TakesDown moment_of left_since told image old new number (body.Message sent)
+  took_down old mid new number sent copy ending down equal items first log then =
+      let took = log_behind old mid new number (body.Message sent) first log in
+      let same = same_behind old mid new first then in
+      let held : new.held.items ≡ old.held.items ++ record { body = held_body.Message sent; needs = old.before; since = old.number - 1 } ∷ [] =
+      ap (λ (x : Back D). x.held.items) then ∙ items ∙ ap (λ (m : Message). old.held.items ++ record { body = held_body.Message m; needs = old.before; since = old.number - 1 } ∷ []) equal in
+      record {
+        log = took.taken;
+        stuck = ap (λ (x : Back D). x.stuck) same;
+        holds = held;
+        back = λ start opening u. subst (IsUnmounted moment_of left_since told image start opening) (sym same)
+            (unmounted_message moment_of left_since told image start opening old new.log new.held (entry_of old number (body.Message sent)) sent u took refl refl
+            (down ∙ ap Down (sym (same_ending u.ending ending old.mode u.safe.mode down))) held);
+      }

@@ -1,0 +1,269 @@
+-- What a mounting does to a back whose incarnation has ended.
+use Rattle.std.proofs.Common.{◌≡◌, ◌∙◌, ap, sym, refl, subst, inl, inr, ℕ, suc, ◌+◌, ◌-◌, ◌≤◌, List, [], ◌∷◌, ◌++◌, append-nil, length, length-append, arith, Option, Some}
+use Rattle.std.proofs.lemmas.List.{length_push}
+use Rattle.std.proofs.lemmas.List.Elements.{All-nil}
+use Rattle.std.specs.Prelude.{Bool, true, false, not, ◌==◌, if◌then◌else◌}
+use Rattle.std.specs.List.{flat_map}
+use Rattle.batch_journal.proofs.Held.{all_named}
+use Rattle.batch_journal.specs.Frames.{Frame, batches_in, operations_in}
+use Rattle.batch_journal.specs.Moments.{LeavesOnly, TellsAsBefore, IsTold}
+use Rattle.batch_journal.specs.Mounting.{IsMountOf, ImageOrHeader}
+use Rattle.batch_journal.specs.Reading.{IsObjectOf}
+use Rattle.batch_journal.specs.Rest.{IsAtRest, IsStaged, disk_in}
+use Rattle.batch_journal.specs.declared.journal.Journal.{Journal}
+use Rattle.batch_journal.specs.declared.mount.Mounted.{Mounted}
+use Rattle.storage_map.specs.Contents.{Contents, nothing, apply}
+use Rattle.storage_map.specs.Limits.{Object}
+use Rattle.storage_map.specs.declared.op.Op.{Op}
+use Rattle.timeline.specs.History.{Incarnation, History, incarnations, batches_in as batches_taken}
+use Rattle.timeline.specs.declared.entry.Entry.{Entry}
+use Rattle.timeline.specs.Logs.{Fronted, Backed, backed}
+use Rattle.timeline.specs.declared.back_log.BackLog.{BackLog}
+use Rattle.timeline.specs.declared.back_log.End.{End}
+use Rattle.timeline.specs.declared.back_log.Missed.{Missed}
+use Rattle.timeline.specs.declared.back_log.Release.{Release}
+use Rattle.output_gate.specs.Down.{place_down, IsDown}
+use Rattle.output_gate.specs.Gate.{Place, place_of, IsGate}
+use Rattle.output_gate.specs.Held.{waiting_in}
+use Rattle.output_gate.specs.Kept.{NameOnly}
+use Rattle.output_gate.specs.Mending.{Begins, Misses, is_own_object, kept_at}
+use Rattle.output_gate.specs.Serving.{HasRoom, IsSafe, IsServing, IsMounted, IsSafeEnded, IsEnded, IsUnmounted}
+use Rattle.output_gate.specs.Standing.{AreLogs, own_entries, own_flights, going_on}
+use Rattle.output_gate.specs.declared.back.Back.{Back}
+use Rattle.output_gate.specs.declared.back.Ending.{Ending}
+use Rattle.output_gate.specs.declared.back.Mode.{Mode}
+use Rattle.output_gate.specs.declared.back.Mode.TheVariants.{Mounted as IsMountedMode, Wanted, Down}
+use Rattle.output_gate.specs.declared.store.Store.TheVariants as store
+use Rattle.output_gate.proofs.Flushes.{front_none, placed}
+use Rattle.output_gate.proofs.Helds.{true_false, halts_none}
+use Rattle.output_gate.proofs.Histories.{same_below, follows as history_follows, follows_fits}
+use Rattle.output_gate.proofs.Mends.{found_one, old_found, more_found, lists_of, begins_old, begins_more, flown_with, still_down, mounting_leaves, full_leaves}
+use Rattle.output_gate.proofs.Named.{some_none}
+use Rattle.output_gate.proofs.Steps.{told_before}
+
+-- frames of an object that may be the slot's name that
+named_found : (mounted identity : Option Object) (frames : List Frame) → IsObjectOf mounted frames → is_own_object mounted identity → NameOnly identity frames
+named_found mounted identity frames is (inl same) = subst (λ o. NameOnly o frames) same (all_named mounted frames is)
+named_found mounted identity [] is (inr nobody) = All-nil (λ (f : Frame). identity ≡ Some f.object)
+named_found mounted identity (f ∷ frames) is (inr nobody) = absurd (some_none (sym is.0 ∙ nobody))
+
+-- the older incarnations, of which the last is followed
+abbrev kept_head : ℕ → History → History
+kept_head kept [] = []
+kept_head kept (i ∷ older) = record i { kept = Some kept } ∷ older
+
+-- where the log stands behind an `End`
+pub place_followed : (front : Fronted) (back : Backed) (end : End) → AreLogs back → (n : ℕ) → length back.stops ≡ suc n → length back.ends ≡ n
+    → (ended : ℕ) (taken : List Entry) (last : Incarnation) (rest : History) → place_of front back ≡ place_down ended taken last rest
+    → place_of front (record back { ends = back.ends ++ end ∷ [] }) ≡ record (place_down ended taken last rest) { older = record last { kept = Some end.kept } ∷ rest }
+place_followed front back end logs n stopped followed ended taken last rest is =
+    let f : Place → History = λ p. going_on front p.ended p.taken p.flights ∷ kept_head end.kept p.older in
+    placed front (record back { ends = back.ends ++ end ∷ [] }) (record (place_down ended taken last rest) { older = record last { kept = Some end.kept } ∷ rest })
+    (follows_fits front back end logs n stopped followed)
+    (history_follows front back end logs n stopped followed
+    ∙ sym (ap (λ (m : ℕ). going_on front m (own_entries back) (own_flights back) ∷ kept_head end.kept (incarnations front back m)) stopped)
+    ∙ ap f is)
+
+-- mountings that fail don't change the place
+pub missed_place : (front : Fronted) (back : Backed) (all : List Missed) → place_of front (record back { downs = all }) ≡ place_of front back
+missed_place front back all =
+    ap (λ (h : History). record (place_of front back) { older = h }) (same_below front back (record back { downs = all }) (length back.stops) (λ index less. refl))
+
+-- the two ways of being unmounted differ
+abbrev is_down_mode : Mode → Type 0
+is_down_mode (Down ending) = Unit {0}
+is_down_mode mode = ⊥
+
+pub down_wanted : (ending : Ending) → Down ending ≡ Wanted ending → ⊥
+down_wanted ending same = subst is_down_mode same tt
+
+kept_most : (ending : Ending) (whole : Bool) → ending.flown ≤ ending.whole → (if whole then ending.whole else ending.flown) ≤ ending.whole
+kept_most ending true more = omega arith
+kept_most ending false more = more
+
+-- the back behind a mounting
+abbrev pub begun : {D : Type 0} → Back D → BackLog → Journal D → Contents → ℕ → Back D
+begun old log journal map now = record old { store = store.Journal journal; cache = map; mode = IsMountedMode; durable = now; before = now; log = log }
+
+module _ {D : Type 0} (told : D → Option (List ℕ)) (image : D → List ℕ → Type 0) where
+  begun_room : (disk : D) (ending : Ending) (old : Back D) (log : BackLog) (end : End) (journal : Journal D) (map : Contents) (now : ℕ) → IsSafeEnded disk ending old
+      → backed log ≡ record (backed old.log) { ends = old.log.ends.items ++ end ∷ [] } → now ≤ old.durable + (ending.whole - ending.flown)
+      → HasRoom (begun old log journal map now)
+  begun_room disk ending old log end journal map now s is few =
+      let n : ℕ = length old.log.ends.items in
+      record {
+        logs = subst AreLogs (sym is) (follows_fits front_none (backed old.log) end s.logs n s.gone refl);
+        flights = λ other. absurd (other refl);
+        stops = λ other. absurd (other refl);
+        number = s.number ∙ ap (λ (b : Backed). suc (length b.stops)) (sym is);
+        own = s.own ∙ ap (λ (b : Backed). length (batches_taken (own_entries b))) (sym is);
+        few = omega (arith, few, s.few, ap (λ (b : Backed). length b.taken) is);
+        own_few = omega (arith, s.none);
+        followed = omega (arith, s.gone, ap (λ (b : Backed). length b.ends) is, length_push old.log.ends.items end, ap (λ (b : Backed). length b.stops) is);
+      }
+
+  safe_begun : (disk : D) (ending : Ending) (old : Back D) (log : BackLog) (end : End) (mounted : Mounted D) (now : ℕ) (frames : List Frame) → IsSafeEnded disk ending old
+      → backed log ≡ record (backed old.log) { ends = old.log.ends.items ++ end ∷ [] } → now ≤ old.durable + (ending.whole - ending.flown)
+      → IsAtRest told image mounted.journal frames → IsObjectOf mounted.identity frames → is_own_object mounted.identity old.identity
+      → ((object : Object) → IsStaged mounted.journal object [])
+      → IsSafe told image mounted.journal (begun old log mounted.journal mounted.map now)
+  safe_begun disk ending old log end mounted now frames s is few rest object own staged = record {
+    store = refl;
+    mode = refl;
+    room = begun_room disk ending old log end mounted.journal mounted.map now s is few;
+    frames = frames;
+    staged = [];
+    at_rest = rest;
+    named = named_found mounted.identity old.identity frames object own;
+    unflown = omega arith;
+    own = omega arith;
+    unflushed = s.unflushed;
+    staged_for = λ other is_named. staged other;
+    nameless = λ nobody. (refl, staged);
+    halts = halts_none now old.held.items s.halts;
+    halted = λ has. absurd (true_false (sym has ∙ s.halts));
+  }
+
+module _ {D : Type 0} (moment_of : D → ℕ) (left_since : D → ℕ → List ℕ → Type 0) (told : D → Option (List ℕ)) (image : D → List ℕ → Type 0)
+    (reads_an_image : (disk : D) (c : List ℕ) → told disk ≡ Some c → image disk c) (start : List (List Op)) (opening : ℕ) where
+  -- so many batches of the ended incarnation were found
+  serves_found : (disk : D) (ending : Ending) (old : Back D) (log : BackLog) (end : End) (mounted : Mounted D) (now : ℕ) (frames : List Frame) (found : List (List Op))
+      → IsSafeEnded disk ending old → (s : IsEnded moment_of left_since image start opening disk ending old)
+      → backed log ≡ record (backed old.log) { ends = old.log.ends.items ++ end ∷ [] } → now ≤ old.durable + (ending.whole - ending.flown)
+      → IsAtRest told image mounted.journal frames → IsObjectOf mounted.identity frames → is_own_object mounted.identity old.identity
+      → ((object : Object) → IsStaged mounted.journal object []) → mounted.map ≡ apply nothing (operations_in frames)
+      → batches_in frames ≡ start ++ found → length found ≡ now
+      → ((front : Fronted) → IsGate moment_of left_since old.identity start opening front
+      (record (place_down s.ended s.taken (s.last front) (s.rest front)) { older = record (s.last front) { kept = Some end.kept } ∷ s.rest front }) (disk_in mounted.journal)
+      (record (lists_of moment_of left_since told image reads_an_image start opening disk ending old s) { flown = found; staged = [] }) (length found) (length found))
+      → IsServing moment_of left_since told image start opening true mounted.journal (begun old log mounted.journal mounted.map now)
+  serves_found disk ending old log end mounted now frames found safe s is few rest object own staged map batches long gate =
+      let n : ℕ = length old.log.ends.items in
+      let released : log.released.items ≡ old.log.released.items = ap (λ (b : Backed). b.released) is in
+      record {
+        room = begun_room told image disk ending old log end mounted.journal mounted.map now safe is few;
+        frames = frames;
+        left = s.left;
+        flown = found;
+        staged = [];
+        gate = λ front.
+            subst (λ (x : Place × List Release × ℕ). IsGate moment_of left_since old.identity start opening front x.0 (disk_in mounted.journal)
+            (record { released = x.1; left = s.left; waiting = waiting_in old.held.items; flown = found; staged = [] }) x.2 x.2)
+            (ap (λ (p : Place). (p, old.log.released.items, length found))
+            (sym (ap (place_of front) is ∙ place_followed front (backed old.log) end s.logs n s.gone refl s.ended s.taken (s.last front) (s.rest front) (s.place front)))
+            ∙ ap (λ (rs : List Release). (place_of front (backed log), rs, length found)) (sym released)
+            ∙ ap (λ (k : ℕ). (place_of front (backed log), log.released.items, k)) long) (gate front);
+        at_rest = rest;
+        named = named_found mounted.identity old.identity frames object own;
+        batches = batches;
+        unflown = omega arith;
+        unflushed = safe.unflushed;
+        staged_for = λ other is_named. staged other;
+        nameless = λ nobody. (refl, staged);
+        cache = λ yes. map ∙ ap (λ bs. apply nothing (flat_map (λ ops. ops) bs)) (batches ∙ sym (append-nil (start ++ found)));
+      }
+
+  serves_begun : (disk : D) (ending : Ending) (old : Back D) (log : BackLog) (mounted : Mounted D) (kept : ℕ) (whole : Bool)
+      → (safe : IsSafeEnded disk ending old) (s : IsEnded moment_of left_since image start opening disk ending old) → old.mode ≡ Wanted ending
+      → backed log ≡ record (backed old.log) { ends = old.log.ends.items ++ record { kept = kept; cause = ending.cause } ∷ [] }
+      → (is : IsMountOf told image moment_of left_since disk mounted) → is_own_object mounted.identity old.identity
+      → ((object : Object) → IsStaged mounted.journal object [])
+      → LeavesOnly moment_of left_since disk (disk_in mounted.journal) (ImageOrHeader (told disk) (image disk)) → (c : List ℕ) → told disk ≡ Some c
+      → not (mounted.journal.end == ending.end) ≡ whole → kept ≡ (if whole then ending.whole else ending.flown)
+      → IsServing moment_of left_since told image start opening true mounted.journal (begun old log mounted.journal mounted.map (old.durable + (kept - ending.flown)))
+  serves_begun disk ending old log mounted kept true safe s wanted is_log is own staged leaves c tells test so =
+      let one = found_one moment_of left_since told image reads_an_image start opening disk ending old s c is.frames tells is.recovers in
+      let frames : is.frames ≡ s.frames ++ s.flight ∷ [] = more_found s.frames is.frames s.flight mounted.journal.end ending.end one is.at_rest.end s.end test in
+      let found : List (List Op) = s.flown ++ s.flight.batches in
+      let long : length found ≡ old.durable + (kept - ending.flown) = omega (arith, length-append s.flown s.flight.batches, (s.down front_none).long, so, s.is_whole) in
+      serves_found disk ending old log (record { kept = kept; cause = ending.cause }) mounted (old.durable + (kept - ending.flown)) is.frames found safe s is_log (omega (arith, so)) is.at_rest is.object own staged is.map
+      (ap batches_in frames ∙ flown_with moment_of left_since told image reads_an_image start opening disk ending old s) long
+      (λ front. begins_more moment_of left_since told image reads_an_image start opening disk ending old s front (disk_in mounted.journal) leaves (s.mended wanted) kept (omega (arith, so, s.is_whole, s.is_flown front)))
+  serves_begun disk ending old log mounted kept false safe s wanted is_log is own staged leaves c tells test so =
+      let one = found_one moment_of left_since told image reads_an_image start opening disk ending old s c is.frames tells is.recovers in
+      let frames : is.frames ≡ s.frames = old_found s.frames is.frames s.flight mounted.journal.end ending.end one is.at_rest.end s.end test in
+      let long : length s.flown ≡ old.durable + (kept - ending.flown) = omega (arith, (s.down front_none).long, so) in
+      serves_found disk ending old log (record { kept = kept; cause = ending.cause }) mounted (old.durable + (kept - ending.flown)) is.frames s.flown safe s is_log (omega (arith, so)) is.at_rest is.object own staged is.map
+      (ap batches_in frames ∙ s.batches) long
+      (λ front. subst (λ (k : ℕ). IsGate moment_of left_since old.identity start opening front
+      (record (place_down s.ended s.taken (s.last front) (s.rest front)) { older = record (s.last front) { kept = Some k } ∷ s.rest front }) (disk_in mounted.journal)
+      (record (lists_of moment_of left_since told image reads_an_image start opening disk ending old s) { flown = s.flown; staged = [] }) (length s.flown) (length s.flown))
+      (sym (so ∙ s.is_flown front)) (begins_old moment_of left_since told image reads_an_image start opening disk ending old s front (disk_in mounted.journal) leaves (s.mended wanted)))
+
+  pub mounted_begun : (disk : D) (ending : Ending) (old new : Back D) (mounted : Mounted D) → (safe : IsSafeEnded disk ending old)
+      → (IsTold (told disk) → IsEnded moment_of left_since image start opening disk ending old) → old.mode ≡ Wanted ending
+      → (is : IsMountOf told image moment_of left_since disk mounted) → is_own_object mounted.identity old.identity
+      → ((object : Object) → IsStaged mounted.journal object [])
+      → LeavesOnly moment_of left_since disk (disk_in mounted.journal) (ImageOrHeader (told disk) (image disk))
+      → TellsAsBefore (told disk) (told (disk_in mounted.journal)) → Begins old new ending mounted.journal mounted.map
+      → IsMounted moment_of left_since told image start opening true new
+  mounted_begun disk ending old new mounted safe s wanted is own staged leaves telling done =
+      let kept : ℕ = kept_at ending mounted.journal.end in
+      let now : ℕ = old.durable + (kept - ending.flown) in
+      let within : now ≤ old.durable + (ending.whole - ending.flown) = omega (arith, kept_most ending (not (mounted.journal.end == ending.end)) safe.more) in
+      let made : IsMounted moment_of left_since told image start opening true (begun old new.log mounted.journal mounted.map now) = record {
+        journal = mounted.journal;
+        safe = safe_begun told image disk ending old new.log (record { kept = kept; cause = ending.cause }) mounted now is.frames safe done.log within is.at_rest is.object own staged;
+        serves = λ tells.
+            let before = told_before (told disk) (told (disk_in mounted.journal)) telling tells in
+            serves_begun disk ending old new.log mounted kept (not (mounted.journal.end == ending.end)) safe (s before) wanted done.log is own staged leaves before.0 before.1 refl refl;
+      } in
+      subst (IsMounted moment_of left_since told image start opening true) (sym done.same) made
+
+  -- the mounting failed
+  pub unmounted_missed : (disk left : D) (ending : Ending) (old new : Back D) (before after : ℕ) → (safe : IsSafeEnded disk ending old)
+      → (IsTold (told disk) → IsEnded moment_of left_since image start opening disk ending old)
+      → LeavesOnly moment_of left_since disk left (ImageOrHeader (told disk) (image disk))
+      → TellsAsBefore (told disk) (told left)
+      → ((c : List ℕ) → image left c → ImageOrHeader (told disk) (image disk) c)
+      → Misses old new ending left before after
+      → IsUnmounted moment_of left_since told image start opening new
+  unmounted_missed disk left ending old new before after safe s leaves telling images done =
+      let log : backed new.log ≡ record (backed old.log) { downs = old.log.downs.items ++ record { incarnation = old.number; before = before; after = after } ∷ [] } = done.log in
+      let made : IsUnmounted moment_of left_since told image start opening (record old { store = store.Disk left; mode = Down ending; log = new.log }) = record {
+        disk = left;
+        ending = ending;
+        safe = record {
+          store = refl;
+          mode = inr refl;
+          logs = subst AreLogs (sym log) (record { flown = safe.logs.flown; begun = safe.logs.begun; ends = safe.logs.ends });
+          number = safe.number ∙ ap (λ (b : Backed). suc (length b.stops)) (sym log);
+          gone = ap (λ (b : Backed). length b.stops) log ∙ safe.gone ∙ ap (λ (b : Backed). suc (length b.ends)) (sym log);
+          even = safe.even;
+          own = safe.own ∙ ap (λ (b : Backed). length (batches_taken (own_entries b))) (sym log);
+          none = safe.none;
+          unflushed = safe.unflushed;
+          more = safe.more;
+          few = omega (arith, safe.few, ap (λ (b : Backed). length b.taken) log);
+          halts = safe.halts;
+        };
+        ended = λ tells.
+            let e = s (told_before (told disk) (told left) telling tells) in
+            record {
+              frames = e.frames;
+              flight = e.flight;
+              ended = e.ended;
+              taken = e.taken;
+              left = e.left;
+              flown = e.flown;
+              last = e.last;
+              rest = e.rest;
+              end = e.end;
+              is_flown = e.is_flown;
+              is_whole = e.is_whole;
+              logs = subst AreLogs (sym log) (record { flown = e.logs.flown; begun = e.logs.begun; ends = e.logs.ends });
+              place = λ front. ap (place_of front) log ∙ missed_place front (backed old.log) (old.log.downs.items ++ record { incarnation = old.number; before = before; after = after } ∷ []) ∙ e.place front;
+              down = λ front. subst (λ (rs : List Release). IsDown moment_of left_since old.identity start opening front e.ended e.taken (e.last front) (e.rest front) left
+                  (record { released = rs; left = e.left; waiting = waiting_in old.held.items; flown = e.flown; staged = e.flight.batches }) old.durable)
+                  (sym (ap (λ (b : Backed). b.released) log)) (still_down moment_of left_since told image reads_an_image start opening disk ending old e front left leaves);
+              object = e.object;
+              named = e.named;
+              batches = e.batches;
+              outcomes = λ c now. mounting_leaves moment_of left_since told image reads_an_image start opening disk ending old e c (images c now);
+              mended = λ wanted. absurd (down_wanted ending wanted);
+              gone = ap (λ (b : Backed). length b.stops) log ∙ e.gone ∙ ap (λ (b : Backed). suc (length b.ends)) (sym log);
+              number = e.number ∙ ap (λ (b : Backed). suc (length b.stops)) (sym log);
+              full = λ needed limit is c now. full_leaves moment_of left_since told image reads_an_image start opening disk ending old e needed limit is c (images c now);
+            };
+      } in
+      subst (IsUnmounted moment_of left_since told image start opening) (sym done.same) made

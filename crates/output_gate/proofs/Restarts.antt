@@ -1,0 +1,168 @@
+-- The restart behind a halt.
+use Rattle.std.proofs.Common.{◌≡◌, ◌∙◌, ap, sym, refl, subst, ℕ, suc, ◌+◌, ◌≤◌, List, [], ◌∷◌, ◌++◌, length, sum, arith, Option, Some, None, Global}
+use Rattle.std.proofs.lemmas.List.{length_push}
+use Rattle.std.specs.Prelude.{Bool, true, false}
+use Rattle.std.specs.declared.collections.VecDeque.{VecDeque}
+use Rattle.batch_journal.specs.Rest.{disk_in}
+use Rattle.batch_journal.specs.declared.journal.Journal.{Journal}
+use Rattle.storage_map.specs.declared.op.Op.{Op}
+use Rattle.timeline.specs.History.{Incarnation, entries_of, batches_in as batches_taken}
+use Rattle.timeline.specs.Logs.{Fronted, Backed, backed}
+use Rattle.timeline.specs.Passed.{Passed, discards, bound_if, bound_by}
+use Rattle.timeline.specs.declared.back_log.BackLog.{BackLog}
+use Rattle.timeline.specs.declared.back_log.End.{End}
+use Rattle.timeline.specs.declared.back_log.Release.{Release}
+use Rattle.timeline.specs.declared.back_log.Stop.{Stop}
+use Rattle.timeline.specs.declared.caller.Cause.{Cause}
+use Rattle.timeline.specs.declared.caller.Cause.TheVariants as cause
+use Rattle.output_gate.specs.Down.{place_down}
+use Rattle.output_gate.specs.Fits.{is_halting}
+use Rattle.output_gate.specs.Gate.{Place, place_of, Lists, IsGate}
+use Rattle.output_gate.specs.Held.{passed_by, passed_of, waiting_in, is_held_halt, has_halt, halts_well, HaltsLast}
+use Rattle.output_gate.specs.Serving.{HasRoom, IsSafe, IsServing, IsMounted, stop_of}
+use Rattle.output_gate.specs.Standing.{AreLogs, own_entries, own_flights, older_of, going_on}
+use Rattle.output_gate.specs.declared.back.Back.{Back}
+use Rattle.output_gate.specs.declared.held.Held.{Held}
+use Rattle.output_gate.specs.declared.held.HeldBody.{HeldBody}
+use Rattle.output_gate.specs.declared.held.HeldBody.TheVariants.{Halt}
+use Rattle.output_gate.proofs.Flushes.{front_none, placed}
+use Rattle.output_gate.proofs.Helds.{true_false}
+use Rattle.output_gate.proofs.Histories.{all_below, stops as history_stops, stops_fit, follows_fits}
+use Rattle.output_gate.proofs.Mountings.{place_followed}
+use Rattle.output_gate.proofs.Unmounted.{restarts}
+
+-- the back behind a halt
+abbrev pub restarted : {D : Type 0} → Back D → BackLog → VecDeque Held Global → Back D
+restarted old log held = record old { held = held; own = 0; number = old.number + 1; log = log }
+
+abbrev pub LogRestarts : {D : Type 0} → Back D → BackLog → Cause → Type 0
+LogRestarts old log c = backed log ≡ record (backed old.log) { stops = old.log.stops.items ++ stop_of old c ∷ []; ends = old.log.ends.items ++ record { kept = old.own; cause = c } ∷ [] }
+
+-- a front's cause discards nothing
+keeps_all : (c : Cause) → is_halting c ≡ true → discards c false ≡ false
+keeps_all (cause.Disk before after) is = absurd (true_false (sym is))
+keeps_all (cause.Full needed limit) is = absurd (true_false (sym is))
+keeps_all cause.Exceeded is = refl
+keeps_all cause.StartThrew is = refl
+keeps_all cause.BlockThrew is = refl
+
+none_staged : {X : Type 0} (xs : List X) (n : ℕ) → n ≡ n + length xs → xs ≡ []
+none_staged [] n is = refl
+none_staged (x ∷ xs) n is = absurd (omega (arith, is))
+
+halt_waits : (h : Held) (c : Cause) → h.body ≡ Halt c → passed_of h ≡ []
+halt_waits h c is = ap (λ (b : HeldBody). passed_by b h.needs h.since) is
+
+-- what is known of a halt that may go
+pub record Halting {D : Type 0} (old : Back D) (held : VecDeque Held Global) (h : Held) (c : Cause) : Type 0 where
+  pub first : old.held.items ≡ h ∷ held.items
+  pub body : h.body ≡ Halt c
+  pub ready : h.needs ≤ old.durable
+
+last_halt : {D : Type 0} (old : Back D) (held : VecDeque Held Global) (h : Held) (c : Cause) → HaltsLast old.before old.held.items → Halting old held h c
+    → (held.items ≡ []) × (h.needs ≡ old.before) × (is_halting c ≡ true)
+last_halt old held h c last halting =
+    let all = (subst (HaltsLast old.before) halting.first last).0 (ap is_held_halt halting.body) in
+    (all.0, all.1, sym (ap halts_well halting.body) ∙ all.2)
+
+module _ {D : Type 0} (told : D → Option (List ℕ)) (image : D → List ℕ → Type 0) where
+  halt_room : (old : Back D) (log : BackLog) (held : VecDeque Held Global) (c : Cause) → HasRoom old → LogRestarts old log c → old.before ≡ old.durable → HasRoom (restarted old log held)
+  halt_room old log held c room is even =
+      let b : Backed = backed old.log in
+      let stop : Stop = stop_of old c in
+      let end : End = record { kept = old.own; cause = c } in
+      let mid : Backed = record b { stops = b.stops ++ stop ∷ [] } in
+      let n : ℕ = length old.log.stops.items in
+      let stopped : length mid.stops ≡ suc n = omega (arith, length_push b.stops stop) in
+      let fits : AreLogs (record mid { ends = b.ends ++ end ∷ [] }) = follows_fits front_none mid end (stops_fit front_none b stop room.logs refl) n stopped room.followed in
+      let none : own_entries mid ≡ [] = ap (λ (m : ℕ). entries_of (suc m) b.taken) stopped ∙ all_below front_none b (suc (suc n)) room.logs (omega arith) in
+      record {
+        logs = subst AreLogs (sym is) fits;
+        flights = λ other. absurd (other even);
+        stops = λ other. absurd (other even);
+        number = omega (arith, room.number, ap (λ (x : Backed). length x.stops) is, stopped);
+        own = sym (ap (λ (x : Backed). length (batches_taken (own_entries x))) is ∙ ap (λ es. length (batches_taken es)) none);
+        few = omega (arith, room.few, ap (λ (x : Backed). length x.taken) is);
+        own_few = omega arith;
+        followed = omega (arith, room.followed, ap (λ (x : Backed). length x.ends) is, length_push old.log.ends.items end, ap (λ (x : Backed). length x.stops) is, stopped);
+      }
+
+  safe_restart : (old : Back D) (log : BackLog) (held : VecDeque Held Global) (h : Held) (c : Cause) (journal : Journal D) → IsSafe told image journal old → Halting old held h c → LogRestarts old log c
+      → IsSafe told image journal (restarted old log held)
+  safe_restart old log held h c journal s halting is =
+      let last = last_halt old held h c s.halts halting in
+      let even : old.before ≡ old.durable = omega (arith, s.unflown, last.1, halting.ready) in
+      record {
+        store = s.store;
+        mode = s.mode;
+        room = halt_room old log held c s.room is even;
+        frames = s.frames;
+        staged = s.staged;
+        at_rest = s.at_rest;
+        named = s.named;
+        unflown = s.unflown;
+        own = omega (arith, s.unflown, even);
+        unflushed = s.unflushed;
+        staged_for = s.staged_for;
+        nameless = s.nameless;
+        halts = subst (HaltsLast old.before) (sym last.0) tt;
+        halted = λ has. absurd (true_false (sym has ∙ ap has_halt last.0));
+      }
+
+module _ {D : Type 0} (moment_of : D → ℕ) (left_since : D → ℕ → List ℕ → Type 0) (told : D → Option (List ℕ)) (image : D → List ℕ → Type 0) (start : List (List Op)) (opening : ℕ) (sound : Bool) where
+  serves_restart : (old : Back D) (log : BackLog) (held : VecDeque Held Global) (h : Held) (c : Cause) (journal : Journal D) → IsSafe told image journal old
+      → IsServing moment_of left_since told image start opening sound journal old → Halting old held h c → LogRestarts old log c
+      → IsServing moment_of left_since told image start opening sound journal (restarted old log held)
+  serves_restart old log held h c journal safe s halting is =
+      let last = last_halt old held h c safe.halts halting in
+      let even : old.before ≡ old.durable = omega (arith, safe.unflown, last.1, halting.ready) in
+      let b : Backed = backed old.log in
+      let stop : Stop = stop_of old c in
+      let end : End = record { kept = old.own; cause = c } in
+      let mid : Backed = record b { stops = b.stops ++ stop ∷ [] } in
+      let n : ℕ = length old.log.stops.items in
+      let stopped : length mid.stops ≡ suc n = omega (arith, length_push b.stops stop) in
+      let logs : AreLogs mid = stops_fit front_none b stop s.room.logs refl in
+      let ended : Fronted → Incarnation = λ front. record (going_on front n (own_entries b) (own_flights b)) { stop = Some stop } in
+      let stopped_place : (front : Fronted) → place_of front mid ≡ place_down (suc n) [] (ended front) (older_of front b) =
+      λ front. placed front mid (place_down (suc n) [] (ended front) (older_of front b)) logs (history_stops front b stop s.room.logs refl) in
+      let place : (front : Fronted) → place_of front (backed log) ≡ record (place_down (suc n) [] (ended front) (older_of front b)) { older = record (ended front) { kept = Some old.own } ∷ older_of front b } =
+      λ front. ap (place_of front) is ∙ place_followed front mid end logs n stopped s.room.followed (suc n) [] (ended front) (older_of front b) (stopped_place front) in
+      let waits : waiting_in old.held.items ≡ [] =
+      ap waiting_in halting.first ∙ ap (λ ps. ps ++ waiting_in held.items) (halt_waits h c halting.body) ∙ ap waiting_in last.0 in
+      let bound : bound_by (Some stop) (own_flights b) ≡ None = ap (λ yes. bound_if yes c (sum (own_flights b))) (keeps_all c last.2) in
+      record {
+        room = halt_room told image old log held c s.room is even;
+        frames = s.frames;
+        left = s.left;
+        flown = s.flown;
+        staged = s.staged;
+        gate = λ front.
+            let l : Lists = record { released = old.log.released.items; left = s.left; waiting = waiting_in old.held.items; flown = s.flown; staged = s.staged } in
+            subst (λ (x : Place × List Release × List Passed). IsGate moment_of left_since old.identity start opening front x.0 (disk_in journal)
+            (record l { released = x.1; waiting = x.2 }) old.before old.durable)
+            (ap (λ (k : ℕ). (record (place_down (suc n) [] (ended front) (older_of front b)) { older = record (ended front) { kept = Some k } ∷ older_of front b }, old.log.released.items, waiting_in old.held.items)) (sym s.room.own)
+            ∙ ap (λ (p : Place). (p, old.log.released.items, waiting_in old.held.items)) (sym (place front))
+            ∙ ap (λ (rs : List Release). (place_of front (backed log), rs, waiting_in old.held.items)) (sym (ap (λ (x : Backed). x.released) is))
+            ∙ ap (λ (ws : List Passed). (place_of front (backed log), log.released.items, ws)) (waits ∙ sym (ap waiting_in last.0)))
+            (subst (λ (k : ℕ). IsGate moment_of left_since old.identity start opening front
+            (record { ended = suc n; taken = []; flights = []; older = record (ended front) { kept = Some (length (batches_taken (own_entries b))) } ∷ older_of front b }) (disk_in journal) l old.before k) even
+            (restarts moment_of left_since old.identity start opening front (place_of front b) (disk_in journal) l old.before stop
+            (subst (λ (k : ℕ). IsGate moment_of left_since old.identity start opening front (place_of front b) (disk_in journal) l old.before k) (sym even) (s.gate front)) waits bound s.room.own refl));
+        at_rest = s.at_rest;
+        named = s.named;
+        batches = s.batches;
+        unflown = s.unflown;
+        unflushed = s.unflushed;
+        staged_for = s.staged_for;
+        nameless = s.nameless;
+        cache = s.cache;
+      }
+
+  pub mounted_restart : (old : Back D) (log : BackLog) (held : VecDeque Held Global) (h : Held) (c : Cause) (m : IsMounted moment_of left_since told image start opening sound old)
+      → Halting old held h c → LogRestarts old log c → IsMounted moment_of left_since told image start opening sound (restarted old log held)
+  mounted_restart old log held h c m halting is = record {
+    journal = m.journal;
+    safe = safe_restart told image old log held h c m.journal m.safe halting is;
+    serves = λ tells. serves_restart old log held h c m.journal m.safe (m.serves tells) halting is;
+  }

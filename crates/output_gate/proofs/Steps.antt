@@ -1,0 +1,166 @@
+-- What a flush does to a back, whatever its disk tells.
+use Rattle.std.proofs.Common.{◌≡◌, ◌≢◌, ◌∙◌, ap, sym, refl, subst, inl, inr, ℕ, suc, ◌+◌, ◌-◌, ◌<◌, ◌≤◌, List, [], ◌∷◌, ◌++◌, length, arith, Option, Some, None, Ok, Err}
+use Rattle.std.proofs.lemmas.List.{length_push}
+use Rattle.std.proofs.lemmas.List.Elements.{All-push}
+use Rattle.std.specs.Prelude.{true, Bool, is_some}
+use Rattle.batch_journal.specs.Frames.{Frame, Name}
+use Rattle.batch_journal.specs.Moments.{TellsAsBefore, IsTold}
+use Rattle.batch_journal.specs.Rest.{IsAtRest, IsStaged, CanAppend, disk_in}
+use Rattle.batch_journal.specs.Staged.{frame_of}
+use Rattle.batch_journal.specs.declared.journal.Journal.{Journal}
+use Rattle.storage_map.specs.Limits.{Object}
+use Rattle.storage_map.specs.declared.op.Op.{Op}
+use Rattle.timeline.specs.History.{batches_in as batches_taken, entries_of}
+use Rattle.output_gate.specs.Fits.{last_of}
+use Rattle.timeline.specs.Logs.{Backed, backed}
+use Rattle.timeline.specs.declared.back_log.Stop.{Stop}
+use Rattle.output_gate.specs.Held.{has_halt}
+use Rattle.output_gate.specs.Serving.{IsSafe, IsMounted, IsSafeEnded, IsUnmounted, IsBack, Lands, CanLand, Stops, CanStop, ending_of, stop_of}
+use Rattle.output_gate.specs.Standing.{AreLogs, own_entries}
+use Rattle.output_gate.specs.Storing.{Appends, IsDiskOf}
+use Rattle.output_gate.specs.declared.back.Back.{Back}
+use Rattle.output_gate.specs.declared.store.Fault.{Fault}
+use Rattle.output_gate.specs.declared.store.Store.{Store}
+use Rattle.output_gate.specs.declared.store.Store.TheVariants as store
+use Rattle.output_gate.proofs.Flushes.{front_none, name_all, lands, ends, stopped}
+use Rattle.output_gate.proofs.Helds.{true_false, none_stays}
+use Rattle.output_gate.proofs.Histories.{flies_fit, stops_fit, all_below}
+
+-- a disk that tells its content now told it before
+abbrev given_bytes : Option (List ℕ) → List ℕ → List ℕ
+given_bytes None other = other
+given_bytes (Some bytes) other = bytes
+
+told_if : (old : Option (List ℕ)) → is_some old ≡ true → IsTold old
+told_if (Some bytes) is = (bytes, refl)
+told_if None is = absurd (true_false (sym is))
+
+pub told_before : (old new : Option (List ℕ)) → TellsAsBefore old new → IsTold new → IsTold old
+told_before old new same tells = told_if old (sym same ∙ ap is_some tells.1)
+
+longer : {X : Type 0} (durable before : ℕ) (xs : List X) → before ≡ durable + length xs → before ≢ durable → durable < before
+longer durable before [] is other = absurd (other (omega (arith, is)))
+longer durable before (x ∷ xs) is other = omega (arith, is)
+
+module _ {D : Type 0} (told : D → Option (List ℕ)) (image : D → List ℕ → Type 0) where
+  safe_staged : (journal : Journal D) (back : Back D) (s : IsSafe told image journal back) → back.before ≢ back.durable → s.staged ≢ []
+  safe_staged journal back s more none = more (omega (arith, s.unflown, ap length none))
+
+  object_if : (journal : Journal D) (back : Back D) (s : IsSafe told image journal back) → s.staged ≢ [] → (o : Option Object) → back.identity ≡ o → (object : Object) × (back.identity ≡ Some object)
+  object_if journal back s some None is = absurd (some (s.nameless is).0)
+  object_if journal back s some (Some object) is = (object, is)
+
+  pub safe_object : (journal : Journal D) (back : Back D) (s : IsSafe told image journal back) → back.before ≢ back.durable → (object : Object) × (back.identity ≡ Some object)
+  safe_object journal back s more = object_if journal back s (safe_staged journal back s more) back.identity refl
+
+  -- something is staged for the journal
+  pub can_append : (journal : Journal D) (back : Back D) → IsSafe told image journal back → back.before ≢ back.durable → CanAppend told image journal
+  can_append journal back s more =
+      let o = safe_object journal back s more in
+      (s.frames, o.0, s.staged, s.at_rest, s.staged_for o.0 o.1, safe_staged journal back s more, name_all o.0 s.frames back.identity o.1 s.named)
+
+  pub can_land : (journal : Journal D) (back : Back D) (after : Store D) → IsSafe told image journal back → back.before ≢ back.durable → CanLand (record back { store = after })
+  can_land journal back after s more = record { more = omega (arith, s.unflown); flights = s.room.flights more }
+
+  pub can_stop : (journal : Journal D) (back : Back D) (after : Store D) → IsSafe told image journal back → back.before ≢ back.durable → CanStop (record back { store = after })
+  can_stop journal back after s more = record { more = omega (arith, s.unflown); own = omega (arith, s.unflown, s.own); stops = s.room.stops more; number = s.room.number }
+
+  safe_lands : (old new : Back D) (journal later : Journal D) (s : IsSafe told image journal old) → old.before ≢ old.durable
+      → ((frames : List Frame) (object : Object) (batches : List (List Op)) → IsAtRest told image journal frames → IsStaged journal object batches → Name object frames
+      → IsAtRest told image later (frames ++ frame_of object batches ∷ []))
+      → ((object : Object) → IsStaged later object [])
+      → Lands (record old { store = store.Journal later }) new → IsSafe told image later new
+  safe_lands old new journal later s more appended unstaged done =
+      let o = safe_object journal old s more in
+      let k : ℕ = old.before - old.durable in
+      let logs : backed new.log ≡ record (backed old.log) { flights = old.log.flights.items ++ k ∷ [] } =
+      ap backed done.log ∙ ap (λ (fs : List ℕ). record (backed old.log) { flights = fs }) done.flights in
+      let made : IsSafe told image later (record old { store = store.Journal later; log = new.log; durable = old.before; unflushed = 0 }) = record {
+        store = refl;
+        mode = s.mode;
+        room = record {
+          logs = subst AreLogs (sym logs) (flies_fit front_none (backed old.log) k s.room.logs);
+          flights = λ other. absurd (other refl);
+          stops = λ other. absurd (other refl);
+          number = s.room.number ∙ ap (λ (b : Backed). suc (length b.stops)) (sym logs);
+          own = s.room.own ∙ ap (λ (b : Backed). length (batches_taken (own_entries b))) (sym logs);
+          few = subst (λ (b : Backed). old.before ≤ length b.taken) (sym logs) s.room.few;
+          own_few = subst (λ (b : Backed). old.own ≤ length b.taken) (sym logs) s.room.own_few;
+          followed = ap (λ (b : Backed). length b.ends) logs ∙ s.room.followed ∙ ap (λ (b : Backed). length b.stops) (sym logs);
+        };
+        frames = s.frames ++ frame_of o.0 s.staged ∷ [];
+        staged = [];
+        at_rest = appended s.frames o.0 s.staged s.at_rest (s.staged_for o.0 o.1) (name_all o.0 s.frames old.identity o.1 s.named);
+        named = All-push (λ (f : Frame). old.identity ≡ Some f.object) s.frames (frame_of o.0 s.staged) s.named o.1;
+        unflown = omega arith;
+        own = omega arith;
+        unflushed = refl;
+        staged_for = λ other is. unstaged other;
+        nameless = λ is. (refl, unstaged);
+        halts = s.halts;
+        halted = λ yes. let h = s.halted yes in (h.0, ap (λ (b : Backed). last_of b.taken) logs ∙ h.1, h.2, h.3);
+      } in
+      subst (IsSafe told image later) (sym done.same) made
+
+  safe_ends : (old new : Back D) (journal later : Journal D) (fault : Fault) (s : IsSafe told image journal old) → old.before ≢ old.durable
+      → Stops (record old { store = store.Journal later }) new fault → IsSafeEnded (disk_in later) (ending_of old fault) new
+  safe_ends old new journal later fault s more done =
+      let b : Backed = backed old.log in
+      let stop : Stop = stop_of old fault.cause in
+      let after : Backed = record b { stops = b.stops ++ stop ∷ [] } in
+      let logs : backed new.log ≡ after = ap backed done.log ∙ ap (λ (ss : List Stop). record b { stops = ss }) done.stops in
+      let none : own_entries after ≡ [] = ap (λ (n : ℕ). entries_of (suc n) b.taken) (length_push b.stops stop) ∙ all_below front_none b (suc (length b.stops + 1)) s.room.logs (omega arith) in
+      let made : IsSafeEnded (disk_in later) (ending_of old fault) (stopped old later new fault) = record {
+        store = refl;
+        mode = inl refl;
+        logs = subst AreLogs (sym logs) (stops_fit front_none b stop s.room.logs refl);
+        number = omega (arith, s.room.number, ap (λ (x : Backed). length x.stops) logs, length_push old.log.stops.items stop);
+        gone = omega (arith, ap (λ (x : Backed). length x.stops) logs, length_push old.log.stops.items stop, ap (λ (x : Backed). length x.ends) logs, s.room.followed);
+        even = refl;
+        own = sym (ap (λ (x : Backed). length (batches_taken (own_entries x))) logs ∙ ap (λ es. length (batches_taken es)) none);
+        none = refl;
+        unflushed = refl;
+        more = omega arith;
+        few = omega (arith, s.unflown, s.own, s.room.few, ap (λ (x : Backed). length x.taken) logs);
+        halts = ap has_halt done.held ∙ none_stays old.durable old.number fault.cause old.before old.held.items s.halts (longer old.durable old.before s.staged s.unflown more);
+      } in
+      subst (IsSafeEnded (disk_in later) (ending_of old fault)) (sym done.same) made
+
+module _ {D : Type 0} (moment_of : D → ℕ) (left_since : D → ℕ → List ℕ → Type 0) (told : D → Option (List ℕ)) (image : D → List ℕ → Type 0) (faults_of : D → ℕ)
+    (counts_now : (disk : D) (t : ℕ) (c : List ℕ) → t ≤ moment_of disk → image disk c → left_since disk t c) (start : List (List Op)) (opening : ℕ) (sound : Bool) where
+  pub mounted_lands : (old new : Back D) (after : Store D) (m : IsMounted moment_of left_since told image start opening sound old) → old.before ≢ old.durable
+      → Appends moment_of left_since told image faults_of m.journal after (Ok tt) → Lands (record old { store = after }) new → IsMounted moment_of left_since told image start opening sound new
+  mounted_lands old new after m more a done =
+      let lands_now : Lands (record old { store = store.Journal a.new }) new = subst (λ (x : Store D). Lands (record old { store = x }) new) a.is done in
+      record {
+        journal = a.new;
+        safe = safe_lands told image old new m.journal a.new m.safe more a.appended a.unstaged lands_now;
+        serves = λ tells. lands moment_of left_since told image counts_now start opening sound old new m.journal a.new
+            (m.serves (told_before (told (disk_in m.journal)) (told (disk_in a.new)) a.telling tells)) more a.appended a.unstaged a.any_moment lands_now;
+      }
+
+  pub mounted_ends : (old new : Back D) (after : Store D) (fault : Fault) (m : IsMounted moment_of left_since told image start opening sound old) → old.before ≢ old.durable
+      → Appends moment_of left_since told image faults_of m.journal after (Err fault) → Stops (record old { store = after }) new fault → IsUnmounted moment_of left_since told image start opening new
+  mounted_ends old new after fault m more a done =
+      let ends_now : Stops (record old { store = store.Journal a.new }) new fault = subst (λ (x : Store D). Stops (record old { store = x }) new fault) a.is done in
+      record {
+        disk = disk_in a.new;
+        ending = ending_of old fault;
+        safe = safe_ends told image old new m.journal a.new fault m.safe more ends_now;
+        ended = λ tells.
+            let s = m.serves (told_before (told (disk_in m.journal)) (told (disk_in a.new)) a.telling tells) in
+            ends moment_of left_since told image counts_now start opening sound old new m.journal a.new fault s more a.any_moment
+            (λ n limit is. a.full_keeps n limit s.frames is s.at_rest) a.ended.discards a.ended.end ends_now;
+      }
+
+-- a store that has a disk
+pub has_disk : {D : Type 0} (moment_of : D → ℕ) (left_since : D → ℕ → List ℕ → Type 0) (told : D → Option (List ℕ)) (image : D → List ℕ → Type 0) (start : List (List Op)) (opening : ℕ) (sound : Bool)
+    (back : Back D) → IsBack moment_of left_since told image start opening sound back → (disk : D) × IsDiskOf back.store disk
+has_disk {D} moment_of left_since told image start opening sound back (inl m) = (disk_in m.journal, subst (λ (s : Store D). IsDiskOf s (disk_in m.journal)) (sym m.safe.store) refl)
+has_disk moment_of left_since told image start opening sound back (inr u) = (u.disk, u.safe.store)
+
+-- What has something to flush is mounted.
+pub flushed_back : {D : Type 0} (moment_of : D → ℕ) (left_since : D → ℕ → List ℕ → Type 0) (told : D → Option (List ℕ)) (image : D → List ℕ → Type 0) (start : List (List Op)) (opening : ℕ) (sound : Bool)
+    (back : Back D) → back.before ≢ back.durable → IsBack moment_of left_since told image start opening sound back → IsMounted moment_of left_since told image start opening sound back
+flushed_back moment_of left_since told image start opening sound back more (inl m) = m
+flushed_back moment_of left_since told image start opening sound back more (inr u) = absurd (more u.safe.even)

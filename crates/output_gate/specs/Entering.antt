@@ -1,0 +1,153 @@
+-- What a take does, as its caller sees it.
+use Rattle.std.specs.Prelude.{◌≡◌, ◌⊎◌, ℕ, ◌<◌, Bool, true, false, List, [], ◌∷◌, ◌++◌, option_to_list, ◌-◌, length, slice_get, Option, Some, None, is_some, Result, Ok, Err}
+use Rattle.do_value.specs.declared.fault.NoMemory.{NoMemory}
+use Rattle.storage_map.specs.Contents.{Contents}
+use Rattle.storage_map.specs.declared.op.Op.{Op}
+use Rattle.timeline.specs.Logs.{Backed, backed}
+use Rattle.timeline.specs.declared.back_log.Stop.{Stop}
+use Rattle.timeline.specs.declared.caller.Failure.TheVariants as failure
+use Rattle.timeline.specs.declared.entry.Body.TheVariants as body
+use Rattle.timeline.specs.declared.message.Message.TheVariants as message
+use Rattle.output_gate.specs.declared.held.Held.{Held}
+use Rattle.output_gate.specs.declared.held.HeldBody.TheVariants as held
+use Rattle.timeline.specs.declared.entry.Body.{Body}
+use Rattle.timeline.specs.declared.entry.Entry.{Entry}
+use Rattle.timeline.specs.declared.notice.Notice.{Notice}
+use Rattle.timeline.specs.declared.notice.Stepped.{Stepped}
+use Rattle.timeline.specs.declared.notice.Stepped.TheVariants.{Nothing}
+use Rattle.output_gate.specs.Fits.{comes_behind, fits_mounted, fits_down, last_of}
+use Rattle.output_gate.specs.declared.back.Ending.{Ending}
+use Rattle.output_gate.specs.declared.back.Mode.TheVariants.{Down}
+use Rattle.output_gate.specs.Serving.{IsMounted, IsUnmounted}
+use Rattle.output_gate.specs.Taking.{notice_of, fit_of, LogRoom, most_unflushed}
+use Rattle.output_gate.specs.declared.back.Back.{Back}
+use Rattle.output_gate.specs.declared.fit.Fit.{Fit}
+use Rattle.output_gate.specs.declared.fit.Fit.TheVariants as fit
+
+abbrev pub is_unfit : Fit → Bool
+is_unfit fit.Unfit = true
+is_unfit _ = false
+
+-- An entry that is taken is logged; one that leaves the back stuck isn't.
+abbrev pub logged_as : Fit → Backed → Entry → Backed
+logged_as fit.Unfit log e = log
+logged_as _ log e = record log { taken = log.taken ++ e ∷ [] }
+
+-- what the front is told at once
+abbrev pub notice_as : Fit → Entry → Contents → Option Notice
+notice_as fit.Own e m = notice_of e.number m e.body
+notice_as _ e m = None
+
+abbrev pub notice_at : {D : Type 0} → Back D → Entry → Option Notice
+notice_at back e = notice_as (fit_of back e) e back.cache
+
+-- What is held of an entry of the newest incarnation, by the batches before it and the incarnation of whose line they are.
+abbrev pub held_by : (needs since number : ℕ) → Body → List Held
+held_by needs since number (body.Message sent) = record { body = held.Message sent; needs = needs; since = since } ∷ []
+held_by needs since number body.Sync = record { body = held.Sync number; needs = needs; since = since } ∷ []
+held_by needs since number (body.Halt cause) = record { body = held.Halt cause; needs = needs; since = since } ∷ []
+held_by needs since number _ = []
+
+-- Of a reply of an incarnation that has ended at an append the failure is held, which needs what was durable at that end.
+abbrev pub late_by : Option Stop → (settled : ℕ) → (incarnation : ℕ) → Body → List Held
+late_by (Some stop) settled incarnation (body.Message (message.Reply to result)) =
+    record { body = held.Message (message.Reply to (Err (failure.Reset stop.cause))); needs = settled; since = incarnation } ∷ []
+late_by _ settled incarnation b = []
+
+abbrev pub late_held : {D : Type 0} → Back D → Entry → List Held
+late_held back e = late_by (slice_get back.log.stops.items (length back.log.stops.items - 1)) back.settled e.incarnation e.body
+
+-- what is held of an entry
+abbrev pub held_as : {D : Type 0} → Fit → Back D → Entry → List Held
+held_as fit.Unfit back e = []
+held_as fit.Own back e = held_by back.before back.number e.number e.body
+held_as fit.Down back e = held_by back.before (back.number - 1) e.number e.body
+held_as fit.Late back e = late_held back e
+
+-- An entry goes into the log, with what is held of it, or leaves the back stuck.
+pub record Enters {D : Type 0} (old new : Back D) (e : Entry) : Type 0 where
+  pub log : backed new.log ≡ logged_as (fit_of old e) (backed old.log) e
+  pub stuck : new.stuck ≡ is_unfit (fit_of old e)
+  pub held : new.held.items ≡ old.held.items ++ held_as (fit_of old e) old e
+
+-- Nothing is done, and all is as before.
+pub record IsIdle {D A B : Type 0} (old new : Back D) (taken_before taken : List A) (sent_before sent : List B) (result : Result Stepped NoMemory) : Type 0 where
+  pub nothing : result ≡ Ok Nothing
+  pub back : new ≡ old
+  pub took : taken ≡ taken_before
+  pub told : sent ≡ sent_before
+
+-- The next entry of the line is taken, and the front is told what it waits for.
+pub record Takes {D : Type 0} (old new : Back D) (got_before got : List Entry) (sent_before sent : List Notice) : Type 0 where
+  pub entry : Entry
+  pub took : got ≡ got_before ++ entry ∷ []
+  pub told : sent ≡ sent_before ++ option_to_list (notice_at old entry)
+  pub enters : Enters old new entry
+
+-- Memory was wanting: an entry is gone from the line, and the front wasn't told of it; the log may have it.
+pub record LosesEntry {D : Type 0} (old new : Back D) (got_before got : List Entry) (sent_before sent : List Notice) : Type 0 where
+  pub entry : Entry
+  pub took : got ≡ got_before ++ entry ∷ []
+  pub told : sent ≡ sent_before
+  pub log : (backed new.log ≡ backed old.log) ⊎ (backed new.log ≡ record (backed old.log) { taken = old.log.taken.items ++ entry ∷ [] })
+
+-- What taking an entry of the newest incarnation needs while it is mounted, and does.
+pub record CanTake {D : Type 0} (moment_of : D → ℕ) (left_since : D → ℕ → List ℕ → Type 0) (told : D → Option (List ℕ)) (image : D → List ℕ → Type 0)
+    (old : Back D) (number : ℕ) (b : Body) : Type 0 where
+  pub start : List (List Op)
+  pub opening : ℕ
+  pub back : IsMounted moment_of left_since told image start opening true old
+  pub room : LogRoom old.log
+  pub comes : comes_behind (last_of old.log.taken.items) (record { incarnation = old.number; number = number; body = b }) ≡ true
+  pub fits : fits_mounted b (is_some old.identity) ≡ true
+  pub few : old.unflushed < most_unflushed
+
+pub record TakesOwn {D : Type 0} (moment_of : D → ℕ) (left_since : D → ℕ → List ℕ → Type 0) (told : D → Option (List ℕ)) (image : D → List ℕ → Type 0)
+    (old new : Back D) (number : ℕ) (b : Body) : Type 0 where
+  pub log : backed new.log ≡ record (backed old.log) { taken = old.log.taken.items ++ record { incarnation = old.number; number = number; body = b } ∷ [] }
+  pub stuck : new.stuck ≡ old.stuck
+  pub holds : new.held.items ≡ old.held.items ++ held_by old.before old.number number b
+  pub back : (start : List (List Op)) (opening : ℕ) → IsMounted moment_of left_since told image start opening true old
+      → IsMounted moment_of left_since told image start opening true new
+
+pub record FailsOwn {D : Type 0} (moment_of : D → ℕ) (left_since : D → ℕ → List ℕ → Type 0) (told : D → Option (List ℕ)) (image : D → List ℕ → Type 0)
+    (old new : Back D) : Type 0 where
+  pub log : backed new.log ≡ backed old.log
+  pub back : (start : List (List Op)) (opening : ℕ) → IsMounted moment_of left_since told image start opening true old
+      → IsMounted moment_of left_since told image start opening false new
+
+-- The same of the newest incarnation while it isn't mounted.
+pub record CanTakeDown {D : Type 0} (moment_of : D → ℕ) (left_since : D → ℕ → List ℕ → Type 0) (told : D → Option (List ℕ)) (image : D → List ℕ → Type 0)
+    (old : Back D) (number : ℕ) (b : Body) : Type 0 where
+  pub start : List (List Op)
+  pub opening : ℕ
+  pub back : IsUnmounted moment_of left_since told image start opening old
+  pub room : LogRoom old.log
+  pub fits : fits_down b ≡ true
+  pub ending : Ending
+  pub down : old.mode ≡ Down ending
+
+pub record TakesDown {D : Type 0} (moment_of : D → ℕ) (left_since : D → ℕ → List ℕ → Type 0) (told : D → Option (List ℕ)) (image : D → List ℕ → Type 0)
+    (old new : Back D) (number : ℕ) (b : Body) : Type 0 where
+  pub log : backed new.log ≡ record (backed old.log) { taken = old.log.taken.items ++ record { incarnation = old.number; number = number; body = b } ∷ [] }
+  pub stuck : new.stuck ≡ old.stuck
+  pub holds : new.held.items ≡ old.held.items ++ held_by old.before (old.number - 1) number b
+  pub back : (start : List (List Op)) (opening : ℕ) → IsUnmounted moment_of left_since told image start opening old
+      → IsUnmounted moment_of left_since told image start opening new
+
+pub record FailsDown {D : Type 0} (moment_of : D → ℕ) (left_since : D → ℕ → List ℕ → Type 0) (told : D → Option (List ℕ)) (image : D → List ℕ → Type 0)
+    (old new : Back D) : Type 0 where
+  pub log : backed new.log ≡ backed old.log
+  pub back : (start : List (List Op)) (opening : ℕ) → IsUnmounted moment_of left_since told image start opening old
+      → IsUnmounted moment_of left_since told image start opening new
+
+pub record TakesLate {D : Type 0} (old new : Back D) (e : Entry) : Type 0 where
+  pub log : backed new.log ≡ record (backed old.log) { taken = old.log.taken.items ++ e ∷ [] }
+  pub holds : new.held.items ≡ old.held.items ++ late_held old e
+  pub same : new ≡ record old { held = new.held; log = new.log }
+
+-- The entry that was taken is of an incarnation that has ended.
+pub record TakesLateEntry {D : Type 0} (old : Back D) (got_before got : List Entry) : Type 0 where
+  pub entry : Entry
+  pub took : got ≡ got_before ++ entry ∷ []
+  pub late : fit_of old entry ≡ fit.Late

@@ -1,0 +1,15 @@
+pub mod Standing
+pub mod Passing
+pub mod Kept
+pub mod Gate
+pub mod Down
+pub mod Fits
+pub mod Held
+pub mod Storing
+pub mod Serving
+pub mod Flushing
+pub mod Taking
+pub mod Entering
+pub mod Logs
+pub mod Releasing
+pub mod Mending

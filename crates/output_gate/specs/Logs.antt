@@ -1,0 +1,19 @@
+-- A back of a slot that was just mounted.
+use Rattle.std.specs.Prelude.{◌≡◌, false, []}
+use Rattle.batch_journal.specs.declared.mount.Mounted.{Mounted}
+use Rattle.timeline.specs.Logs.{Backed, backed}
+use Rattle.output_gate.specs.declared.back.Back.{Back}
+use Rattle.output_gate.specs.declared.store.Store.TheVariants as store
+
+-- a log in which nothing stands
+abbrev pub no_log : Backed
+no_log = record { taken = []; flights = []; stops = []; released = []; ends = []; downs = [] }
+
+-- Nothing is logged and nothing is held, and the map and the object are those that were mounted.
+pub record IsFresh {D : Type 0} (mounted : Mounted D) (back : Back D) : Type 0 where
+  pub log : backed back.log ≡ no_log
+  pub held : back.held.items ≡ []
+  pub store : back.store ≡ store.Journal mounted.journal
+  pub identity : back.identity ≡ mounted.identity
+  pub map : back.cache ≡ mounted.map
+  pub stuck : back.stuck ≡ false

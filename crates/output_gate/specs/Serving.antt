@@ -1,0 +1,190 @@
+-- A back that serves, and one whose incarnation has ended at an append.
+use Rattle.std.specs.Prelude.{◌≡◌, ◌≢◌, ◌⊎◌, ℕ, suc, ◌+◌, ◌-◌, ◌≤◌, Bool, true, false, List, [], ◌∷◌, ◌++◌, length, Option, Some, None, vec_len}
+use Rattle.std.specs.List.{flat_map}
+use Rattle.std.specs.Vec.{vec_capacity}
+use Rattle.batch_journal.specs.Frames.{Frame, journal_bytes, batches_in}
+use Rattle.batch_journal.specs.Moments.{IsTold}
+use Rattle.batch_journal.specs.Recovery.{Recovers}
+use Rattle.batch_journal.specs.Rest.{IsAtRest, IsStaged, RecoversToOneOf, disk_in}
+use Rattle.batch_journal.specs.declared.journal.Journal.{Journal}
+use Rattle.timeline.specs.declared.caller.Cause.TheVariants as causes
+use Rattle.timeline.specs.declared.entry.Entry.{Entry}
+use Rattle.storage_map.specs.Contents.{nothing, apply}
+use Rattle.storage_map.specs.Limits.{Object}
+use Rattle.storage_map.specs.Ops.{batch_bytes}
+use Rattle.storage_map.specs.declared.op.Op.{Op}
+use Rattle.timeline.specs.History.{Incarnation, History, durable, batches_in as batches_taken}
+use Rattle.timeline.specs.Logs.{Fronted, backed}
+use Rattle.timeline.specs.Passed.{Passed}
+use Rattle.timeline.specs.declared.back_log.Stop.{Stop}
+use Rattle.timeline.specs.declared.caller.Cause.{Cause}
+use Rattle.output_gate.specs.Down.{place_down, IsDown}
+use Rattle.output_gate.specs.Fits.{is_halt, last_of}
+use Rattle.output_gate.specs.Gate.{place_of, IsGate}
+use Rattle.output_gate.specs.Held.{stays, waiting_in, has_halt, HaltsLast}
+use Rattle.output_gate.specs.Kept.{NameOnly}
+use Rattle.output_gate.specs.Passing.{AreMended}
+use Rattle.output_gate.specs.Standing.{AreLogs, own_entries}
+use Rattle.output_gate.specs.Storing.{IsDiskOf}
+use Rattle.output_gate.specs.declared.back.Back.{Back}
+use Rattle.output_gate.specs.declared.back.Ending.{Ending}
+use Rattle.output_gate.specs.declared.back.Mode.{Mode}
+use Rattle.output_gate.specs.declared.back.Mode.TheVariants.{Mounted, Wanted, Down}
+use Rattle.output_gate.specs.declared.store.Fault.{Fault}
+use Rattle.output_gate.specs.declared.store.Store.TheVariants as store
+
+-- The log's lists fit, and have the room that a flush of what is staged needs; the counters are theirs.
+pub record HasRoom {D : Type 0} (back : Back D) : Type 0 where
+  pub logs : AreLogs (backed back.log)
+  pub flights : back.before ≢ back.durable → vec_len back.log.flights + 1 ≤ vec_capacity back.log.flights
+  pub stops : back.before ≢ back.durable → vec_len back.log.stops + 1 ≤ vec_capacity back.log.stops
+  pub number : back.number ≡ suc (length back.log.stops.items)
+  pub own : back.own ≡ length (batches_taken (own_entries (backed back.log)))
+  pub few : back.before ≤ length back.log.taken.items
+  pub own_few : back.own ≤ length back.log.taken.items
+  pub followed : length back.log.ends.items ≡ length back.log.stops.items
+
+-- Of any disk: the journal is at rest, its frames name the object, and what isn't durable is staged.
+pub record IsSafe {D : Type 0} (told : D → Option (List ℕ)) (image : D → List ℕ → Type 0) (journal : Journal D) (back : Back D) : Type 0 where
+  pub store : back.store ≡ store.Journal journal
+  pub mode : back.mode ≡ Mounted
+  pub room : HasRoom back
+  pub frames : List Frame
+  pub staged : List (List Op)
+  pub at_rest : IsAtRest told image journal frames
+  pub named : NameOnly back.identity frames
+  pub unflown : back.before ≡ back.durable + length staged
+  pub own : length staged ≤ back.own
+  pub unflushed : back.unflushed ≡ length (flat_map batch_bytes staged)
+  pub staged_for : (object : Object) → back.identity ≡ Some object → IsStaged journal object staged
+  pub nameless : back.identity ≡ None → (staged ≡ []) × ((object : Object) → IsStaged journal object [])
+  pub halts : HaltsLast back.before back.held.items
+  pub halted : has_halt back.held.items ≡ true → (e : Entry) × (last_of back.log.taken.items ≡ Some e) × (e.incarnation ≡ back.number) × (is_halt e.body ≡ true)
+
+-- Of a disk that tells its content: the frames have the batches of the start and those that are durable, the other batches of the
+-- line are staged, the cache has what the line leaves, and what is held are the messages that wait. After want of memory the
+-- cache isn't sound.
+pub record IsServing {D : Type 0} (moment_of : D → ℕ) (left_since : D → ℕ → List ℕ → Type 0) (told : D → Option (List ℕ)) (image : D → List ℕ → Type 0)
+    (start : List (List Op)) (opening : ℕ) (sound : Bool) (journal : Journal D) (back : Back D) : Type 0 where
+  pub room : HasRoom back
+  pub frames : List Frame
+  pub left : List Passed
+  pub flown : List (List Op)
+  pub staged : List (List Op)
+  pub gate : (front : Fronted) → IsGate moment_of left_since back.identity start opening front (place_of front (backed back.log)) (disk_in journal)
+      (record { released = back.log.released.items; left = left; waiting = waiting_in back.held.items; flown = flown; staged = staged }) back.before back.durable
+  pub at_rest : IsAtRest told image journal frames
+  pub named : NameOnly back.identity frames
+  pub batches : batches_in frames ≡ start ++ flown
+  pub unflown : back.before ≡ back.durable + length staged
+  pub unflushed : back.unflushed ≡ length (flat_map batch_bytes staged)
+  pub staged_for : (object : Object) → back.identity ≡ Some object → IsStaged journal object staged
+  pub nameless : back.identity ≡ None → (staged ≡ []) × ((object : Object) → IsStaged journal object [])
+  pub cache : sound ≡ true → back.cache ≡ apply nothing (flat_map (λ ops. ops) (start ++ flown ++ staged))
+
+-- The newest incarnation is mounted.
+pub record IsMounted {D : Type 0} (moment_of : D → ℕ) (left_since : D → ℕ → List ℕ → Type 0) (told : D → Option (List ℕ)) (image : D → List ℕ → Type 0)
+    (start : List (List Op)) (opening : ℕ) (sound : Bool) (back : Back D) : Type 0 where
+  pub journal : Journal D
+  pub safe : IsSafe told image journal back
+  pub serves : IsTold (told (disk_in journal)) → IsServing moment_of left_since told image start opening sound journal back
+
+-- It isn't mounted, since an end of which this is known.
+abbrev pub IsAtEnd : Ending → Mode → Type 0
+IsAtEnd ending mode = (mode ≡ Wanted ending) ⊎ (mode ≡ Down ending)
+
+-- Of any disk: the counters are the logs'.
+pub record IsSafeEnded {D : Type 0} (disk : D) (ending : Ending) (back : Back D) : Type 0 where
+  pub store : IsDiskOf back.store disk
+  pub mode : IsAtEnd ending back.mode
+  pub logs : AreLogs (backed back.log)
+  pub number : back.number ≡ suc (length back.log.stops.items)
+  pub gone : length back.log.stops.items ≡ suc (length back.log.ends.items)
+  pub even : back.before ≡ back.durable
+  pub own : back.own ≡ length (batches_taken (own_entries (backed back.log)))
+  pub none : back.own ≡ 0
+  pub unflushed : back.unflushed ≡ 0
+  pub more : ending.flown ≤ ending.whole
+  pub few : back.durable + (ending.whole - ending.flown) ≤ length back.log.taken.items
+  pub halts : has_halt back.held.items ≡ false
+
+-- Of a disk that tells its content: it has the frames, or these and the flight that failed, and that is all that a crash leaves;
+-- where the journal was full it has the frames.
+pub record IsEnded {D : Type 0} (moment_of : D → ℕ) (left_since : D → ℕ → List ℕ → Type 0) (image : D → List ℕ → Type 0)
+    (start : List (List Op)) (opening : ℕ) (disk : D) (ending : Ending) (back : Back D) : Type 0 where
+  pub frames : List Frame
+  pub flight : Frame
+  pub ended : ℕ
+  pub taken : List Entry
+  pub left : List Passed
+  pub flown : List (List Op)
+  pub last : Fronted → Incarnation
+  pub rest : Fronted → History
+  pub end : ending.end ≡ length (journal_bytes frames) + 1
+  pub is_flown : (front : Fronted) → ending.flown ≡ durable (last front)
+  pub is_whole : ending.whole ≡ ending.flown + length flight.batches
+  pub logs : AreLogs (backed back.log)
+  pub place : (front : Fronted) → place_of front (backed back.log) ≡ place_down ended taken (last front) (rest front)
+  pub down : (front : Fronted) → IsDown moment_of left_since back.identity start opening front ended taken (last front) (rest front) disk
+      (record { released = back.log.released.items; left = left; waiting = waiting_in back.held.items; flown = flown; staged = flight.batches }) back.durable
+  pub object : back.identity ≡ Some flight.object
+  pub named : NameOnly back.identity frames
+  pub batches : batches_in frames ≡ start ++ flown
+  pub outcomes : (c : List ℕ) → image disk c → RecoversToOneOf frames flight c
+  pub mended : (back.mode ≡ Wanted ending) → AreMended taken
+  pub gone : length back.log.stops.items ≡ suc (length back.log.ends.items)
+  pub number : back.number ≡ suc (length back.log.stops.items)
+  pub full : (needed limit : ℕ) → ending.cause ≡ causes.Full needed limit → (c : List ℕ) → image disk c → Recovers c frames
+
+-- The newest incarnation isn't mounted.
+pub record IsUnmounted {D : Type 0} (moment_of : D → ℕ) (left_since : D → ℕ → List ℕ → Type 0) (told : D → Option (List ℕ)) (image : D → List ℕ → Type 0)
+    (start : List (List Op)) (opening : ℕ) (back : Back D) : Type 0 where
+  pub disk : D
+  pub ending : Ending
+  pub safe : IsSafeEnded disk ending back
+  pub ended : IsTold (told disk) → IsEnded moment_of left_since image start opening disk ending back
+
+-- What holds of a back after each of its steps. After want of memory it isn't sound.
+abbrev pub IsBack : {D : Type 0} → (D → ℕ) → (D → ℕ → List ℕ → Type 0) → (D → Option (List ℕ)) → (D → List ℕ → Type 0) → List (List Op) → ℕ → (sound : Bool) → Back D → Type 0
+IsBack moment_of left_since told image start opening sound back =
+    IsMounted moment_of left_since told image start opening sound back ⊎ IsUnmounted moment_of left_since told image start opening back
+
+abbrev pub CanServe : {D : Type 0} → (D → ℕ) → (D → ℕ → List ℕ → Type 0) → (D → Option (List ℕ)) → (D → List ℕ → Type 0) → (sound : Bool) → Back D → Type 0
+CanServe moment_of left_since told image sound back = (start : List (List Op)) × (opening : ℕ) × IsBack moment_of left_since told image start opening sound back
+
+-- What the two ends of a flush need of the back, and what they do to it.
+pub record CanLand {D : Type 0} (back : Back D) : Type 0 where
+  pub more : back.durable ≤ back.before
+  pub flights : vec_len back.log.flights + 1 ≤ vec_capacity back.log.flights
+
+pub record Lands {D : Type 0} (old new : Back D) : Type 0 where
+  pub flights : new.log.flights.items ≡ old.log.flights.items ++ (old.before - old.durable) ∷ []
+  pub log : new.log ≡ record old.log { flights = new.log.flights }
+  pub same : new ≡ record old { log = new.log; durable = old.before; unflushed = 0 }
+
+pub record CanStop {D : Type 0} (back : Back D) : Type 0 where
+  pub more : back.durable ≤ back.before
+  pub own : back.before ≤ back.durable + back.own
+  pub stops : vec_len back.log.stops + 1 ≤ vec_capacity back.log.stops
+  pub number : back.number ≡ suc (length back.log.stops.items)
+
+abbrev pub stop_of : {D : Type 0} → Back D → Cause → Stop
+stop_of back cause = record { cause = cause; flights = length back.log.flights.items; batches = back.own; read = false }
+
+abbrev pub ending_of : {D : Type 0} → Back D → Fault → Ending
+ending_of back fault = record { cause = fault.cause; end = fault.end; flown = back.own - (back.before - back.durable); whole = back.own }
+
+pub record Stops {D : Type 0} (old new : Back D) (fault : Fault) : Type 0 where
+  pub stops : new.log.stops.items ≡ old.log.stops.items ++ stop_of old fault.cause ∷ []
+  pub log : new.log ≡ record old.log { stops = new.log.stops }
+  pub held : new.held.items ≡ flat_map (stays old.durable old.number fault.cause) old.held.items
+  pub same : new ≡ record old {
+    log = new.log;
+    held = new.held;
+    mode = Wanted (ending_of old fault);
+    before = old.durable;
+    own = 0;
+    settled = old.durable;
+    unflushed = 0;
+    number = old.number + 1;
+  }

@@ -1,0 +1,61 @@
+-- What a back does with its disk.
+use Rattle.std.specs.Prelude.{◌≡◌, ◌-◌, ◌^◌, ◌<◌, ◌≤◌, min, ℕ, true, false, List, [], ◌∷◌, ◌++◌, Option, Result, OnOk, OnErr, IfErr}
+use Rattle.do_disk.specs.Disk.{Rose}
+use Rattle.storage_map.specs.Limits.{Object}
+use Rattle.storage_map.specs.declared.op.Op.{Op}
+use Rattle.batch_journal.specs.Frames.{Frame, Name}
+use Rattle.batch_journal.specs.Moments.{LeavesOnly, TellsAsBefore}
+use Rattle.batch_journal.specs.Rest.{IsAtRest, IsStaged, RecoversToOneOf, disk_in, end_of, limit_of, needed}
+use Rattle.batch_journal.specs.Staged.{frame_of}
+use Rattle.batch_journal.specs.declared.journal.Journal.{Journal}
+use Rattle.do_value.specs.declared.fault.NoMemory.{NoMemory}
+use Rattle.timeline.specs.Passed.{discards}
+use Rattle.timeline.specs.declared.caller.Cause.{Cause}
+use Rattle.timeline.specs.declared.caller.Cause.TheVariants as cause
+use Rattle.output_gate.specs.declared.store.Fault.{Fault}
+use Rattle.output_gate.specs.declared.store.Store.{Store}
+use Rattle.output_gate.specs.declared.store.Store.TheVariants as store
+
+-- the disk that is in the store
+abbrev pub IsDiskOf : {D : Type 0} → Store D → D → Type 0
+IsDiskOf (store.Journal journal) disk = disk ≡ disk_in journal
+IsDiskOf (store.Disk bare) disk = disk ≡ bare
+IsDiskOf store.Away disk = ⊥
+
+-- A batch is staged behind those that were, or memory was wanting and the same are; the journal's file is as it was.
+pub record Stages {D : Type 0} (told : D → Option (List ℕ)) (image : D → List ℕ → Type 0) (old : Journal D) (after : Store D) (object : Object) (batch : List Op)
+    (result : Result (Unit {0}) NoMemory) : Type 0 where
+  pub new : Journal D
+  pub is : after ≡ store.Journal new
+  pub staged : OnOk result ((batches : List (List Op)) → IsStaged old object batches → IsStaged new object (batches ++ batch ∷ []))
+  pub same_staged : OnErr result ((other : Object) (batches : List (List Op)) → IsStaged old other batches → IsStaged new other batches)
+  pub frames : (frames : List Frame) → IsAtRest told image old frames → IsAtRest told image new frames
+  pub disk : disk_in new ≡ disk_in old
+
+-- A fault of an append: the disk's count of faults rose, or the journal would have passed its limit.
+abbrev pub IsCauseOf : {D : Type 0} → (D → ℕ) → (old new : Journal D) → Cause → Type 0
+IsCauseOf faults_of old new (cause.Disk before after) =
+    (before ≡ faults_of (disk_in old)) × (after ≡ faults_of (disk_in new)) × Rose before after
+IsCauseOf faults_of old new (cause.Full n limit) = (limit ≡ limit_of old) × ((object : Object) (batches : List (List Op)) → IsStaged old object batches
+    → (limit < needed old (frame_of object batches)) × (n ≡ min (needed old (frame_of object batches)) (2 ^ 64 - 1)))
+IsCauseOf faults_of old new c = ⊥
+
+pub record IsFaultOf {D : Type 0} (faults_of : D → ℕ) (old new : Journal D) (fault : Fault) : Type 0 where
+  pub cause : IsCauseOf faults_of old new fault.cause
+  pub discards : discards fault.cause false ≡ true
+  pub end : fault.end ≡ end_of old
+
+-- What an append did: it wrote one frame; or it didn't, for this cause, and the journal's end was here before.
+pub record Appends {D : Type 0} (moment_of : D → ℕ) (left_since : D → ℕ → List ℕ → Type 0) (told : D → Option (List ℕ)) (image : D → List ℕ → Type 0)
+    (faults_of : D → ℕ) (old : Journal D) (after : Store D) (result : Result (Unit {0}) Fault) : Type 0 where
+  pub new : Journal D
+  pub is : after ≡ store.Journal new
+  pub appended : OnOk result ((frames : List Frame) (object : Object) (batches : List (List Op)) → IsAtRest told image old frames → IsStaged old object batches → Name object frames
+      → IsAtRest told image new (frames ++ frame_of object batches ∷ []))
+  pub unstaged : OnOk result ((object : Object) → IsStaged new object [])
+  pub any_moment : (frames : List Frame) (object : Object) (batches : List (List Op)) → IsAtRest told image old frames → IsStaged old object batches → Name object frames
+      → LeavesOnly moment_of left_since (disk_in old) (disk_in new) (RecoversToOneOf frames (frame_of object batches))
+  pub ended : IfErr result (λ fault. IsFaultOf faults_of old new fault)
+  pub full_keeps : IfErr result (λ fault. (n limit : ℕ) (frames : List Frame) → fault.cause ≡ cause.Full n limit → IsAtRest told image old frames → IsAtRest told image new frames)
+  pub later : faults_of (disk_in old) ≤ faults_of (disk_in new)
+  pub telling : TellsAsBefore (told (disk_in old)) (told (disk_in new))

@@ -1,0 +1,156 @@
+//! The back half of an object.
+ghost use Rattle.std.specs.Prelude.{◌≡◌, Bool, true, List, [], ℕ};
+ghost use Rattle.batch_journal.specs.Frames.{batches_in};
+ghost use Rattle.batch_journal.specs.Mounting.{IsMountOf};
+ghost use Rattle.batch_journal.specs.Rest.{IsStaged};
+ghost use Rattle.do_disk.specs.Disk.{next_count};
+ghost use Rattle.storage_map.specs.Limits.{Object};
+ghost use Rattle.timeline.specs.Logs.{backed};
+ghost use Rattle.output_gate.specs.Logs.{IsFresh};
+ghost use Rattle.output_gate.specs.Serving.{CanServe, IsBack};
+ghost use Rattle.output_gate.specs.Storing.{IsDiskOf};
+
+use crate::held::Held;
+use crate::store::Store;
+use batch_journal::Mounted;
+use do_disk::Disk;
+use std::alloc::Global;
+use std::collections::VecDeque;
+use storage_cache::Cache;
+use storage_map::Identity;
+use timeline::{BackLog, Cause};
+
+/// No more is taken while so many encoded bytes of batches, or more, are unflushed.
+pub const MOST_UNFLUSHED_BYTES: u64 = 1_048_576;
+
+/// Whether the newest incarnation is mounted.
+#[derive(Clone, Copy, Drop)]
+pub(crate) enum Mode {
+    Mounted,
+    /// It isn't, and a mounting is wanted.
+    Wanted(Ending),
+    /// It isn't: the last mounting failed, and another is wanted once a `Mend` is taken.
+    Down(Ending),
+}
+
+/// What is known of an end at an append until the journal is mounted again.
+#[derive(Clone, Copy, Drop)]
+pub(crate) struct Ending {
+    pub(crate) cause: Cause,
+    // the journal's end before the append
+    pub(crate) end: u64,
+    // how many batches of the ended incarnation were durable, and how many are where the whole flight is
+    pub(crate) flown: u64,
+    pub(crate) whole: u64,
+}
+
+/// The back half of an object.
+#[derive(Drop)]
+pub struct Back<D> {
+    pub(crate) store: Store<D>,
+    // the journal's limit in bytes
+    pub(crate) limit: u64,
+    pub(crate) cache: Cache,
+    pub(crate) identity: Option<Identity>,
+    pub(crate) held: VecDeque<Held>,
+    pub(crate) mode: Mode,
+    // something was taken that no front sends
+    pub(crate) stuck: bool,
+    // the batches before the next message and those that are durable, from the opening; and those of the newest incarnation
+    pub(crate) before: u64,
+    pub(crate) durable: u64,
+    pub(crate) own: u64,
+    // the batches that were durable at the last end at an append
+    pub(crate) settled: u64,
+    // the encoded bytes of the batches that are taken and not durable
+    pub(crate) unflushed: u64,
+    // the number of the newest incarnation
+    pub(crate) number: u64,
+    pub(crate) log: BackLog,
+}
+
+/// What a back leaves.
+#[derive(Drop)]
+pub struct BackParts<D> {
+    pub disk: D,
+    /// The object of the slot, where there is one.
+    pub identity: Option<Identity>,
+    pub log: BackLog,
+}
+
+impl<D: Disk> Back<D> {
+    /// A back of a slot that was just mounted.
+    pub fn new(alloc: Global, mounted: Mounted<D>) -> Back<D>
+        requires { (object : Object) → IsStaged mounted.journal object [] }
+        ensures fresh { IsFresh mounted result }
+        ensures back { (disk : D) (is : IsMountOf D.told D.image D.moment_of D.left_since disk mounted)
+            → IsBack D.moment_of D.left_since D.told D.image (batches_in is.frames) (next_count (D.moment_of disk)) true result }
+    {
+        let Mounted {
+            journal,
+            identity,
+            map,
+        } = mounted;
+        let limit = journal.limit();
+        Back {
+            store: Store::Journal(journal),
+            limit,
+            cache: Cache::new(map),
+            identity,
+            held: VecDeque::new(alloc),
+            mode: Mode::Mounted,
+            stuck: false,
+            before: 0,
+            durable: 0,
+            own: 0,
+            settled: 0,
+            unflushed: 0,
+            number: 1,
+            log: BackLog {
+                taken: Vec::new(alloc),
+                flights: Vec::new(alloc),
+                stops: Vec::new(alloc),
+                released: Vec::new(alloc),
+                ends: Vec::new(alloc),
+                downs: Vec::new(alloc),
+            },
+        }
+    }
+
+    /// What it has done.
+    pub fn log(&self) -> &BackLog
+        ensures { backed result.now ≡ backed self.now.log }
+    {
+        &self.log
+    }
+
+    /// The disk, the object and the history. It takes no memory.
+    pub fn into_parts(self) -> BackParts<D>
+        requires { (sound : Bool) × CanServe D.moment_of D.left_since D.told D.image sound self }
+        ensures disk { IsDiskOf self.store result.disk }
+        ensures identity { result.identity ≡ self.identity }
+        ensures log { backed result.log ≡ backed self.log }
+    {
+        let Back {
+            store,
+            limit: _,
+            cache: _,
+            identity,
+            held: _,
+            mode: _,
+            stuck: _,
+            before: _,
+            durable: _,
+            own: _,
+            settled: _,
+            unflushed: _,
+            number: _,
+            log,
+        } = self;
+        BackParts {
+            disk: store.into_disk(),
+            identity,
+            log,
+        }
+    }
+}

@@ -1,0 +1,72 @@
+//! Appending what was taken.
+ghost use Rattle.std.specs.Prelude.{◌≡◌, ◌≢◌, Bool, List, ℕ};
+ghost use Rattle.storage_map.specs.declared.op.Op.{Op};
+ghost use Rattle.timeline.specs.declared.notice.Stepped.TheVariants.{Did, Nothing};
+ghost use Rattle.output_gate.specs.Serving.{CanServe, IsBack, CanLand, Lands, CanStop, Stops};
+ghost use Rattle.output_gate.specs.Flushing.{Flushes};
+
+use crate::back::{Back, Ending, Mode};
+use crate::held::discard_all;
+use crate::store::Fault;
+use do_disk::Disk;
+use timeline::{Stepped, Stop};
+
+impl<D: Disk> Back<D> {
+    /// Appends all batches that were taken since the last append as one flight. Where the append fails or is full, the
+    /// incarnation ends. It takes no memory.
+    pub fn flush(&mut self) -> Stepped
+        requires { (sound : Bool) × CanServe D.moment_of D.left_since D.told D.image sound self.old }
+        ensures nothing { self.old.before ≡ self.old.durable → (result ≡ Nothing) × (self.new ≡ self.old) }
+        ensures flushed { self.old.before ≢ self.old.durable → (result ≡ Did) × Flushes D.faults_of self.old self.new }
+        ensures back { (start : List (List Op)) (opening : ℕ) (sound : Bool) → IsBack D.moment_of D.left_since D.told D.image start opening sound self.old
+            → IsBack D.moment_of D.left_since D.told D.image start opening sound self.new }
+    {
+        if self.before == self.durable {
+            return Stepped::Nothing;
+        }
+        match self.store.append() {
+            Ok(()) => self.land(),
+            Err(fault) => self.stop(fault),
+        }
+        Stepped::Did
+    }
+
+    // The append wrote all that was staged.
+    fn land(&mut self)
+        requires { CanLand self.old }
+        ensures { Lands self.old self.new }
+    {
+        self.log.flights.push(self.before - self.durable).unwrap();
+        self.durable = self.before;
+        self.unflushed = 0;
+    }
+
+    // The append wrote nothing, or it isn't known what it wrote.
+    fn stop(&mut self, fault: Fault)
+        requires { CanStop self.old }
+        ensures { Stops self.old self.new fault }
+    {
+        let Fault { cause, end } = fault;
+        let flights = self.log.flights.as_slice().len() as u64;
+        let stop = Stop {
+            cause,
+            flights,
+            batches: self.own,
+            read: false,
+        };
+        self.log.stops.push(stop).unwrap();
+        discard_all(&mut self.held, self.durable, self.number, cause);
+        let ending = Ending {
+            cause,
+            end,
+            flown: self.own - (self.before - self.durable),
+            whole: self.own,
+        };
+        self.mode = Mode::Wanted(ending);
+        self.settled = self.durable;
+        self.before = self.durable;
+        self.own = 0;
+        self.unflushed = 0;
+        self.number += 1;
+    }
+}

@@ -1,0 +1,428 @@
+//! Taking what the object says.
+ghost use Rattle.std.specs.Prelude.{◌≡◌, ◌≢◌, ◌⊎◌, ◌+◌, ◌≤◌, ◌<◌, ◌++◌, [], ◌∷◌, true, false, Ok, Some, None, List, ℕ, option_to_list, IfOk, OnOk, OnErr, length, vec_len};
+ghost use Rattle.std.specs.Vec.{vec_capacity};
+ghost use Rattle.lane.specs.Lanes.{StartsWith};
+ghost use Rattle.storage_map.specs.Ops.{batch_bytes, IsBatch};
+ghost use Rattle.storage_map.specs.Limits.{Object, IsObject};
+ghost use Rattle.storage_map.specs.declared.op.Op.{Op};
+ghost use Rattle.batch_journal.specs.Rest.{CanStage};
+ghost use Rattle.batch_journal.specs.declared.journal.Journal.{Journal};
+ghost use Rattle.timeline.specs.Logs.{backed};
+ghost use Rattle.timeline.specs.declared.notice.Stepped.TheVariants.{Did, Nothing};
+ghost use Rattle.output_gate.specs.Entering.{Enters, IsIdle, Takes, LosesEntry, CanTake, TakesOwn, FailsOwn, CanTakeDown, TakesDown, FailsDown, TakesLate, TakesLateEntry, late_held, notice_at};
+ghost use Rattle.output_gate.specs.Serving.{CanServe, IsBack};
+ghost use Rattle.output_gate.specs.Storing.{Stages};
+ghost use Rattle.output_gate.specs.Taking as taking;
+ghost use Rattle.output_gate.specs.Taking.{LogRoom, LogTook, LogSame, notice_of};
+ghost use Rattle.output_gate.specs.declared.store.Store.TheVariants as store;
+
+use crate::back::{Back, Ending, MOST_UNFLUSHED_BYTES, Mode};
+use crate::fit::{Fit, comes_behind, fits_down, fits_mounted};
+use crate::held::{Held, HeldBody};
+use crate::releasing::send;
+use do_disk::Disk;
+use do_value::{Mem, NoMemory};
+use lane::{Inlet, Outlet};
+use storage_map::{Batch, Identity, StoreAsk};
+use timeline::{BackLog, Body, Cause, Entry, Failure, Message, Notice, Stepped};
+
+impl<D: Disk> Back<D> {
+    /// Takes the next entry of the line. A batch is staged and its writes are seen from here on, an ask is answered, and
+    /// messages, syncs and halts are held. After `NoMemory` the back is stopped.
+    pub fn take<L: Inlet<Entry>, N: Outlet<Notice>>(
+        &mut self,
+        line: &mut L,
+        notices: &mut N,
+    ) -> Mem<Stepped>
+        requires { CanServe D.moment_of D.left_since D.told D.image true self.old }
+        ensures barred { taking.may_take self.old ≡ false
+            → IsIdle self.old self.new (L.got line.old) (L.got line.new) (N.sent notices.old) (N.sent notices.new) result }
+        ensures nothing { result ≡ Ok Nothing → IsIdle self.old self.new (L.got line.old) (L.got line.new) (N.sent notices.old) (N.sent notices.new) result }
+        ensures empty { result ≡ Ok Nothing → taking.may_take self.old ≡ true → StartsWith (L.got line.old) (L.told line.old) }
+        ensures took { result ≡ Ok Did → Takes self.old self.new (L.got line.old) (L.got line.new) (N.sent notices.old) (N.sent notices.new) }
+        ensures lost { OnErr result (LosesEntry self.old self.new (L.got line.old) (L.got line.new) (N.sent notices.old) (N.sent notices.new)) }
+        ensures inlet { (L.inlet line.new ≡ L.inlet line.old) × (L.told line.new ≡ L.told line.old) }
+        ensures outlet { (N.outlet notices.new ≡ N.outlet notices.old) × (N.left notices.new ≡ N.left notices.old) }
+        ensures back { OnOk result ((start : List (List Op)) (opening : ℕ) → IsBack D.moment_of D.left_since D.told D.image start opening true self.old
+            → TakesLateEntry self.old (L.got line.old) (L.got line.new) ⊎ IsBack D.moment_of D.left_since D.told D.image start opening true self.new) }
+        ensures stopped { OnErr result ((start : List (List Op)) (opening : ℕ) → IsBack D.moment_of D.left_since D.told D.image start opening true self.old
+            → IsBack D.moment_of D.left_since D.told D.image start opening false self.new) }
+    {
+        if !self.may_take() {
+            return Ok(Stepped::Nothing);
+        }
+        match line.take() {
+            None => Ok(Stepped::Nothing),
+            Some(entry) => {
+                if let Some(notice) = self.take_entry(entry)? {
+                    send(notices, notice)?;
+                }
+                Ok(Stepped::Did)
+            }
+        }
+    }
+
+    fn may_take(&self) -> bool
+        ensures { result ≡ taking.may_take self.now }
+    {
+        let wanted = matches!(self.mode, Mode::Wanted(_));
+        !self.stuck && !wanted && self.unflushed < MOST_UNFLUSHED_BYTES
+    }
+
+    // What an entry is.
+    fn fit_of(&self, entry: &Entry) -> Fit
+        ensures { result ≡ taking.fit_of self.now entry.now }
+    {
+        if !comes_behind(self.log.taken.as_slice().last(), entry)
+            || entry.incarnation > self.number
+        {
+            return Fit::Unfit;
+        }
+        let is_own = entry.incarnation == self.number;
+        let is_mounted = matches!(self.mode, Mode::Mounted);
+        let is_fit = if is_own && !is_mounted {
+            fits_down(&entry.body)
+        } else {
+            fits_mounted(&entry.body, self.identity.is_some())
+        };
+        if !is_fit {
+            Fit::Unfit
+        } else if !is_own {
+            Fit::Late
+        } else if is_mounted {
+            Fit::Own
+        } else {
+            Fit::Down
+        }
+    }
+
+    // Takes an entry. A notice is there where the front waits for one that can be given at once.
+    fn take_entry(&mut self, entry: Entry) -> Mem<Option<Notice>>
+        requires back { CanServe D.moment_of D.left_since D.told D.image true self.old }
+        requires may { taking.may_take self.old ≡ true }
+        ensures notice { IfOk result (λ notice. notice ≡ notice_at self.old entry) }
+        ensures enters { OnOk result (Enters self.old self.new entry) }
+        ensures kept { OnErr result (backed self.new.log ≡ backed self.old.log) }
+        ensures back { OnOk result ((start : List (List Op)) (opening : ℕ) → IsBack D.moment_of D.left_since D.told D.image start opening true self.old
+            → (taking.fit_of self.old entry ≡ Fit.Late) ⊎ IsBack D.moment_of D.left_since D.told D.image start opening true self.new) }
+        ensures stopped { OnErr result ((start : List (List Op)) (opening : ℕ) → IsBack D.moment_of D.left_since D.told D.image start opening true self.old
+            → IsBack D.moment_of D.left_since D.told D.image start opening false self.new) }
+    {
+        match self.fit_of(&entry) {
+            Fit::Unfit => {
+                self.stuck = true;
+                Ok(None)
+            }
+            Fit::Own => self.enter_own(entry),
+            Fit::Down => self.enter_down(entry),
+            Fit::Late => self.enter_late(entry),
+        }
+    }
+
+    // An entry of the newest incarnation, which is mounted.
+    fn enter_own(&mut self, entry: Entry) -> Mem<Option<Notice>>
+        requires back { CanServe D.moment_of D.left_since D.told D.image true self.old }
+        requires may { taking.may_take self.old ≡ true }
+        requires fit { taking.fit_of self.old entry ≡ Fit.Own }
+        ensures notice { IfOk result (λ notice. notice ≡ notice_at self.old entry) }
+        ensures enters { OnOk result (Enters self.old self.new entry) }
+        ensures kept { OnErr result (backed self.new.log ≡ backed self.old.log) }
+        ensures back { OnOk result ((start : List (List Op)) (opening : ℕ) → IsBack D.moment_of D.left_since D.told D.image start opening true self.old
+            → IsBack D.moment_of D.left_since D.told D.image start opening true self.new) }
+        ensures stopped { OnErr result ((start : List (List Op)) (opening : ℕ) → IsBack D.moment_of D.left_since D.told D.image start opening true self.old
+            → IsBack D.moment_of D.left_since D.told D.image start opening false self.new) }
+    {
+        make_room(&mut self.log)?;
+        let Entry {
+            incarnation: _,
+            number,
+            body,
+        } = entry;
+        self.take_own(number, body)
+    }
+
+    // An entry of the newest incarnation, which isn't mounted.
+    fn enter_down(&mut self, entry: Entry) -> Mem<Option<Notice>>
+        requires back { CanServe D.moment_of D.left_since D.told D.image true self.old }
+        requires may { taking.may_take self.old ≡ true }
+        requires fit { taking.fit_of self.old entry ≡ Fit.Down }
+        ensures notice { IfOk result (λ notice. notice ≡ notice_at self.old entry) }
+        ensures enters { OnOk result (Enters self.old self.new entry) }
+        ensures kept { OnErr result (backed self.new.log ≡ backed self.old.log) }
+        ensures back { OnOk result ((start : List (List Op)) (opening : ℕ) → IsBack D.moment_of D.left_since D.told D.image start opening true self.old
+            → IsBack D.moment_of D.left_since D.told D.image start opening true self.new) }
+        ensures stopped { OnErr result ((start : List (List Op)) (opening : ℕ) → IsBack D.moment_of D.left_since D.told D.image start opening true self.old
+            → IsBack D.moment_of D.left_since D.told D.image start opening false self.new) }
+    {
+        make_room(&mut self.log)?;
+        let Entry {
+            incarnation: _,
+            number,
+            body,
+        } = entry;
+        self.take_down(number, body)?;
+        Ok(None)
+    }
+
+    // An entry of an incarnation that has ended.
+    fn enter_late(&mut self, entry: Entry) -> Mem<Option<Notice>>
+        requires back { CanServe D.moment_of D.left_since D.told D.image true self.old }
+        requires may { taking.may_take self.old ≡ true }
+        requires fit { taking.fit_of self.old entry ≡ Fit.Late }
+        ensures notice { IfOk result (λ notice. notice ≡ notice_at self.old entry) }
+        ensures enters { OnOk result (Enters self.old self.new entry) }
+        ensures kept { OnErr result (backed self.new.log ≡ backed self.old.log) }
+        ensures stopped { OnErr result ((start : List (List Op)) (opening : ℕ) → IsBack D.moment_of D.left_since D.told D.image start opening true self.old
+            → IsBack D.moment_of D.left_since D.told D.image start opening false self.new) }
+    {
+        make_room(&mut self.log)?;
+        self.take_late(entry)?;
+        Ok(None)
+    }
+
+    fn take_own(&mut self, number: u64, body: Body) -> Mem<Option<Notice>>
+        requires { CanTake D.moment_of D.left_since D.told D.image self.old number body }
+        ensures notice { IfOk result (λ notice. notice ≡ notice_of number self.old.cache body) }
+        ensures took { OnOk result (TakesOwn D.moment_of D.left_since D.told D.image self.old self.new number body) }
+        ensures failed { OnErr result (FailsOwn D.moment_of D.left_since D.told D.image self.old self.new) }
+    {
+        match body {
+            Body::Bind(identity) => {
+                self.take_bind(number, identity)?;
+                Ok(None)
+            }
+            Body::Batch { batch, tail } => self.take_batch(number, batch, tail),
+            Body::Ask(ask) => {
+                let notice = self.take_ask(number, ask)?;
+                Ok(Some(notice))
+            }
+            Body::Message(message) => {
+                self.take_message(number, message)?;
+                Ok(None)
+            }
+            Body::Sync => {
+                self.take_sync(number)?;
+                Ok(None)
+            }
+            Body::Halt(cause) => {
+                self.take_halt(number, cause)?;
+                Ok(None)
+            }
+            Body::Mend => unreachable!(),
+        }
+    }
+
+    fn take_sync(&mut self, number: u64) -> Mem<()>
+        requires { CanTake D.moment_of D.left_since D.told D.image self.old number Body.Sync }
+        ensures took { OnOk result (TakesOwn D.moment_of D.left_since D.told D.image self.old self.new number Body.Sync) }
+        ensures failed { OnErr result (FailsOwn D.moment_of D.left_since D.told D.image self.old self.new) }
+    {
+        self.hold(HeldBody::Sync { number }, self.number)?;
+        self.add(number, Body::Sync);
+        Ok(())
+    }
+
+    fn take_halt(&mut self, number: u64, cause: Cause) -> Mem<()>
+        requires { CanTake D.moment_of D.left_since D.told D.image self.old number (Body.Halt cause) }
+        ensures took { OnOk result (TakesOwn D.moment_of D.left_since D.told D.image self.old self.new number (Body.Halt cause)) }
+        ensures failed { OnErr result (FailsOwn D.moment_of D.left_since D.told D.image self.old self.new) }
+    {
+        self.hold(HeldBody::Halt(cause), self.number)?;
+        self.add(number, Body::Halt(cause));
+        Ok(())
+    }
+
+    fn take_bind(&mut self, number: u64, identity: Identity) -> Mem<()>
+        requires { CanTake D.moment_of D.left_since D.told D.image self.old number (Body.Bind identity) }
+        ensures took { OnOk result (TakesOwn D.moment_of D.left_since D.told D.image self.old self.new number (Body.Bind identity)) }
+        ensures failed { OnErr result (FailsOwn D.moment_of D.left_since D.told D.image self.old self.new) }
+    {
+        let copy = identity.copy()?;
+        self.identity = Some(copy);
+        self.add(number, Body::Bind(identity));
+        Ok(())
+    }
+
+    fn take_batch(&mut self, number: u64, batch: Batch, tail: Option<u32>) -> Mem<Option<Notice>>
+        requires { CanTake D.moment_of D.left_since D.told D.image self.old number (Body.Batch batch tail) }
+        ensures notice { IfOk result (λ notice. notice ≡ notice_of number self.old.cache (Body.Batch batch tail)) }
+        ensures took { OnOk result (TakesOwn D.moment_of D.left_since D.told D.image self.old self.new number (Body.Batch batch tail)) }
+        ensures failed { OnErr result (FailsOwn D.moment_of D.left_since D.told D.image self.old self.new) }
+    {
+        let count = self.cache.take(&batch, tail.unwrap_or(0))?;
+        let size = batch_size(&batch);
+        self.stage(&batch)?;
+        self.add(number, Body::Batch { batch, tail });
+        self.before += 1;
+        self.own += 1;
+        self.unflushed += size;
+        match tail {
+            Some(_) => Ok(Some(Notice::Taken { number, count })),
+            None => Ok(None),
+        }
+    }
+
+    fn take_ask(&mut self, number: u64, ask: StoreAsk) -> Mem<Notice>
+        requires { CanTake D.moment_of D.left_since D.told D.image self.old number (Body.Ask ask) }
+        ensures notice { IfOk result (λ notice. Some notice ≡ notice_of number self.old.cache (Body.Ask ask)) }
+        ensures took { OnOk result (TakesOwn D.moment_of D.left_since D.told D.image self.old self.new number (Body.Ask ask)) }
+        ensures failed { OnErr result (FailsOwn D.moment_of D.left_since D.told D.image self.old self.new) }
+    {
+        let reading = self.cache.answer(&ask)?;
+        self.add(number, Body::Ask(ask));
+        Ok(Notice::Read { number, reading })
+    }
+
+    fn take_message(&mut self, number: u64, message: Message) -> Mem<()>
+        requires { CanTake D.moment_of D.left_since D.told D.image self.old number (Body.Message message) }
+        ensures took { OnOk result (TakesOwn D.moment_of D.left_since D.told D.image self.old self.new number (Body.Message message)) }
+        ensures failed { OnErr result (FailsOwn D.moment_of D.left_since D.told D.image self.old self.new) }
+    {
+        let copy = message.copy()?;
+        self.hold(HeldBody::Message(copy), self.number)?;
+        self.add(number, Body::Message(message));
+        Ok(())
+    }
+
+    fn take_down(&mut self, number: u64, body: Body) -> Mem<()>
+        requires { CanTakeDown D.moment_of D.left_since D.told D.image self.old number body }
+        ensures took { OnOk result (TakesDown D.moment_of D.left_since D.told D.image self.old self.new number body) }
+        ensures failed { OnErr result (FailsDown D.moment_of D.left_since D.told D.image self.old self.new) }
+    {
+        match body {
+            Body::Mend => {
+                self.want();
+                self.add(number, Body::Mend);
+                Ok(())
+            }
+            Body::Message(message) => {
+                let copy = message.copy()?;
+                self.hold(HeldBody::Message(copy), self.number - 1)?;
+                self.add(number, Body::Message(message));
+                Ok(())
+            }
+            _ => unreachable!(),
+        }
+    }
+
+    // An entry of an incarnation that has ended at an append: a reply becomes a failure, and everything else is dropped.
+    fn take_late(&mut self, entry: Entry) -> Mem<()>
+        requires { LogRoom self.old.log }
+        ensures took { OnOk result (TakesLate self.old self.new entry) }
+        ensures kept { OnErr result ((self.new.held.items ≡ self.old.held.items) × (self.new ≡ record self.old { held = self.new.held })) }
+    {
+        if self.held.reserve(1).is_err() {
+            return Err(NoMemory);
+        }
+        if let Some(held) = self.late_reply(&entry) {
+            self.held.push_back_reserved(held);
+        }
+        self.log.taken.push(entry).unwrap();
+        Ok(())
+    }
+
+    // What is held of such an entry.
+    fn late_reply(&self, entry: &Entry) -> Option<Held>
+        ensures { option_to_list result ≡ late_held self.now entry.now }
+    {
+        let cause = self.log.stops.as_slice().last()?.cause;
+        match &entry.body {
+            Body::Message(Message::Reply { to, result: _ }) => Some(Held {
+                body: HeldBody::Message(Message::Reply {
+                    to: *to,
+                    result: Err(Failure::Reset(cause)),
+                }),
+                needs: self.settled,
+                since: entry.incarnation,
+            }),
+            _ => None,
+        }
+    }
+
+    // A mounting is wanted.
+    fn want(&mut self)
+        ensures { (ending : Ending) → self.old.mode ≡ Mode.Down ending → self.new ≡ record self.old { mode = Mode.Wanted ending } }
+    {
+        if let Mode::Down(ending) = self.mode {
+            self.mode = Mode::Wanted(ending);
+        }
+    }
+
+    // Holds this behind the batches so far.
+    fn hold(&mut self, body: HeldBody, since: u64) -> Mem<()>
+        ensures held { OnOk result (self.new.held.items ≡ self.old.held.items ++ record { body = body; needs = self.old.before; since = since } ∷ []) }
+        ensures kept { OnErr result (self.new.held.items ≡ self.old.held.items) }
+        ensures same { self.new ≡ record self.old { held = self.new.held } }
+    {
+        if self.held.reserve(1).is_err() {
+            return Err(NoMemory);
+        }
+        self.held.push_back_reserved(Held {
+            body,
+            needs: self.before,
+            since,
+        });
+        Ok(())
+    }
+
+    // Stages a batch.
+    fn stage(&mut self, batch: &Batch) -> Mem<()>
+        requires { (object : Object) × (journal : Journal D) × (self.old.identity ≡ Some object) × (self.old.store ≡ store.Journal journal)
+            × (IsObject object → IsBatch batch.now → CanStage journal object batch.now) }
+        ensures staged { (object : Object) (journal : Journal D) → self.old.identity ≡ Some object → self.old.store ≡ store.Journal journal
+            → Stages D.told D.image journal self.new.store object batch.now result }
+        ensures same { self.new ≡ record self.old { store = self.new.store } }
+    {
+        match &self.identity {
+            Some(identity) => {
+                let _ = identity.size();
+                let _ = batch.as_slice();
+                self.store.stage(batch, identity)
+            }
+            None => unreachable!(),
+        }
+    }
+
+    // Logs an entry of the newest incarnation.
+    fn add(&mut self, number: u64, body: Body)
+        requires { LogRoom self.old.log }
+        ensures log { LogTook self.old.log self.new.log (record { incarnation = self.old.number; number = number; body = body }) }
+        ensures same { self.new ≡ record self.old { log = self.new.log } }
+    {
+        let incarnation = self.number;
+        self.log
+            .taken
+            .push(Entry {
+                incarnation,
+                number,
+                body,
+            })
+            .unwrap();
+    }
+}
+
+// Makes the room that an entry, and a flush behind it, need.
+pub(crate) fn make_room(log: &mut BackLog) -> Mem<()>
+    ensures room { OnOk result (LogRoom log.new) }
+    ensures same { LogSame log.old log.new }
+{
+    if log.taken.reserve(1).is_err()
+        || log.flights.reserve(1).is_err()
+        || log.stops.reserve(1).is_err()
+    {
+        return Err(NoMemory);
+    }
+    Ok(())
+}
+
+// How many bytes a batch has in a journal.
+fn batch_size(batch: &Batch) -> u64
+    ensures size { result ≡ length (batch_bytes batch.now) }
+    ensures batch { IsBatch batch.now }
+{
+    let mut size = 4;
+    for op in batch.as_slice() {
+        size += op.size();
+    }
+    size
+}

@@ -1,0 +1,14 @@
+use Rattle.std.proofs.Common.{refl}
+use Rattle.script_steps.specs.declared.focus.Focus.TheVariants as focus
+use Rattle.script_eval.proofs.Stepped.{changes_on}
+use Rattle.script_eval.proofs.Doings.{commit_acts}
+use Rattle.script_eval.specs.declared.act.Act.TheVariants as act
+use Rattle.script_eval.proofs.machine.Machine.commit.Goals as goal
+
+pub returns : goal.returns
+returns c =
+    let old = c.args.self.now in
+    let now = c.end_transaction.new.self in
+    changes_on (focus.Commit c.args.ended) (act.Does c.in_ok-done.done) old (record old { state = now }) c.finish.new.self now c.finish.result c.finish.new.focus refl
+    (commit_acts c.args.ended old.state now c.in_ok-done.done c.in_ok-done.ensures.same c.in_ok-done.ensures.ready)
+    c.finish.ensures
