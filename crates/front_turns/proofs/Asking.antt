@@ -1,6 +1,12 @@
 -- Where an ask leads.
 use Rattle.std.proofs.Common.{◌≡◌, ◌∙◌, sym, refl, ap, ℕ, List, [], ◌∷◌, ◌++◌, map, append_assoc}
 use Rattle.std.specs.Prelude.{Some}
+use Rattle.do_value.specs.declared.value.Value.{Value}
+use Rattle.script_mean.specs.declared.ask.Ask.TheVariants as ask
+use Rattle.timeline.specs.Left.{wait_of}
+use Rattle.timeline.specs.declared.notice.Waits.TheVariants as waits
+use Rattle.front_turns.specs.Held.{HasAsked, WaitsFor}
+use Rattle.front_turns.specs.declared.object.Awaited.TheVariants as awaited
 use Rattle.storage_map.specs.declared.op.Op.{Op}
 use Rattle.timeline.specs.Object as seen
 use Rattle.timeline.specs.Object.{Life, OpenTask, Step}
@@ -42,3 +48,13 @@ goes_more see l old mid new (went.Refused o r task v) again step bodies e goes =
   said = goes.said ∙ ap (λ (x : List Body). x ++ goes.says) e ∙ append_assoc old bodies goes.says;
   gives = ap (before bodies) goes.gives ∙ before_both bodies goes.says (again (object_of o goes.tasks) (resumed (object_of o goes.tasks) goes.goes (Thrown v)));
 }
+
+-- A task waits for what its latest turn asked, under whichever number.
+pub called : (l : Life) (t : OpenTask) (number made : ℕ) (to copy : List ℕ × List ℕ) (method : List ℕ) (args : List Value) → copy ≡ to
+    → HasAsked l t (ask.Call to method args) → WaitsFor l (record t { number = number; made = made }) (awaited.Call copy)
+called l t number made to copy method args same asked =
+    ap (wait_of l (record t { number = number; made = made })) asked.turn ∙ ap (λ (x : List ℕ × List ℕ). waits.Call x.0 x.1 ∷ []) (sym same)
+
+pub fetched : (l : Life) (t : OpenTask) (number made : ℕ) (value : Value) → HasAsked l t (ask.Fetch value)
+    → WaitsFor l (record t { number = number; made = made }) awaited.Fetch
+fetched l t number made value asked = ap (wait_of l (record t { number = number; made = made })) asked.turn

@@ -55,18 +55,18 @@ found_under {T} see l number h (g ∷ hs) (u ∷ ts) held there =
   where
     at_first : (b : Bool) → (g.0 == number) ≡ b → (under number hs ≡ Some h → IsUnder see l number h hs ts) → IsUnder see l number h (g ∷ hs) (u ∷ ts)
     at_first true here later =
-        let same : (u.number == number) ≡ true = ap (λ (n : ℕ). n == number) held.0.0 ∙ here in
+        let same : (u.number == number) ≡ true = ap (λ (n : ℕ). n == number) held.0.number ∙ here in
         let is : g.1 ≡ h = some_is g.1 h (sym (ap (λ (c : Bool). if c then Some g.1 else under number hs) here) ∙ there) in
         record {
           task = u;
           there = rw same refl;
           number_is = same_number u.number number same;
-          paused = subst (λ (x : Held T). IsPaused l (see x.task) x.running u) is held.0.1;
+          paused = subst (λ (x : Held T). IsPaused l (see x.task) x.running u) is held.0.paused;
           rest = rw (same, here) held.1;
           blocks = rw same refl;
         }
     at_first false other later =
-        let same : (u.number == number) ≡ false = ap (λ (n : ℕ). n == number) held.0.0 ∙ other in
+        let same : (u.number == number) ≡ false = ap (λ (n : ℕ). n == number) held.0.number ∙ other in
         let f = later (sym (ap (λ (c : Bool). if c then Some g.1 else under number hs) other) ∙ there) in
         record {
           task = f.task;
@@ -88,7 +88,7 @@ none_under_too see l number (g ∷ hs) (u ∷ ts) held none =
     at_first : (b : Bool) → (g.0 == number) ≡ b → (under number hs ≡ None → task_under number ts ≡ None) → task_under number (u ∷ ts) ≡ None
     at_first true here later = absurd (none_is g.1 (sym none ∙ ap (λ (c : Bool). if c then Some g.1 else under number hs) here))
     at_first false other later =
-        let same : (u.number == number) ≡ false = ap (λ (n : ℕ). n == number) held.0.0 ∙ other in
+        let same : (u.number == number) ≡ false = ap (λ (n : ℕ). n == number) held.0.number ∙ other in
         rw same (later (sym (ap (λ (c : Bool). if c then Some g.1 else under number hs) other) ∙ none))
 
 -- Where none waits under the number, none is taken out.

@@ -1,14 +1,20 @@
 -- How what a front holds stands to the object of the definitions.
-use Rattle.std.specs.Prelude.{◌≡◌, ℕ, ◌+◌, ℤ, pos, ◌≤ℤ◌, List, [], ◌∷◌, ◌++◌, if◌then◌else◌, Option, Some, None, IfSome}
+use Rattle.std.specs.Prelude.{◌≡◌, ℕ, ◌+◌, ℤ, Bool, pos, ◌≤ℤ◌, List, [], ◌∷◌, ◌++◌, if◌then◌else◌, Option, Some, None, IfSome}
 use Rattle.do_tree.specs.Tree.{Script}
 use Rattle.object_calls.specs.Numbered.{AreAtMost}
 use Rattle.storage_map.specs.Limits.{most_time}
+use Rattle.storage_map.specs.declared.op.Op.{Op}
+use Rattle.script_mean.specs.Task as task
 use Rattle.script_mean.specs.Task.{Fields}
+use Rattle.script_mean.specs.declared.ask.Ask.{Ask}
 use Rattle.timeline.specs.Laws.{IsLinked}
+use Rattle.timeline.specs.Left.{wait_of}
 use Rattle.timeline.specs.Object as seen
 use Rattle.timeline.specs.Object.{Life, OpenTask, Step, idle, waiting, ended, task_under, tasks_but}
 use Rattle.timeline.specs.declared.event.Event.{Event}
 use Rattle.timeline.specs.declared.event.Event.TheVariants as event
+use Rattle.timeline.specs.declared.notice.Waits.{Waits}
+use Rattle.timeline.specs.declared.notice.Waits.TheVariants as waits
 use Rattle.timeline.specs.Steps.{latest_turn}
 use Rattle.timeline.specs.Told.{asking}
 use Rattle.timeline.specs.declared.entry.Body.{Body}
@@ -19,6 +25,8 @@ use Rattle.front_turns.specs.declared.outcome.Outcome.{Outcome}
 use Rattle.front_turns.specs.declared.object.Purpose.{Purpose}
 use Rattle.front_turns.specs.declared.object.Purpose.TheVariants as purpose
 use Rattle.front_turns.specs.declared.object.Running.{Running}
+use Rattle.front_turns.specs.declared.object.Awaited.{Awaited}
+use Rattle.front_turns.specs.declared.object.Awaited.TheVariants as awaited
 use Rattle.front_turns.specs.declared.object.Held.{Held}
 use Rattle.front_turns.specs.declared.object.Object.{Object}
 use Rattle.front_turns.specs.declared.object.Asked.{Asked}
@@ -47,9 +55,26 @@ pub record IsPaused (l : Life) (p : Paused) (r : Running) (t : OpenTask) : Type 
   pub block : t.block ≡ p.block
   pub running : IsRunning r t
 
+-- The latest turn of a task ended with this ask.
+pub record HasAsked (l : Life) (t : OpenTask) (a : Ask) : Type 0 where
+  pub batches : List (List Op)
+  pub fields : Fields
+  pub block : Bool
+  pub turn : latest_turn l t ≡ Some (task.asked batches fields a block)
+
+-- What a task waits for under its number, by what is kept of it: that is what its latest turn asked.
+abbrev pub waits_of : ℕ → ℕ → Awaited → Waits
+waits_of incarnation number (awaited.Call to) = waits.Call to.0 to.1
+waits_of incarnation number awaited.Fetch = waits.Fetch incarnation number
+
+abbrev pub WaitsFor : Life → OpenTask → Awaited → Type 0
+WaitsFor l t a = wait_of l t (latest_turn l t) ≡ waits_of l.incarnation t.number a ∷ []
+
 -- One that waits for a call or a fetch under its number, and several.
-abbrev pub IsHeld : {T : Type 0} → (T → Paused) → Life → ℕ × Held T → OpenTask → Type 0
-IsHeld see l h t = (t.number ≡ h.0) × IsPaused l (see h.1.task) h.1.running t
+pub record IsHeld {T : Type 0} (see : T → Paused) (l : Life) (h : ℕ × Held T) (t : OpenTask) : Type 0 where
+  pub number : t.number ≡ h.0
+  pub paused : IsPaused l (see h.1.task) h.1.running t
+  pub waits : WaitsFor l t h.1.awaited
 
 abbrev pub AreHeld : {T : Type 0} → (T → Paused) → Life → List (ℕ × Held T) → List OpenTask → Type 0
 AreHeld see l [] [] = Unit {0}

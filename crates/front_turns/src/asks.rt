@@ -8,12 +8,12 @@ ghost use Rattle.script_mean.specs.declared.ask.Ask.TheVariants as wants;
 ghost use Rattle.timeline.specs.Object.{Life, Object as SeenObject, OpenTask, Step};
 ghost use Rattle.timeline.specs.Steps as steps;
 ghost use Rattle.timeline.specs.declared.message.Message.{Message as SeenMessage};
-ghost use Rattle.front_turns.specs.Held.{Holds, IsPaused, Says, asked_in, object_of};
+ghost use Rattle.front_turns.specs.Held.{HasAsked, Holds, IsPaused, Says, WaitsFor, asked_in, object_of};
 ghost use Rattle.front_turns.specs.Goes.{Goes};
 
 use crate::answers::error;
 use crate::evaluator::Task;
-use crate::object::{Asked, Held, Object, Running, State};
+use crate::object::{Asked, Awaited, Held, Object, Running, State};
 use crate::say::{say, say_batches};
 use do_value::{Args, Mem, NoMemory, Text, Value};
 use object_calls::{CallFault, MOST_DEPTH, admit};
@@ -95,15 +95,26 @@ fn more_blocks(blocks: u64, more: bool) -> Mem<u64>
 }
 
 // One more task waits, under the next number.
-fn hold<T: Task + Drop>(object: Object<T>, number: u64, running: Running, task: T) -> Mem<Object<T>>
+fn hold<T: Task + Drop>(
+    object: Object<T>,
+    number: u64,
+    running: Running,
+    awaited: Awaited,
+    task: T,
+) -> Mem<Object<T>>
     requires { number ≡ object.made + 1 }
     ensures object { IfOk result (λ q. object_of q [] ≡ record (object_of object []) { made = number }) }
     ensures holds { IfOk result (λ q. (l : Life) (ts : List OpenTask) (t : OpenTask) → Holds T.seen l object ts → IsPaused l (T.seen task) running t
-        → t.number ≡ number → Holds T.seen l q (ts ++ t ∷ [])) }
+        → t.number ≡ number → WaitsFor l t awaited → Holds T.seen l q (ts ++ t ∷ [])) }
 {
     let mut object = object;
     let blocks = more_blocks(object.blocks, task.block())?;
-    match object.tasks.insert(number, Held { running, task }) {
+    let held = Held {
+        running,
+        awaited,
+        task,
+    };
+    match object.tasks.insert(number, held) {
         Ok(_) => {
             object.blocks = blocks;
             object.made = number;
@@ -118,6 +129,7 @@ fn leaves<T: Task + Drop>(
     says: &mut Vec<Said>,
     object: Object<T>,
     running: Running,
+    awaited: Awaited,
     task: T,
     number: u64,
     message: Message,
@@ -125,14 +137,15 @@ fn leaves<T: Task + Drop>(
     requires number { number ≡ object.made + 1 }
     requires few { running.made < most_calls }
     ensures { IfOk result (λ s. (l : Life) (ts : List OpenTask) (t : OpenTask) (again : OpenTask → Step) (messages : ℕ → SeenMessage)
-        → Holds T.seen l object ts → IsPaused l (T.seen task) running t → messages number ≡ message
+        → Holds T.seen l object ts → IsPaused l (T.seen task) running t → ((made : ℕ) → WaitsFor l (record t { number = number; made = made }) awaited)
+        → messages number ≡ message
         → Says T.seen l says.old.items says.new.items s (steps.outside again (object_of object ts) t None messages)) }
 {
     let more = Running {
         made: running.made + 1,
         ..running
     };
-    let object = hold(object, number, more, task)?;
+    let object = hold(object, number, more, awaited, task)?;
     say(says, Said::Message(message))?;
     Ok(State::Idle { object })
 }
@@ -153,6 +166,7 @@ fn calls<T: Task + Drop>(
     says: &mut Vec<Said>,
     object: Object<T>,
     running: Running,
+    awaited: Awaited,
     task: T,
     message: Message,
     depth: u32,
@@ -160,13 +174,15 @@ fn calls<T: Task + Drop>(
 ) -> Mem<Went<T>>
     requires number { number ≡ object.made + 1 }
     ensures { IfOk result (λ w. (l : Life) (ts : List OpenTask) (t : OpenTask) (again : SeenObject → OpenTask → Step) (deeper : ℕ) (messages : ℕ → SeenMessage)
-        → Holds T.seen l object ts → IsPaused l (T.seen task) running t → ((made : ℕ) → steps.refusal deeper made ≡ steps.refusal depth made)
+        → Holds T.seen l object ts → IsPaused l (T.seen task) running t → ((made : ℕ) → WaitsFor l (record t { number = number; made = made }) awaited)
+        → ((made : ℕ) → steps.refusal deeper made ≡ steps.refusal depth made)
         → (depth ≤ most_depth → messages number ≡ message)
         → Goes T.seen l says.old.items says.new.items w again
         (steps.outside (again (object_of object ts)) (object_of object ts) t (steps.refusal deeper t.made) messages)) }
 {
     match refusal(alloc, depth, running.made)? {
         Some(value) => {
+            drop(awaited);
             drop(message);
             Ok(Went::Refused {
                 object,
@@ -176,7 +192,7 @@ fn calls<T: Task + Drop>(
             })
         }
         None => {
-            let state = leaves(says, object, running, task, number, message)?;
+            let state = leaves(says, object, running, awaited, task, number, message)?;
             Ok(Went::Rests(state))
         }
     }
@@ -290,11 +306,12 @@ fn asks_call<T: Task + Drop>(
     args: Args,
 ) -> Mem<Went<T>>
     ensures { IfOk result (λ w. (l : Life) (ts : List OpenTask) (t : OpenTask) (again : SeenObject → OpenTask → Step)
-        → l.incarnation ≡ incarnation → Holds T.seen l object ts → IsPaused l (T.seen task) running t
+        → l.incarnation ≡ incarnation → Holds T.seen l object ts → IsPaused l (T.seen task) running t → HasAsked l t (wants.Call to method args)
         → Goes T.seen l says.old.items says.new.items w again (steps.on_ask (again (object_of object ts)) l (object_of object ts) t batches.items
         (wants.Call to method args))) }
 {
     say_batches(says, batches)?;
+    let callee = to.copy()?;
     let number = next_number(&object)?;
     let depth = deeper(running.depth);
     let message = Message::Call {
@@ -305,7 +322,17 @@ fn asks_call<T: Task + Drop>(
         args,
         depth,
     };
-    let went = calls(alloc, says, object, running, task, message, depth, number)?;
+    let went = calls(
+        alloc,
+        says,
+        object,
+        running,
+        Awaited::Call(callee),
+        task,
+        message,
+        depth,
+        number,
+    )?;
     Ok(went)
 }
 
@@ -321,7 +348,7 @@ fn asks_fetch<T: Task + Drop>(
     value: Value,
 ) -> Mem<Went<T>>
     ensures { IfOk result (λ w. (l : Life) (ts : List OpenTask) (t : OpenTask) (again : SeenObject → OpenTask → Step)
-        → l.incarnation ≡ incarnation → Holds T.seen l object ts → IsPaused l (T.seen task) running t
+        → l.incarnation ≡ incarnation → Holds T.seen l object ts → IsPaused l (T.seen task) running t → HasAsked l t (wants.Fetch value)
         → Goes T.seen l says.old.items says.new.items w again (steps.on_ask (again (object_of object ts)) l (object_of object ts) t batches.items
         (wants.Fetch value))) }
 {
@@ -332,7 +359,17 @@ fn asks_fetch<T: Task + Drop>(
         number,
         value,
     };
-    let went = calls(alloc, says, object, running, task, message, 0, number)?;
+    let went = calls(
+        alloc,
+        says,
+        object,
+        running,
+        Awaited::Fetch,
+        task,
+        message,
+        0,
+        number,
+    )?;
     Ok(went)
 }
 
@@ -348,7 +385,7 @@ pub(crate) fn on_ask<T: Task + Drop>(
     ask: Ask,
 ) -> Mem<Went<T>>
     ensures { IfOk result (λ w. (l : Life) (ts : List OpenTask) (t : OpenTask) (again : SeenObject → OpenTask → Step)
-        → l.incarnation ≡ incarnation → Holds T.seen l object ts → IsPaused l (T.seen task) running t
+        → l.incarnation ≡ incarnation → Holds T.seen l object ts → IsPaused l (T.seen task) running t → HasAsked l t ask
         → Goes T.seen l says.old.items says.new.items w again (steps.on_ask (again (object_of object ts)) l (object_of object ts) t batches.items ask)) }
 {
     match ask {

@@ -301,7 +301,12 @@ fn on_answer<T: Task + Drop>(
             Ok(State::Idle { object })
         }
         Some(held) => {
-            let Held { running, task } = held;
+            let Held {
+                running,
+                awaited,
+                task,
+            } = held;
+            drop(awaited);
             let state = goes_on(
                 alloc,
                 checked,

@@ -16,6 +16,6 @@ mod turns;
 
 pub use delivering::deliver;
 pub use evaluator::Task;
-pub use object::{Asked, Held, Object, Purpose, Running, State};
+pub use object::{Asked, Awaited, Held, Object, Purpose, Running, State};
 pub use outcome::Outcome;
 pub use serving::stored;

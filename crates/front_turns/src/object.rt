@@ -7,7 +7,7 @@ use crate::evaluator::Task;
 use do_value::{Fields, Num};
 use std::alloc::Global;
 use std::collections::BTreeMap;
-use storage_map::{Alarm, StoreAsk};
+use storage_map::{Alarm, Identity, StoreAsk};
 use timeline::{Caller, Cause, Event};
 
 /// Why a task runs.
@@ -30,10 +30,20 @@ pub struct Running {
     pub made: u32,
 }
 
+/// For what a task waits.
+#[derive(Drop)]
+pub enum Awaited {
+    /// The answer of this object.
+    Call(Identity),
+    /// The answer to a fetch.
+    Fetch,
+}
+
 /// A task that waits for the answer to a call or a fetch.
 #[derive(Drop)]
 pub struct Held<T> {
     pub running: Running,
+    pub awaited: Awaited,
     pub task: T,
 }
 

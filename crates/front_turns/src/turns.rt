@@ -8,7 +8,7 @@ ghost use Rattle.front_turns.specs.Paused.{HasClass};
 ghost use Rattle.front_turns.specs.declared.object.Running.{Running as SeenRunning};
 ghost use Rattle.timeline.specs.Object.{Life, Object as SeenObject, OpenTask, Step};
 ghost use Rattle.timeline.specs.Steps as steps;
-ghost use Rattle.front_turns.specs.Held.{Holds, IsPaused, IsRunning, life_in, Runs, Says, fields_of, object_of};
+ghost use Rattle.front_turns.specs.Held.{HasAsked, Holds, IsPaused, IsRunning, life_in, Runs, Says, fields_of, object_of};
 ghost use Rattle.front_turns.specs.Goes.{Goes};
 
 use crate::alarm::{after_batches, any_batch_touches};
@@ -52,6 +52,7 @@ fn after_pause<T: Task + Drop>(
 ) -> Mem<Went<T>>
     ensures { IfOk result (λ w. (l : Life) (ts : List OpenTask) (t : OpenTask) (again : SeenObject → OpenTask → Step)
         → l.incarnation ≡ incarnation → Holds T.seen l object ts → IsPaused l (T.seen task) running (record t { block = (T.seen task).block })
+        → HasAsked l t ask
         → Goes T.seen l says.old.items says.new.items w again
         (steps.on_turn again l (object_of object ts) t (Some (asked batches.items fields ask (T.seen task).block)))) }
 {

@@ -1,2 +1,14 @@
+pub mod Answering
+pub mod ByCallers
+pub mod Ending
+pub mod Evaluated
+pub mod Kinds
+pub mod Leaving
+pub mod Moving
+pub mod Noticing
+pub mod Remaining
 pub mod Sending
+pub mod Served
 pub mod Standing
+pub mod Taking
+pub mod Turning

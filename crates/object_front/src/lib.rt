@@ -1,7 +1,26 @@
-//! The front of an object: what its turns say is sent, and logged.
+//! The front half of an object: it is given events and notices, runs the tasks of its script, and sends what they say.
 #![tactic(auto)]
 
+mod by_caller;
+mod choosing;
+mod ending;
+mod entering;
+mod evaluated;
+mod fitting;
+mod front;
+mod half;
+mod leaving;
+mod noticing;
+mod remaining;
+mod script;
 mod sending;
+mod testing;
+mod turning;
 mod turns;
+mod unanswered;
+mod unmounted;
+mod uses;
 
-pub use turns::{answer_turn, deliver_turn};
+pub use front::Front;
+pub use script::served;
+pub use turning::Turned;

@@ -107,7 +107,7 @@ pub(crate) fn send_all<O: Outlet<Entry>>(
 }
 
 // There is no memory for a number past the range.
-fn next(number: u64) -> Mem<u64>
+pub(crate) fn next(number: u64) -> Mem<u64>
     ensures { IfOk result (λ n. n ≡ 1 + number) }
 {
     match number.checked_add(1) {

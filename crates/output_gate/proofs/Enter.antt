@@ -1,20 +1,21 @@
 -- What an entry of the newest incarnation does to a back.
-use Rattle.std.proofs.Common.{◌≡◌, ◌∙◌, ap, sym, refl, ℕ, ◌<◌, List, [], ◌∷◌, ◌++◌, Option, inl, inr, subst, append-nil, length, ◌-◌}
+use Rattle.std.proofs.Common.{◌≡◌, ◌∙◌, ap, sym, refl, ℕ, ◌<◌, List, [], ◌∷◌, ◌++◌, Option, inl, inr, append-nil, length, ◌-◌}
 use Rattle.std.proofs.lemmas.Bool.{ltb-true}
-use Rattle.std.specs.Prelude.{◌⊎◌, Some, Bool, true, false, not, ◌&&◌, nat_lt, Result, Ok, Err, OnErr, None, slice_get}
+use Rattle.std.specs.Prelude.{◌⊎◌, Bool, true, false, not, ◌&&◌, nat_lt, Result, Ok, Err, OnErr, slice_get}
 use Rattle.storage_map.specs.declared.op.Op.{Op}
 use Rattle.timeline.specs.Logs.{Backed, backed}
 use Rattle.timeline.specs.declared.back_log.BackLog.{BackLog}
 use Rattle.timeline.specs.declared.entry.Entry.{Entry}
 use Rattle.timeline.specs.declared.notice.Notice.{Notice}
-use Rattle.output_gate.specs.Entering.{CanTake, TakesOwn, CanTakeDown, TakesDown, TakesLate, Enters, LosesEntry, TakesLateEntry, logged_as, notice_as, notice_at, is_unfit, held_as, late_by}
+use Rattle.output_gate.specs.Entering.{CanTake, TakesOwn, CanTakeDown, TakesDown, TakesLate, Enters, LosesEntry, logged_as, is_unfit, held_as, late_by}
 use Rattle.output_gate.specs.Fits.{comes_behind, last_of}
 use Rattle.output_gate.specs.Serving.{IsMounted, IsUnmounted, IsBack}
 use Rattle.output_gate.specs.Taking.{LogSame, LogRoom, may_take, is_wanted, fit_of, most_unflushed}
 use Rattle.output_gate.specs.declared.back.Back.{Back}
 use Rattle.output_gate.specs.declared.fit.Fit.{Fit}
 use Rattle.output_gate.specs.declared.fit.Fit.TheVariants as fit
-use Rattle.output_gate.proofs.Fitting.{and_both, own_of, mounted_of, down_of, down_mode, unmounted_of}
+use Rattle.output_gate.proofs.Afterwards.{back_late}
+use Rattle.output_gate.proofs.Fitting.{and_both, own_of, mounted_of, down_of, down_mode, late_of, unmounted_of}
 use Rattle.output_gate.proofs.Gone.{back_room}
 use Rattle.output_gate.proofs.Helds.{true_false}
 
@@ -26,20 +27,6 @@ err_weaker (Err e) P Q f p = f p
 not_true : (b : Bool) → not b ≡ true → b ≡ false
 not_true true is = absurd (true_false (sym is))
 not_true false is = refl
-
-abbrev is_notice : Option Notice → Type 0
-is_notice (Some n) = Unit {0}
-is_notice None = ⊥
-
--- An entry of an incarnation that has ended tells the front nothing at once.
-pub not_late : {D : Type 0} (old : Back D) (e : Entry) (n : Notice) (X : Type 0) → Some n ≡ notice_at old e → (fit_of old e ≡ fit.Late) ⊎ X → X
-not_late old e n X told (inl late) = absurd (subst is_notice (told ∙ ap (λ (x : Fit). notice_as x e old.cache) late) tt)
-not_late old e n X told (inr x) = x
-
-pub late_entry : {D : Type 0} (old : Back D) (e : Entry) (before after : List Entry) (X : Type 0) → after ≡ before ++ e ∷ [] → (fit_of old e ≡ fit.Late) ⊎ X
-    → TakesLateEntry old before after ⊎ X
-late_entry old e before after X took (inl late) = inl (record { entry = e; took = took; late = late })
-late_entry old e before after X took (inr x) = inr x
 
 logged_or_not : (f : Fit) (old new : Backed) (e : Entry) → new ≡ logged_as f old e → (new ≡ old) ⊎ (new ≡ record old { taken = old.taken ++ e ∷ [] })
 logged_or_not fit.Unfit old new e is = inl is
@@ -61,7 +48,7 @@ pub loses : {D : Type 0} (old new : Back D) (e : Entry) (before after : List Ent
 loses old new e before after sent_before sent enters took same =
     record { entry = e; took = took; told = same; log = logged_or_not (fit_of old e) (backed old.log) (backed new.log) e enters.log }
 
-module _ {D : Type 0} (moment_of : D → ℕ) (left_since : D → ℕ → List ℕ → Type 0) (told : D → Option (List ℕ)) (image : D → List ℕ → Type 0) where
+module _ {D : Type 0} (moment_of : D → ℕ) (left_since : D → ℕ → List ℕ → Type 0) (told : D → Option (List ℕ)) (image : D → List ℕ → Type 0) (faults_of : D → ℕ) where
   pub few_of : (old : Back D) → may_take old ≡ true → old.unflushed < most_unflushed
   few_of old may = ltb-true old.unflushed most_unflushed (and_both (not old.stuck && not (is_wanted old.mode)) (nat_lt old.unflushed most_unflushed) may).1
 
@@ -70,12 +57,12 @@ module _ {D : Type 0} (moment_of : D → ℕ) (left_since : D → ℕ → List �
       not_true old.stuck (and_both (not old.stuck) (not (is_wanted old.mode)) (and_both (not old.stuck && not (is_wanted old.mode)) (nat_lt old.unflushed most_unflushed) may).0).0
 
   pub own_mounted : (start : List (List Op)) (opening : ℕ) (old : Back D) (log : BackLog) (e : Entry) → LogSame old.log log → fit_of old e ≡ fit.Own
-      → IsBack moment_of left_since told image start opening true old → IsMounted moment_of left_since told image start opening true (record old { log = log })
+      → IsBack moment_of left_since told image faults_of start opening true old → IsMounted moment_of left_since told image faults_of start opening true (record old { log = log })
   own_mounted start opening old log e same is b =
-      mounted_of moment_of left_since told image start opening true (record old { log = log }) (back_room moment_of left_since told image start opening old log same b) (own_of old e is).mounted
+      mounted_of moment_of left_since told image faults_of start opening true (record old { log = log }) (back_room moment_of left_since told image faults_of start opening old log same b) (own_of old e is).mounted
 
   pub own_can : (start : List (List Op)) (opening : ℕ) (old : Back D) (log : BackLog) (e : Entry) → LogSame old.log log → LogRoom log → may_take old ≡ true → fit_of old e ≡ fit.Own
-      → IsBack moment_of left_since told image start opening true old → CanTake moment_of left_since told image (record old { log = log }) e.number e.body
+      → IsBack moment_of left_since told image faults_of start opening true old → CanTake moment_of left_since told image faults_of (record old { log = log }) e.number e.body
   own_can start opening old log e same room may is b =
       let f = own_of old e is in
       record {
@@ -90,7 +77,7 @@ module _ {D : Type 0} (moment_of : D → ℕ) (left_since : D → ℕ → List �
       }
 
   pub own_enters : (old new : Back D) (log : BackLog) (e : Entry) → LogSame old.log log → may_take old ≡ true → fit_of old e ≡ fit.Own
-      → TakesOwn moment_of left_since told image (record old { log = log }) new e.number e.body → Enters old new e
+      → TakesOwn moment_of left_since told image faults_of (record old { log = log }) new e.number e.body → Enters old new e
   own_enters old new log e same may is t =
       let f = own_of old e is in
       record {
@@ -102,12 +89,12 @@ module _ {D : Type 0} (moment_of : D → ℕ) (left_since : D → ℕ → List �
       }
 
   pub down_unmounted : (start : List (List Op)) (opening : ℕ) (old : Back D) (log : BackLog) (e : Entry) → LogSame old.log log → fit_of old e ≡ fit.Down
-      → IsBack moment_of left_since told image start opening true old → IsUnmounted moment_of left_since told image start opening (record old { log = log })
+      → IsBack moment_of left_since told image faults_of start opening true old → IsUnmounted moment_of left_since told image faults_of start opening (record old { log = log })
   down_unmounted start opening old log e same is b =
-      unmounted_of moment_of left_since told image start opening true (record old { log = log }) (back_room moment_of left_since told image start opening old log same b) (down_of old e is).unmounted
+      unmounted_of moment_of left_since told image faults_of start opening true (record old { log = log }) (back_room moment_of left_since told image faults_of start opening old log same b) (down_of old e is).unmounted
 
   pub down_can : (start : List (List Op)) (opening : ℕ) (old : Back D) (log : BackLog) (e : Entry) → LogSame old.log log → LogRoom log → may_take old ≡ true → fit_of old e ≡ fit.Down
-      → IsBack moment_of left_since told image start opening true old → CanTakeDown moment_of left_since told image (record old { log = log }) e.number e.body
+      → IsBack moment_of left_since told image faults_of start opening true old → CanTakeDown moment_of left_since told image faults_of (record old { log = log }) e.number e.body
   down_can start opening old log e same room may is b =
       let f = down_of old e is in
       let wanted = not_true (is_wanted old.mode) (and_both (not old.stuck) (not (is_wanted old.mode)) (and_both (not old.stuck && not (is_wanted old.mode)) (nat_lt old.unflushed most_unflushed) may).0).1 in
@@ -115,7 +102,7 @@ module _ {D : Type 0} (moment_of : D → ℕ) (left_since : D → ℕ → List �
       record { start = start; opening = opening; back = down_unmounted start opening old log e same is b; room = room; fits = f.fits; ending = mode.0; down = mode.1 }
 
   pub down_enters : (old new : Back D) (log : BackLog) (e : Entry) → LogSame old.log log → may_take old ≡ true → fit_of old e ≡ fit.Down
-      → TakesDown moment_of left_since told image (record old { log = log }) new e.number e.body → Enters old new e
+      → TakesDown moment_of left_since told image faults_of (record old { log = log }) new e.number e.body → Enters old new e
   down_enters old new log e same may is t =
       let f = down_of old e is in
       record {
@@ -135,3 +122,11 @@ module _ {D : Type 0} (moment_of : D → ℕ) (left_since : D → ℕ → List �
         ∙ ap (λ (x : Backed). old.held.items ++ late_by (slice_get x.stops (length x.stops - 1)) old.settled e.incarnation e.body) same.same
         ∙ ap (λ (x : Fit). old.held.items ++ held_as x old e) (sym is);
   }
+
+  pub late_back : (start : List (List Op)) (opening : ℕ) (old new : Back D) (log : BackLog) (e : Entry) → LogSame old.log log → fit_of old e ≡ fit.Late → TakesLate (record old { log = log }) new e
+      → IsBack moment_of left_since told image faults_of start opening true old → IsBack moment_of left_since told image faults_of start opening true new
+  late_back start opening old new log e same is t b =
+      let f = late_of old e is in
+      back_late moment_of left_since told image faults_of start opening true (record old { log = log }) new e
+      (record { comes = ap (λ (x : Backed). comes_behind (last_of x.taken) e) same.same ∙ f.comes; before = f.before; fits = f.fits })
+      t (back_room moment_of left_since told image faults_of start opening old log same b)

@@ -39,17 +39,17 @@ pub on_err : {X E : Type 0} (r : Result X E) (P : Type 0) → P → OnErr r P
 on_err (Ok x) P fact = tt
 on_err (Err e) P fact = fact
 
-module _ {D : Type 0} (moment_of : D → ℕ) (left_since : D → ℕ → List ℕ → Type 0) (told : D → Option (List ℕ)) (image : D → List ℕ → Type 0) where
-  pub failed_hold : (old new : Back D) → new.held.items ≡ old.held.items → new ≡ record old { held = new.held } → FailsOwn moment_of left_since told image old new
+module _ {D : Type 0} (moment_of : D → ℕ) (left_since : D → ℕ → List ℕ → Type 0) (told : D → Option (List ℕ)) (image : D → List ℕ → Type 0) (faults_of : D → ℕ) where
+  pub failed_hold : (old new : Back D) → new.held.items ≡ old.held.items → new ≡ record old { held = new.held } → FailsOwn moment_of left_since told image faults_of old new
   failed_hold old new items same = record {
     log = ap (λ (b : Back D). backed b.log) same;
-    back = λ start opening m. kept_fails moment_of left_since told image start opening true old new old.cache new.held old.log same (same_log moment_of left_since told image start opening true old.log) items m;
+    back = λ start opening m. kept_fails moment_of left_since told image faults_of start opening true old new old.cache new.held old.log same (same_log moment_of left_since told image faults_of start opening true old.log) items m;
   }
 
-  pub failed_same : (old : Back D) → FailsOwn moment_of left_since told image old old
+  pub failed_same : (old : Back D) → FailsOwn moment_of left_since told image faults_of old old
   failed_same old = record {
     log = refl;
-    back = λ start opening m. kept_fails moment_of left_since told image start opening true old old old.cache old.held old.log refl (same_log moment_of left_since told image start opening true old.log) refl m;
+    back = λ start opening m. kept_fails moment_of left_since told image faults_of start opening true old old old.cache old.held old.log refl (same_log moment_of left_since told image faults_of start opening true old.log) refl m;
   }
 
   abbrev entry_of : Back D → ℕ → Body → Entry
@@ -73,7 +73,7 @@ module _ {D : Type 0} (moment_of : D → ℕ) (left_since : D → ℕ → List �
   pub took_silent : (old mid new : Back D) (number : ℕ) (b : Body) (h : HeldBody) → comes_behind (last_of old.log.taken.items) (entry_of old number b) ≡ true
       → is_mend b ≡ false → IsSilent b → batches_of (said_by b) ≡ [] → ((n s : ℕ) → passed_by h n s ≡ []) → (is_held_halt h ≡ true → halts_well h ≡ true) → is_held_halt h ≡ is_halt b
       → mid.held.items ≡ old.held.items ++ held_now old h ∷ [] → mid ≡ record old { held = mid.held } → LogTook mid.log new.log (entry_of mid number b) → new ≡ record mid { log = new.log }
-      → held_now old h ∷ [] ≡ held_by old.before old.number number b → TakesOwn moment_of left_since told image old new number b
+      → held_now old h ∷ [] ≡ held_by old.before old.number number b → TakesOwn moment_of left_since told image faults_of old new number b
   took_silent old mid new number b h comes other silent nothing says well halts items first log then so =
       let took = log_behind old mid new number b first log in
       let same = same_behind old mid new first then in
@@ -82,14 +82,14 @@ module _ {D : Type 0} (moment_of : D → ℕ) (left_since : D → ℕ → List �
         log = took.taken;
         stuck = ap (λ (x : Back D). x.stuck) same;
         holds = held ∙ ap (λ more. old.held.items ++ more) so;
-        back = λ start opening m. subst (IsMounted moment_of left_since told image start opening true) (sym same)
-            (mounted_silent moment_of left_since told image start opening true old new.log new.held (entry_of old number b) m took refl comes other silent nothing
+        back = λ start opening m. subst (IsMounted moment_of left_since told image faults_of start opening true) (sym same)
+            (mounted_silent moment_of left_since told image faults_of start opening true old new.log new.held (entry_of old number b) m took refl comes other silent nothing
             (HoldsMore.one_more (held_now old h) held (sym (says old.before old.number)) (λ yes. (refl, well yes)) halts));
       }
 
   pub took_message : (old mid new : Back D) (number : ℕ) (sent copy : Message) → copy ≡ sent → comes_behind (last_of old.log.taken.items) (entry_of old number (body.Message sent)) ≡ true
       → mid.held.items ≡ old.held.items ++ held_now old (held_body.Message copy) ∷ [] → mid ≡ record old { held = mid.held } → LogTook mid.log new.log (entry_of mid number (body.Message sent)) → new ≡ record mid { log = new.log }
-      → TakesOwn moment_of left_since told image old new number (body.Message sent)
+      → TakesOwn moment_of left_since told image faults_of old new number (body.Message sent)
   took_message old mid new number sent copy equal comes items first log then =
       let took = log_behind old mid new number (body.Message sent) first log in
       let same = same_behind old mid new first then in
@@ -99,21 +99,21 @@ module _ {D : Type 0} (moment_of : D → ℕ) (left_since : D → ℕ → List �
         log = took.taken;
         stuck = ap (λ (x : Back D). x.stuck) same;
         holds = held;
-        back = λ start opening m. subst (IsMounted moment_of left_since told image start opening true) (sym same)
-            (mounted_message moment_of left_since told image start opening true old new.log new.held (entry_of old number (body.Message sent)) sent m took refl comes refl
+        back = λ start opening m. subst (IsMounted moment_of left_since told image faults_of start opening true) (sym same)
+            (mounted_message moment_of left_since told image faults_of start opening true old new.log new.held (entry_of old number (body.Message sent)) sent m took refl comes refl
             (HoldsMore.one_more (held_now old (held_body.Message sent)) held refl (λ yes. absurd (true_false (sym yes))) refl));
       }
 
   -- nothing more is held
   pub took_only : (old new : Back D) (number : ℕ) (b : Body) → comes_behind (last_of old.log.taken.items) (entry_of old number b) ≡ true
       → is_mend b ≡ false → IsSilent b → batches_of (said_by b) ≡ [] → is_halt b ≡ false → LogTook old.log new.log (entry_of old number b) → new ≡ record old { log = new.log }
-      → [] ≡ held_by old.before old.number number b → TakesOwn moment_of left_since told image old new number b
+      → [] ≡ held_by old.before old.number number b → TakesOwn moment_of left_since told image faults_of old new number b
   took_only old new number b comes other silent nothing halts took same so = record {
     log = took.taken;
     stuck = ap (λ (x : Back D). x.stuck) same;
     holds = ap (λ (x : Back D). x.held.items) same ∙ sym (append-nil old.held.items) ∙ ap (λ more. old.held.items ++ more) so;
-    back = λ start opening m. subst (IsMounted moment_of left_since told image start opening true) (sym same)
-        (mounted_silent moment_of left_since told image start opening true old new.log old.held (entry_of old number b) m took refl comes other silent nothing
+    back = λ start opening m. subst (IsMounted moment_of left_since told image faults_of start opening true) (sym same)
+        (mounted_silent moment_of left_since told image faults_of start opening true old new.log old.held (entry_of old number b) m took refl comes other silent nothing
         (HoldsMore.nothing_more refl refl halts));
   }
 
@@ -123,13 +123,13 @@ module _ {D : Type 0} (moment_of : D → ℕ) (left_since : D → ℕ → List �
 
   pub took_bind : (old new : Back D) (number : ℕ) (object copy : Object) → copy ≡ object → comes_behind (last_of old.log.taken.items) (entry_of old number (body.Bind object)) ≡ true
       → not (is_some old.identity) ≡ true → LogTook old.log new.log (entry_of old number (body.Bind object)) → new ≡ record old { identity = Some copy; log = new.log }
-      → TakesOwn moment_of left_since told image old new number (body.Bind object)
+      → TakesOwn moment_of left_since told image faults_of old new number (body.Bind object)
   took_bind old new number object copy equal comes known took same = record {
     log = took.taken;
     stuck = ap (λ (x : Back D). x.stuck) same;
     holds = ap (λ (x : Back D). x.held.items) same ∙ sym (append-nil old.held.items);
-    back = λ start opening m. subst (IsMounted moment_of left_since told image start opening true) (ap (λ o. record old { identity = Some o; log = new.log }) (sym equal) ∙ sym same)
-        (mounted_bind moment_of left_since told image start opening true old new.log number object m took (is_nobody old.identity known) comes);
+    back = λ start opening m. subst (IsMounted moment_of left_since told image faults_of start opening true) (ap (λ o. record old { identity = Some o; log = new.log }) (sym equal) ∙ sym same)
+        (mounted_bind moment_of left_since told image faults_of start opening true old new.log number object m took (is_nobody old.identity known) comes);
   }
 
   -- a batch
@@ -137,31 +137,31 @@ module _ {D : Type 0} (moment_of : D → ℕ) (left_since : D → ℕ → List �
   somebody None is = absurd (true_false (sym is))
   somebody (Some object) is = (object, refl)
 
-  pub failed_cache : (old : Back D) (cache : Contents) → FailsOwn moment_of left_since told image old (record old { cache = cache })
+  pub failed_cache : (old : Back D) (cache : Contents) → FailsOwn moment_of left_since told image faults_of old (record old { cache = cache })
   failed_cache old cache = record {
     log = refl;
-    back = λ start opening m. kept_fails moment_of left_since told image start opening true old (record old { cache = cache }) cache old.held old.log refl
-        (same_log moment_of left_since told image start opening true old.log) refl m;
+    back = λ start opening m. kept_fails moment_of left_since told image faults_of start opening true old (record old { cache = cache }) cache old.held old.log refl
+        (same_log moment_of left_since told image faults_of start opening true old.log) refl m;
   }
 
   pub failed_stage : (old new : Back D) (cache : Contents) (object : Object) (ops : List Op) (e : NoMemory)
       → ((journal : Journal D) → old.store ≡ store.Journal journal → Stages told image journal new.store object ops (Err e))
-      → new ≡ record old { cache = cache; store = new.store } → FailsOwn moment_of left_since told image old new
+      → new ≡ record old { cache = cache; store = new.store } → FailsOwn moment_of left_since told image faults_of old new
   failed_stage old new cache object ops e stages same = record {
     log = ap (λ (b : Back D). backed b.log) same;
     back = λ start opening m.
         let st = stages m.journal m.safe.store in
-        subst (IsMounted moment_of left_since told image start opening false)
+        subst (IsMounted moment_of left_since told image faults_of start opening false)
         (ap (λ (s : Store D). record old { store = s; cache = cache }) (sym st.is) ∙ sym same)
-        (mounted_same moment_of left_since told image start opening true false old old.log old.held st.new cache old.stuck m
-        (same_log moment_of left_since told image start opening true old.log) refl st.same_staged st.frames st.disk (λ yes. absurd (true_false (sym yes))));
+        (mounted_same moment_of left_since told image faults_of start opening true false old old.log old.held st.new cache old.stuck m
+        (same_log moment_of left_since told image faults_of start opening true old.log) refl st.same_staged st.frames st.disk (λ yes. absurd (true_false (sym yes))));
   }
 
   pub took_batch : (old mid add : Back D) (number : ℕ) (ops : List Op) (tail : Option ℕ) (cache : Contents) (size : ℕ) (object : Object) → old.identity ≡ Some object
       → comes_behind (last_of old.log.taken.items) (entry_of old number (body.Batch ops tail)) ≡ true → cache ≡ apply old.cache ops → size ≡ length (batch_bytes ops)
       → ((journal : Journal D) → old.store ≡ store.Journal journal → Stages told image journal mid.store object ops (Ok tt))
       → mid ≡ record old { cache = cache; store = mid.store } → LogTook mid.log add.log (entry_of mid number (body.Batch ops tail)) → add ≡ record mid { log = add.log }
-      → TakesOwn moment_of left_since told image old (record add { before = add.before + 1; own = add.own + 1; unflushed = add.unflushed + size }) number (body.Batch ops tail)
+      → TakesOwn moment_of left_since told image faults_of old (record add { before = add.before + 1; own = add.own + 1; unflushed = add.unflushed + size }) number (body.Batch ops tail)
   took_batch old mid add number ops tail cache size object named comes wrote is_size stages first log then =
       let e : Entry = entry_of old number (body.Batch ops tail) in
       let f : Back D → Back D = λ x. record x { before = x.before + 1; own = x.own + 1; unflushed = x.unflushed + size } in
@@ -177,17 +177,17 @@ module _ {D : Type 0} (moment_of : D → ℕ) (left_since : D → ℕ → List �
         holds = ap (λ (x : Back D). x.held.items) same ∙ sym (append-nil old.held.items);
         back = λ start opening m.
             let st = stages m.journal m.safe.store in
-            subst (IsMounted moment_of left_since told image start opening true)
+            subst (IsMounted moment_of left_since told image faults_of start opening true)
             (ap (λ (s : Store D). f (record old { cache = cache; store = s; log = add.log })) (sym st.is) ∙ ap f (sym same))
-            (mounted_batch moment_of left_since told image start opening true old add.log number ops tail st.new cache (old.unflushed + size) object m took named comes st.staged st.frames st.disk wrote
+            (mounted_batch moment_of left_since told image faults_of start opening true old add.log number ops tail st.new cache (old.unflushed + size) object m took named comes st.staged st.frames st.disk wrote
             (ap (λ (n : ℕ). old.unflushed + n) is_size));
       }
 
   -- of an incarnation that isn't mounted
-  pub failed_down : (old new : Back D) → new.held.items ≡ old.held.items → new ≡ record old { held = new.held } → FailsDown moment_of left_since told image old new
+  pub failed_down : (old new : Back D) → new.held.items ≡ old.held.items → new ≡ record old { held = new.held } → FailsDown moment_of left_since told image faults_of old new
   failed_down old new items same = record {
     log = ap (λ (b : Back D). backed b.log) same;
-    back = λ start opening u. subst (IsUnmounted moment_of left_since told image start opening) (sym same) (unmounted_held moment_of left_since told image start opening old new.held u items);
+    back = λ start opening u. subst (IsUnmounted moment_of left_since told image faults_of start opening) (sym same) (unmounted_held moment_of left_since told image faults_of start opening old new.held u items);
   }
 
   abbrev ending_or : Mode → Ending → Ending
@@ -206,7 +206,7 @@ module _ {D : Type 0} (moment_of : D → ℕ) (left_since : D → ℕ → List �
   same_ending one ending mode (inr is) down = ap (λ m. ending_or m one) (sym is ∙ down)
 
   pub took_mend : (old mid new : Back D) (number : ℕ) (ending : Ending) → old.mode ≡ Down ending → mid ≡ record old { mode = Wanted ending }
-      → LogTook mid.log new.log (entry_of mid number body.Mend) → new ≡ record mid { log = new.log } → TakesDown moment_of left_since told image old new number body.Mend
+      → LogTook mid.log new.log (entry_of mid number body.Mend) → new ≡ record mid { log = new.log } → TakesDown moment_of left_since told image faults_of old new number body.Mend
   took_mend old mid new number ending down first log then =
       let same : new ≡ record old { mode = Wanted ending; log = new.log } = then ∙ ap (λ (x : Back D). record x { log = new.log }) first in
       let took : LogTook old.log new.log (entry_of old number body.Mend) = record {
@@ -218,14 +218,14 @@ module _ {D : Type 0} (moment_of : D → ℕ) (left_since : D → ℕ → List �
         log = took.taken;
         stuck = ap (λ (x : Back D). x.stuck) same;
         holds = ap (λ (x : Back D). x.held.items) same ∙ sym (append-nil old.held.items);
-        back = λ start opening u. subst (IsUnmounted moment_of left_since told image start opening)
+        back = λ start opening u. subst (IsUnmounted moment_of left_since told image faults_of start opening)
             (ap (λ (e : Ending). record old { mode = Wanted e; log = new.log }) (same_ending u.ending ending old.mode u.safe.mode down) ∙ sym same)
-            (unmounted_mend moment_of left_since told image start opening old new.log (entry_of old number body.Mend) u took refl refl);
+            (unmounted_mend moment_of left_since told image faults_of start opening old new.log (entry_of old number body.Mend) u took refl refl);
       }
 
   pub took_down : (old mid new : Back D) (number : ℕ) (sent copy : Message) (ending : Ending) → old.mode ≡ Down ending → copy ≡ sent
       → mid.held.items ≡ old.held.items ++ record { body = held_body.Message copy; needs = old.before; since = old.number - 1 } ∷ [] → mid ≡ record old { held = mid.held }
-      → LogTook mid.log new.log (entry_of mid number (body.Message sent)) → new ≡ record mid { log = new.log } → TakesDown moment_of left_since told image old new number (body.Message sent)
+      → LogTook mid.log new.log (entry_of mid number (body.Message sent)) → new ≡ record mid { log = new.log } → TakesDown moment_of left_since told image faults_of old new number (body.Message sent)
   took_down old mid new number sent copy ending down equal items first log then =
       let took = log_behind old mid new number (body.Message sent) first log in
       let same = same_behind old mid new first then in
@@ -235,7 +235,7 @@ module _ {D : Type 0} (moment_of : D → ℕ) (left_since : D → ℕ → List �
         log = took.taken;
         stuck = ap (λ (x : Back D). x.stuck) same;
         holds = held;
-        back = λ start opening u. subst (IsUnmounted moment_of left_since told image start opening) (sym same)
-            (unmounted_message moment_of left_since told image start opening old new.log new.held (entry_of old number (body.Message sent)) sent u took refl refl
+        back = λ start opening u. subst (IsUnmounted moment_of left_since told image faults_of start opening) (sym same)
+            (unmounted_message moment_of left_since told image faults_of start opening old new.log new.held (entry_of old number (body.Message sent)) sent u took refl refl
             (down ∙ ap Down (sym (same_ending u.ending ending old.mode u.safe.mode down))) held);
       }

@@ -71,27 +71,36 @@ module _ {D : Type 0} (moment_of : D → ℕ) (left_since : D → ℕ → List �
       subst (λ (d : D). HasRisen (faults_of d) (faults_of other)) (sym same) (subst (λ (d : D). HasRisen (faults_of disk) (faults_of d)) (sym last) (rises (subst (λ (d : D). IsTold (told d)) same tells)))
 
   -- the file of a disk that tells its content isn't refused
-  pub refused_falls : (old new : Back D) (disk left : D) (ending : Ending) (before after : ℕ) → old.mode ≡ Wanted ending → IsDiskOf old.store disk
-      → HasRisen (faults_of disk) (faults_of left) ⊎ IfTold (told disk) IsRefusedFile → Misses old new ending left before after
-      → IsUnmounted moment_of left_since told image start opening old → FallsByFault faults_of told old new
-  refused_falls old new disk left ending before after wanted at why done u =
-      let k = known moment_of left_since told image reads_an_image counts_now start opening old disk ending wanted at u in
-      falls_of old new disk left ending before after at done (λ tells.
+  pub refused_rises : (old : Back D) (disk left : D) (ending : Ending) → old.mode ≡ Wanted ending → IsDiskOf old.store disk → HasRisen (faults_of disk) (faults_of left) ⊎ IfTold (told disk) IsRefusedFile
+      → IsUnmounted moment_of left_since told image faults_of start opening old → IsTold (told disk) → HasRisen (faults_of disk) (faults_of left)
+  refused_rises old disk left ending wanted at why u tells =
+      let k = known moment_of left_since told image faults_of reads_an_image counts_now start opening old disk ending wanted at u in
       let e : IsEnded moment_of left_since image start opening disk ending old = k.1 tells in
       let no : IsRefusedFile tells.0 → ⊥ = λ refused. ⊎_elim (λ one. not_refused tells.0 e.frames one refused) (λ more. not_refused tells.0 (e.frames ++ e.flight ∷ []) more refused)
       (e.outcomes tells.0 (reads_an_image disk tells.0 tells.1)) in
-      ⊎_elim (λ (rose : HasRisen (faults_of disk) (faults_of left)). rose) (λ refused. absurd (no (refused tells.0 tells.1))) why)
+      ⊎_elim (λ (rose : HasRisen (faults_of disk) (faults_of left)). rose) (λ refused. absurd (no (refused tells.0 tells.1))) why
+
+  pub refused_falls : (old new : Back D) (disk left : D) (ending : Ending) (before after : ℕ) → old.mode ≡ Wanted ending → IsDiskOf old.store disk
+      → HasRisen (faults_of disk) (faults_of left) ⊎ IfTold (told disk) IsRefusedFile → Misses old new ending left before after
+      → IsUnmounted moment_of left_since told image faults_of start opening old → FallsByFault faults_of told old new
+  refused_falls old new disk left ending before after wanted at why done u =
+      falls_of old new disk left ending before after at done (refused_rises old disk left ending wanted at why u)
 
   -- and it isn't of another object
-  pub other_falls : (old new : Back D) (disk left : D) (ending : Ending) (mounted : Mounted D) (before after : ℕ) → old.mode ≡ Wanted ending → IsDiskOf old.store disk
-      → IsMountOf told image moment_of left_since disk mounted → (is_own_object mounted.identity old.identity → ⊥) → Misses old new ending left before after
-      → IsUnmounted moment_of left_since told image start opening old → FallsByFault faults_of told old new
-  other_falls old new disk left ending mounted before after wanted at is other done u =
-      let k = known moment_of left_since told image reads_an_image counts_now start opening old disk ending wanted at u in
-      falls_of old new disk left ending before after at done (λ tells.
+  pub other_rises : (old : Back D) (disk left : D) (ending : Ending) (mounted : Mounted D) → old.mode ≡ Wanted ending → IsDiskOf old.store disk
+      → IsMountOf told image moment_of left_since disk mounted → (is_own_object mounted.identity old.identity → ⊥)
+      → IsUnmounted moment_of left_since told image faults_of start opening old → IsTold (told disk) → HasRisen (faults_of disk) (faults_of left)
+  other_rises old disk left ending mounted wanted at is other u tells =
+      let k = known moment_of left_since told image faults_of reads_an_image counts_now start opening old disk ending wanted at u in
       let e : IsEnded moment_of left_since image start opening disk ending old = k.1 tells in
       let names : List Frame → Type 0 = λ frames. NameOnly old.identity frames in
       let named : NameOnly old.identity is.frames = ⊎_elim (λ same. subst names (sym same) e.named)
       (λ same. subst names (sym same) (All-push (λ (f : Frame). old.identity ≡ Some f.object) e.frames e.flight e.named e.object))
       (found_one moment_of left_since told image reads_an_image start opening disk ending old e tells.0 is.frames tells.1 is.recovers) in
-      absurd (other (own_named mounted.identity old.identity is.frames is.object named)))
+      absurd (other (own_named mounted.identity old.identity is.frames is.object named))
+
+  pub other_falls : (old new : Back D) (disk left : D) (ending : Ending) (mounted : Mounted D) (before after : ℕ) → old.mode ≡ Wanted ending → IsDiskOf old.store disk
+      → IsMountOf told image moment_of left_since disk mounted → (is_own_object mounted.identity old.identity → ⊥) → Misses old new ending left before after
+      → IsUnmounted moment_of left_since told image faults_of start opening old → FallsByFault faults_of told old new
+  other_falls old new disk left ending mounted before after wanted at is other done u =
+      falls_of old new disk left ending before after at done (other_rises old disk left ending mounted wanted at is other u)

@@ -1,9 +1,12 @@
 -- What it says of an entry that it fits.
-use Rattle.std.proofs.Common.{◌≡◌, ◌∙◌, ap, sym, refl, subst, inl, inr, ℕ, List, Option}
-use Rattle.std.proofs.lemmas.Bool.{eqb-true}
+use Rattle.std.proofs.Common.{◌≡◌, ◌∙◌, ap, sym, refl, subst, inl, inr, ⊎_elim, ℕ, ◌<◌, List, arith, Option}
+use Rattle.std.proofs.lemmas.Bool.{eq-eqb, eqb-true, ltb-false}
+use Rattle.std.proofs.lemmas.Bool.Decides.{leb_tells}
 use Rattle.std.specs.Prelude.{Bool, true, false, not, ◌&&◌, ◌==◌, nat_lt, is_some}
 use Rattle.storage_map.specs.declared.op.Op.{Op}
+use Rattle.timeline.specs.Passed.{is_mend}
 use Rattle.timeline.specs.declared.entry.Body.{Body}
+use Rattle.timeline.specs.declared.entry.Body.TheVariants as body
 use Rattle.timeline.specs.declared.entry.Entry.{Entry}
 use Rattle.output_gate.specs.Fits.{comes_behind, fits_mounted, fits_down, last_of}
 use Rattle.output_gate.specs.Serving.{IsMounted, IsUnmounted, IsBack, IsAtEnd}
@@ -100,11 +103,65 @@ never_mounted : (ending : Ending) (mode : Mode) → IsAtEnd ending mode → is_m
 never_mounted ending mode (inl wanted) is = true_false (sym is ∙ ap is_mounted_mode wanted)
 never_mounted ending mode (inr down) is = true_false (sym is ∙ ap is_mounted_mode down)
 
-module _ {D : Type 0} (moment_of : D → ℕ) (left_since : D → ℕ → List ℕ → Type 0) (told : D → Option (List ℕ)) (image : D → List ℕ → Type 0) (start : List (List Op)) (opening : ℕ) (sound : Bool) where
-  pub mounted_of : (back : Back D) → IsBack moment_of left_since told image start opening sound back → is_mounted_mode back.mode ≡ true → IsMounted moment_of left_since told image start opening sound back
+module _ {D : Type 0} (moment_of : D → ℕ) (left_since : D → ℕ → List ℕ → Type 0) (told : D → Option (List ℕ)) (image : D → List ℕ → Type 0) (faults_of : D → ℕ) (start : List (List Op)) (opening : ℕ) (sound : Bool) where
+  pub mounted_of : (back : Back D) → IsBack moment_of left_since told image faults_of start opening sound back → is_mounted_mode back.mode ≡ true → IsMounted moment_of left_since told image faults_of start opening sound back
   mounted_of back (inl m) is = m
   mounted_of back (inr u) is = absurd (never_mounted u.ending back.mode u.safe.mode is)
 
-  pub unmounted_of : (back : Back D) → IsBack moment_of left_since told image start opening sound back → is_mounted_mode back.mode ≡ false → IsUnmounted moment_of left_since told image start opening back
+  pub unmounted_of : (back : Back D) → IsBack moment_of left_since told image faults_of start opening sound back → is_mounted_mode back.mode ≡ false → IsUnmounted moment_of left_since told image faults_of start opening back
   unmounted_of back (inl m) is = absurd (true_false (sym (ap is_mounted_mode m.safe.mode) ∙ is))
   unmounted_of back (inr u) is = u
+
+abbrev is_late_fit : Fit → Type 0
+is_late_fit fit.Late = Unit {0}
+is_late_fit _ = ⊥
+
+as_late : (f own mounted : Bool) → fit_as f own mounted ≡ fit.Late → (f ≡ true) × (own ≡ false)
+as_late false own mounted is = absurd (subst is_late_fit (sym is) tt)
+as_late true true true is = absurd (subst is_late_fit (sym is) tt)
+as_late true true false is = absurd (subst is_late_fit (sym is) tt)
+as_late true false mounted is = (refl, refl)
+
+so_late : (own mounted known : Bool) (b : Body) → own ≡ false → fits_so own mounted known b ≡ true → fits_mounted b known ≡ true
+so_late false true known b o is = is
+so_late false false known b o is = is
+so_late true mounted known b o is = absurd (true_false o)
+
+below : (n m : ℕ) → (n == m) ≡ false → nat_lt m n ≡ false → n < m
+below n m other within = ⊎_elim (λ t. absurd (true_false (sym (eq-eqb n m (omega (arith, t.1, ltb-false m n within))) ∙ other))) (λ t. t.1) (leb_tells m n)
+
+no : (b : Bool) → not b ≡ true → b ≡ false
+no true is = absurd (true_false (sym is))
+no false is = refl
+
+-- an entry of an incarnation that has ended
+pub record LateFit {D : Type 0} (back : Back D) (e : Entry) : Type 0 where
+  pub comes : comes_behind (last_of back.log.taken.items) e ≡ true
+  pub before : e.incarnation < back.number
+  pub fits : fits_mounted e.body (is_some back.identity) ≡ true
+
+pub late_of : {D : Type 0} (back : Back D) (e : Entry) → fit_of back e ≡ fit.Late → LateFit back e
+late_of back e is =
+    let behind : Bool = comes_behind (last_of back.log.taken.items) e in
+    let within : Bool = not (nat_lt back.number e.incarnation) in
+    let own : Bool = e.incarnation == back.number in
+    let mounted : Bool = is_mounted_mode back.mode in
+    let fits : Bool = fits_so own mounted (is_some back.identity) e.body in
+    let all = as_late (behind && within && fits) own mounted is in
+    let two = and_both (behind && within) fits all.0 in
+    let one = and_both behind within two.0 in
+    record {
+      comes = one.0;
+      before = below e.incarnation back.number all.1 (no (nat_lt back.number e.incarnation) one.1);
+      fits = so_late own mounted (is_some back.identity) e.body all.1 two.1;
+    }
+
+-- it is no `Mend`
+pub not_mend : (b : Body) (known : Bool) → fits_mounted b known ≡ true → is_mend b ≡ false
+not_mend (body.Bind identity) known is = refl
+not_mend (body.Batch ops tail) known is = refl
+not_mend (body.Ask ask) known is = refl
+not_mend body.Sync known is = refl
+not_mend (body.Message sent) known is = refl
+not_mend (body.Halt cause) known is = refl
+not_mend body.Mend known is = absurd (true_false (sym is))

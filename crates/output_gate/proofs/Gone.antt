@@ -26,44 +26,44 @@ use Rattle.output_gate.proofs.Restarts.{LogRestarts, restarted, mounted_restart}
 use Rattle.output_gate.proofs.Takings.{kept_fails, same_log, mounted_same}
 use Rattle.output_gate.proofs.Unmounting.{unmounted_same, unmounted_release}
 
-module _ {D : Type 0} (moment_of : D → ℕ) (left_since : D → ℕ → List ℕ → Type 0) (told : D → Option (List ℕ)) (image : D → List ℕ → Type 0)
+module _ {D : Type 0} (moment_of : D → ℕ) (left_since : D → ℕ → List ℕ → Type 0) (told : D → Option (List ℕ)) (image : D → List ℕ → Type 0) (faults_of : D → ℕ)
     (start : List (List Op)) (opening : ℕ) where
   -- the log got room
-  pub back_room : (old : Back D) (log : BackLog) → LogSame old.log log → IsBack moment_of left_since told image start opening true old
-      → IsBack moment_of left_since told image start opening true (record old { log = log })
+  pub back_room : (old : Back D) (log : BackLog) → LogSame old.log log → IsBack moment_of left_since told image faults_of start opening true old
+      → IsBack moment_of left_since told image faults_of start opening true (record old { log = log })
   back_room old log same (inl m) =
-      inl (subst (λ (s : Store D). IsMounted moment_of left_since told image start opening true (record old { store = s; log = log })) (sym m.safe.store)
-      (mounted_same moment_of left_since told image start opening true true old log old.held m.journal old.cache old.stuck m same refl (λ object batches staged. staged) (λ frames rest. rest) refl (λ yes. (refl, refl))))
-  back_room old log same (inr u) = inr (unmounted_same moment_of left_since told image start opening old log old.held old.stuck u same.same refl)
+      inl (subst (λ (s : Store D). IsMounted moment_of left_since told image faults_of start opening true (record old { store = s; log = log })) (sym m.safe.store)
+      (mounted_same moment_of left_since told image faults_of start opening true true old log old.held m.journal old.cache old.stuck m same refl (λ object batches staged. staged) (λ frames rest. rest) refl (λ yes. (refl, refl))))
+  back_room old log same (inr u) = inr (unmounted_same moment_of left_since told image faults_of start opening old log old.held old.stuck u same.same refl)
 
   -- something was taken that no front sends
-  pub back_stuck : (old : Back D) → IsBack moment_of left_since told image start opening true old → IsBack moment_of left_since told image start opening true (record old { stuck = true })
+  pub back_stuck : (old : Back D) → IsBack moment_of left_since told image faults_of start opening true old → IsBack moment_of left_since told image faults_of start opening true (record old { stuck = true })
   back_stuck old (inl m) =
-      inl (subst (λ (s : Store D). IsMounted moment_of left_since told image start opening true (record old { store = s; stuck = true })) (sym m.safe.store)
-      (mounted_same moment_of left_since told image start opening true true old old.log old.held m.journal old.cache true m (same_log moment_of left_since told image start opening true old.log) refl
+      inl (subst (λ (s : Store D). IsMounted moment_of left_since told image faults_of start opening true (record old { store = s; stuck = true })) (sym m.safe.store)
+      (mounted_same moment_of left_since told image faults_of start opening true true old old.log old.held m.journal old.cache true m (same_log moment_of left_since told image faults_of start opening true old.log) refl
       (λ object batches staged. staged) (λ frames rest. rest) refl (λ yes. (refl, refl))))
-  back_stuck old (inr u) = inr (unmounted_same moment_of left_since told image start opening old old.log old.held true u refl refl)
+  back_stuck old (inr u) = inr (unmounted_same moment_of left_since told image faults_of start opening old old.log old.held true u refl refl)
 
-  pub back_stopped : (old : Back D) → IsBack moment_of left_since told image start opening true old → IsBack moment_of left_since told image start opening false old
+  pub back_stopped : (old : Back D) → IsBack moment_of left_since told image faults_of start opening true old → IsBack moment_of left_since told image faults_of start opening false old
   back_stopped old (inl m) =
-      inl (kept_fails moment_of left_since told image start opening true old old old.cache old.held old.log refl (same_log moment_of left_since told image start opening true old.log) refl m)
+      inl (kept_fails moment_of left_since told image faults_of start opening true old old old.cache old.held old.log refl (same_log moment_of left_since told image faults_of start opening true old.log) refl m)
   back_stopped old (inr u) = inr u
 
-  pub back_held : (old new : Back D) → new.held.items ≡ old.held.items → new ≡ record old { held = new.held } → IsBack moment_of left_since told image start opening true old
-      → IsBack moment_of left_since told image start opening false new
+  pub back_held : (old new : Back D) → new.held.items ≡ old.held.items → new ≡ record old { held = new.held } → IsBack moment_of left_since told image faults_of start opening true old
+      → IsBack moment_of left_since told image faults_of start opening false new
   back_held old new items same (inl m) =
-      inl (kept_fails moment_of left_since told image start opening true old new old.cache new.held old.log same (same_log moment_of left_since told image start opening true old.log) items m)
+      inl (kept_fails moment_of left_since told image faults_of start opening true old new old.cache new.held old.log same (same_log moment_of left_since told image faults_of start opening true old.log) items m)
   back_held old new items same (inr u) =
-      inr (subst (IsUnmounted moment_of left_since told image start opening) (sym same) (unmounted_same moment_of left_since told image start opening old old.log new.held old.stuck u refl items))
+      inr (subst (IsUnmounted moment_of left_since told image faults_of start opening) (sym same) (unmounted_same moment_of left_since told image faults_of start opening old old.log new.held old.stuck u refl items))
 
-module _ {D : Type 0} (moment_of : D → ℕ) (left_since : D → ℕ → List ℕ → Type 0) (told : D → Option (List ℕ)) (image : D → List ℕ → Type 0)
+module _ {D : Type 0} (moment_of : D → ℕ) (left_since : D → ℕ → List ℕ → Type 0) (told : D → Option (List ℕ)) (image : D → List ℕ → Type 0) (faults_of : D → ℕ)
     (only_now : (disk : D) (c : List ℕ) → left_since disk (moment_of disk) c → image disk c)
     (reads_an_image : (disk : D) (c : List ℕ) → told disk ≡ Some c → image disk c) where
   pub stays_put : (old : Back D) (log : BackLog) (s0 s : List Notice) (o0 o : List Sent) → LogSame old.log log → s ≡ s0 → o ≡ o0
-      → StaysPut moment_of left_since told image old (record old { log = log }) s0 s o0 o
+      → StaysPut moment_of left_since told image faults_of old (record old { log = log }) s0 s o0 o
   stays_put old log s0 s o0 o same told_so left_so = record {
     stays = record { told = told_so; left = left_so; log = same.same; held = refl };
-    back = λ start opening b. back_stopped moment_of left_since told image start opening (record old { log = log }) (back_room moment_of left_since told image start opening old log same b);
+    back = λ start opening b. back_stopped moment_of left_since told image faults_of start opening (record old { log = log }) (back_room moment_of left_since told image faults_of start opening old log same b);
   }
 
   releases_as : (old new : Back D) (first : Held) (rest : List Held) (b : HeldBody) → old.held.items ≡ first ∷ rest → new.held.items ≡ rest → first.body ≡ b
@@ -79,17 +79,17 @@ module _ {D : Type 0} (moment_of : D → ℕ) (left_since : D → ℕ → List �
     log = λ disk at. log disk at ∙ ap (released_log old (moment_of disk) first) (sym body);
   }
 
-  disk_at : (start : List (List Op)) (opening : ℕ) (old : Back D) (m : IsMounted moment_of left_since told image start opening true old) → IsDiskOf old.store (disk_in m.journal)
+  disk_at : (start : List (List Op)) (opening : ℕ) (old : Back D) (m : IsMounted moment_of left_since told image faults_of start opening true old) → IsDiskOf old.store (disk_in m.journal)
   disk_at start opening old m = subst (λ (s : Store D). IsDiskOf s (disk_in m.journal)) (sym m.safe.store) refl
 
   back_release : (start : List (List Op)) (opening : ℕ) (old : Back D) (log : BackLog) (held : VecDeque Held Global) (h : Held) → old.held.items ≡ h ∷ held.items → h.needs ≤ old.durable
       → ((disk : D) → IsDiskOf old.store disk → LogReleased old.log log (old.log.released.items ++ map (release_at (moment_of disk)) (passed_of h)))
       → log.flights ≡ old.log.flights → log.stops ≡ old.log.stops
-      → IsBack moment_of left_since told image start opening true old → IsBack moment_of left_since told image start opening true (record old { held = held; log = log })
+      → IsBack moment_of left_since told image faults_of start opening true old → IsBack moment_of left_since told image faults_of start opening true (record old { held = held; log = log })
   back_release start opening old log held h first ready is flights stops (inl m) =
-      inl (mounted_release moment_of left_since told image only_now start opening true old log held h m first ready (is (disk_in m.journal) (disk_at start opening old m)) flights stops)
+      inl (mounted_release moment_of left_since told image faults_of only_now start opening true old log held h m first ready (is (disk_in m.journal) (disk_at start opening old m)) flights stops)
   back_release start opening old log held h first ready is flights stops (inr u) =
-      inr (unmounted_release moment_of left_since told image only_now reads_an_image start opening old log held h u first ready (is u.disk u.safe.store))
+      inr (unmounted_release moment_of left_since told image faults_of only_now reads_an_image start opening old log held h u first ready (is u.disk u.safe.store))
 
   -- a message
   pub message_goes : (old : Back D) (mid log : BackLog) (held : VecDeque Held Global) (first : Held) (sent : Sent) (moment : ℕ) → LogSame old.log mid
@@ -97,7 +97,7 @@ module _ {D : Type 0} (moment_of : D → ℕ) (left_since : D → ℕ → List �
       → ((disk : D) → IsDiskOf old.store disk → moment ≡ moment_of disk)
       → LogReleases mid log (record { message = sent; needs = first.needs; moment = moment })
       → (s : List Notice) (o0 o : List Sent) → o ≡ o0 ++ sent ∷ []
-      → Goes moment_of left_since told image old (record old { held = held; log = log }) s s o0 o
+      → Goes moment_of left_since told image faults_of old (record old { held = held; log = log }) s s o0 o
   message_goes old mid log held first sent moment same items body ready at done s o0 o left_so =
       let one : ℕ → Release = λ t. record { message = sent; needs = first.needs; moment = t } in
       let passes : passed_of first ≡ record { message = sent; needs = first.needs; since = first.since } ∷ [] = ap (λ (b : HeldBody). passed_by b first.needs first.since) body in
@@ -108,13 +108,13 @@ module _ {D : Type 0} (moment_of : D → ℕ) (left_since : D → ℕ → List �
         back = λ start opening b. back_release start opening (record old { log = mid }) log held first items ready
             (λ disk where_is. done.log ∙ ap (λ (t : ℕ). record (backed mid) { released = mid.released.items ++ one t ∷ [] }) (at disk where_is)
             ∙ ap (λ ps. record (backed mid) { released = mid.released.items ++ map (release_at (moment_of disk)) ps }) (sym passes))
-            done.flights done.stops (back_room moment_of left_since told image start opening old mid same b);
+            done.flights done.stops (back_room moment_of left_since told image faults_of start opening old mid same b);
       }
 
   -- a sync
   pub sync_goes : (old : Back D) (held : VecDeque Held Global) (first : Held) (number : ℕ) → old.held.items ≡ first ∷ held.items → first.body ≡ Sync number → first.needs ≤ old.durable
       → (s0 s : List Notice) (o : List Sent) → s ≡ s0 ++ released_notices old (Sync number)
-      → Goes moment_of left_since told image old (record old { held = held }) s0 s o o
+      → Goes moment_of left_since told image faults_of old (record old { held = held }) s0 s o o
   sync_goes old held first number items body ready s0 s o told_so =
       let none : passed_of first ≡ [] = ap (λ (b : HeldBody). passed_by b first.needs first.since) body in
       record {
@@ -126,21 +126,21 @@ module _ {D : Type 0} (moment_of : D → ℕ) (left_since : D → ℕ → List �
 
   -- a halt
   halts_back : (start : List (List Op)) (opening : ℕ) (old : Back D) (log : BackLog) (held : VecDeque Held Global) (first : Held) (c : Cause) → old.held.items ≡ first ∷ held.items → first.body ≡ Halt c → first.needs ≤ old.durable
-      → LogRestarts old log c → IsBack moment_of left_since told image start opening true old → IsBack moment_of left_since told image start opening true (restarted old log held)
+      → LogRestarts old log c → IsBack moment_of left_since told image faults_of start opening true old → IsBack moment_of left_since told image faults_of start opening true (restarted old log held)
   halts_back start opening old log held first c items body ready is (inl m) =
-      inl (mounted_restart moment_of left_since told image start opening true old log held first c m (record { first = items; body = body; ready = ready }) is)
+      inl (mounted_restart moment_of left_since told image faults_of start opening true old log held first c m (record { first = items; body = body; ready = ready }) is)
   halts_back start opening old log held first c items body ready is (inr u) =
       absurd (true_false (sym (ap (λ (b : HeldBody). is_held_halt b || has_halt held.items) body) ∙ sym (ap has_halt items) ∙ u.safe.halts))
 
   pub halt_goes : (old : Back D) (mid log : BackLog) (held : VecDeque Held Global) (first : Held) (c : Cause) → LogSame old.log mid
       → old.held.items ≡ first ∷ held.items → first.body ≡ Halt c → first.needs ≤ old.durable → LogHalts mid log c old.own
       → (s0 s : List Notice) (o : List Sent) → s ≡ s0 ++ released_notices old (Halt c)
-      → Goes moment_of left_since told image old (restarted old log held) s0 s o o
+      → Goes moment_of left_since told image faults_of old (restarted old log held) s0 s o o
   halt_goes old mid log held first c same items body ready done s0 s o told_so = record {
     releases = releases_as old (restarted old log held) first held.items (Halt c) items refl body s0 s o o told_so (sym (append-nil o))
         (λ disk where_is. done ∙ ap (λ (x : Backed). record x {
           stops = x.stops ++ record { cause = c; flights = length x.flights; batches = old.own; read = false } ∷ [];
           ends = x.ends ++ record { kept = old.own; cause = c } ∷ [];
         }) same.same);
-    back = λ start opening b. halts_back start opening (record old { log = mid }) log held first c items body ready done (back_room moment_of left_since told image start opening old mid same b);
+    back = λ start opening b. halts_back start opening (record old { log = mid }) log held first c items body ready done (back_room moment_of left_since told image faults_of start opening old mid same b);
   }

@@ -41,7 +41,7 @@ entries_same i entries e other =
     ∙ ap (λ (b : Bool). entries_of i entries ++ cond b (e ∷ []) []) (ne_eqb e.incarnation i other)
     ∙ append-nil (entries_of i entries)
 
-entries_none : (i : ℕ) (entries : List Entry) → All (λ e. e.incarnation < i) entries → entries_of i entries ≡ []
+pub entries_none : (i : ℕ) (entries : List Entry) → All (λ e. e.incarnation < i) entries → entries_of i entries ≡ []
 entries_none i [] less = refl
 entries_none i (e ∷ entries) less =
     let here : e.incarnation < i = All-head (λ (x : Entry). x.incarnation < i) e entries less in

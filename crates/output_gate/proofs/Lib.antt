@@ -4,6 +4,11 @@ pub mod Kept
 pub mod Gates
 pub mod Downs
 pub mod Helds
+pub mod Ordered
+pub mod Places
+pub mod Endings
+pub mod Counts
+pub mod Late
 pub mod Flushes
 pub mod Steps
 pub mod Named
@@ -22,5 +27,7 @@ pub mod Entered
 pub mod Gone
 pub mod Falls
 pub mod Fitting
+pub mod Afterwards
 pub mod Enter
 pub mod Remounts
+pub mod Telling

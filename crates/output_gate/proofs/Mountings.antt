@@ -1,11 +1,12 @@
 -- What a mounting does to a back whose incarnation has ended.
 use Rattle.std.proofs.Common.{◌≡◌, ◌∙◌, ap, sym, refl, subst, inl, inr, ℕ, suc, ◌+◌, ◌-◌, ◌≤◌, List, [], ◌∷◌, ◌++◌, append-nil, length, length-append, arith, Option, Some}
+use Rattle.std.proofs.lemmas.Bool.{eq-eqb}
 use Rattle.std.proofs.lemmas.List.{length_push}
 use Rattle.std.proofs.lemmas.List.Elements.{All-nil}
-use Rattle.std.specs.Prelude.{Bool, true, false, not, ◌==◌, if◌then◌else◌}
+use Rattle.std.specs.Prelude.{◌⊎◌, Bool, true, false, not, ◌==◌, if◌then◌else◌}
 use Rattle.std.specs.List.{flat_map}
 use Rattle.batch_journal.proofs.Held.{all_named}
-use Rattle.batch_journal.specs.Frames.{Frame, batches_in, operations_in}
+use Rattle.batch_journal.specs.Frames.{Frame, journal_bytes, batches_in, operations_in}
 use Rattle.batch_journal.specs.Moments.{LeavesOnly, TellsAsBefore, IsTold}
 use Rattle.batch_journal.specs.Mounting.{IsMountOf, ImageOrHeader}
 use Rattle.batch_journal.specs.Reading.{IsObjectOf}
@@ -22,7 +23,12 @@ use Rattle.timeline.specs.declared.back_log.BackLog.{BackLog}
 use Rattle.timeline.specs.declared.back_log.End.{End}
 use Rattle.timeline.specs.declared.back_log.Missed.{Missed}
 use Rattle.timeline.specs.declared.back_log.Release.{Release}
+use Rattle.timeline.specs.declared.caller.Cause.TheVariants as causes
 use Rattle.output_gate.specs.Down.{place_down, IsDown}
+use Rattle.do_disk.specs.Disk.{HasRisen}
+use Rattle.timeline.specs.declared.back_log.Stop.{Stop}
+use Rattle.output_gate.specs.Counted.{AreCounted}
+use Rattle.output_gate.specs.Ended.{IsLogged, IsLoggedDown}
 use Rattle.output_gate.specs.Gate.{Place, place_of, IsGate}
 use Rattle.output_gate.specs.Held.{waiting_in}
 use Rattle.output_gate.specs.Kept.{NameOnly}
@@ -36,8 +42,11 @@ use Rattle.output_gate.specs.declared.back.Mode.TheVariants.{Mounted as IsMounte
 use Rattle.output_gate.specs.declared.store.Store.TheVariants as store
 use Rattle.output_gate.proofs.Flushes.{front_none, placed}
 use Rattle.output_gate.proofs.Helds.{true_false, halts_none}
-use Rattle.output_gate.proofs.Histories.{same_below, follows as history_follows, follows_fits}
-use Rattle.output_gate.proofs.Mends.{found_one, old_found, more_found, lists_of, begins_old, begins_more, flown_with, still_down, mounting_leaves, full_leaves}
+use Rattle.output_gate.proofs.Counts.{counts_same, counts_missed_more}
+use Rattle.output_gate.proofs.Endings.{logged_begun, down_same}
+use Rattle.output_gate.proofs.Histories.{follows as history_follows, follows_fits}
+use Rattle.output_gate.proofs.Places.{missed_place}
+use Rattle.output_gate.proofs.Mends.{found_one, found_old, old_found, more_found, lists_of, begins_old, begins_more, flown_with, still_down, mounting_leaves, full_leaves}
 use Rattle.output_gate.proofs.Named.{some_none}
 use Rattle.output_gate.proofs.Steps.{told_before}
 
@@ -64,11 +73,6 @@ place_followed front back end logs n stopped followed ended taken last rest is =
     ∙ sym (ap (λ (m : ℕ). going_on front m (own_entries back) (own_flights back) ∷ kept_head end.kept (incarnations front back m)) stopped)
     ∙ ap f is)
 
--- mountings that fail don't change the place
-pub missed_place : (front : Fronted) (back : Backed) (all : List Missed) → place_of front (record back { downs = all }) ≡ place_of front back
-missed_place front back all =
-    ap (λ (h : History). record (place_of front back) { older = h }) (same_below front back (record back { downs = all }) (length back.stops) (λ index less. refl))
-
 -- the two ways of being unmounted differ
 abbrev is_down_mode : Mode → Type 0
 is_down_mode (Down ending) = Unit {0}
@@ -80,6 +84,11 @@ down_wanted ending same = subst is_down_mode same tt
 kept_most : (ending : Ending) (whole : Bool) → ending.flown ≤ ending.whole → (if whole then ending.whole else ending.flown) ≤ ending.whole
 kept_most ending true more = omega arith
 kept_most ending false more = more
+
+-- what was kept is one of the two, and of a full journal what was durable
+kept_one : (ending : Ending) (whole : Bool) → ((if whole then ending.whole else ending.flown) ≡ ending.flown) ⊎ ((if whole then ending.whole else ending.flown) ≡ ending.whole)
+kept_one ending true = inr refl
+kept_one ending false = inl refl
 
 -- the back behind a mounting
 abbrev pub begun : {D : Type 0} → Back D → BackLog → Journal D → Contents → ℕ → Back D
@@ -124,7 +133,7 @@ module _ {D : Type 0} (told : D → Option (List ℕ)) (image : D → List ℕ �
     halted = λ has. absurd (true_false (sym has ∙ s.halts));
   }
 
-module _ {D : Type 0} (moment_of : D → ℕ) (left_since : D → ℕ → List ℕ → Type 0) (told : D → Option (List ℕ)) (image : D → List ℕ → Type 0)
+module _ {D : Type 0} (moment_of : D → ℕ) (left_since : D → ℕ → List ℕ → Type 0) (told : D → Option (List ℕ)) (image : D → List ℕ → Type 0) (faults_of : D → ℕ)
     (reads_an_image : (disk : D) (c : List ℕ) → told disk ≡ Some c → image disk c) (start : List (List Op)) (opening : ℕ) where
   -- so many batches of the ended incarnation were found
   serves_found : (disk : D) (ending : Ending) (old : Back D) (log : BackLog) (end : End) (mounted : Mounted D) (now : ℕ) (frames : List Frame) (found : List (List Op))
@@ -190,25 +199,43 @@ module _ {D : Type 0} (moment_of : D → ℕ) (left_since : D → ℕ → List �
       (record (lists_of moment_of left_since told image reads_an_image start opening disk ending old s) { flown = s.flown; staged = [] }) (length s.flown) (length s.flown))
       (sym (so ∙ s.is_flown front)) (begins_old moment_of left_since told image reads_an_image start opening disk ending old s front (disk_in mounted.journal) leaves (s.mended wanted)))
 
+  begun_full : (disk : D) (ending : Ending) (old : Back D) (s : IsEnded moment_of left_since image start opening disk ending old) (mounted : Mounted D)
+      (is : IsMountOf told image moment_of left_since disk mounted) (c : List ℕ) → told disk ≡ Some c → (needed limit : ℕ) → ending.cause ≡ causes.Full needed limit → kept_at ending mounted.journal.end ≡ ending.flown
+  begun_full disk ending old s mounted is c tells needed limit full =
+      let frames : is.frames ≡ s.frames = found_old moment_of left_since told image reads_an_image start opening disk ending old s c is.frames needed limit tells full is.recovers in
+      ap (λ (b : Bool). if not b then ending.whole else ending.flown)
+      (eq-eqb mounted.journal.end ending.end (is.at_rest.end ∙ ap (λ (fs : List Frame). length (journal_bytes fs) + 1) frames ∙ sym s.end))
+
   pub mounted_begun : (disk : D) (ending : Ending) (old new : Back D) (mounted : Mounted D) → (safe : IsSafeEnded disk ending old)
       → (IsTold (told disk) → IsEnded moment_of left_since image start opening disk ending old) → old.mode ≡ Wanted ending
       → (is : IsMountOf told image moment_of left_since disk mounted) → is_own_object mounted.identity old.identity
       → ((object : Object) → IsStaged mounted.journal object [])
       → LeavesOnly moment_of left_since disk (disk_in mounted.journal) (ImageOrHeader (told disk) (image disk))
-      → TellsAsBefore (told disk) (told (disk_in mounted.journal)) → Begins old new ending mounted.journal mounted.map
-      → IsMounted moment_of left_since told image start opening true new
-  mounted_begun disk ending old new mounted safe s wanted is own staged leaves telling done =
+      → TellsAsBefore (told disk) (told (disk_in mounted.journal)) → IsLoggedDown (IsTold (told disk)) (backed old.log) ending old.settled old.durable
+      → AreCounted (IsTold (told disk)) (backed old.log) (faults_of disk) → faults_of disk ≤ faults_of (disk_in mounted.journal)
+      → Begins old new ending mounted.journal mounted.map
+      → IsMounted moment_of left_since told image faults_of start opening true new
+  mounted_begun disk ending old new mounted safe s wanted is own staged leaves telling l counted up done =
       let kept : ℕ = kept_at ending mounted.journal.end in
       let now : ℕ = old.durable + (kept - ending.flown) in
       let within : now ≤ old.durable + (ending.whole - ending.flown) = omega (arith, kept_most ending (not (mounted.journal.end == ending.end)) safe.more) in
-      let made : IsMounted moment_of left_since told image start opening true (begun old new.log mounted.journal mounted.map now) = record {
+      let made : IsMounted moment_of left_since told image faults_of start opening true (begun old new.log mounted.journal mounted.map now) = record {
         journal = mounted.journal;
         safe = safe_begun told image disk ending old new.log (record { kept = kept; cause = ending.cause }) mounted now is.frames safe done.log within is.at_rest is.object own staged;
         serves = λ tells.
             let before = told_before (told disk) (told (disk_in mounted.journal)) telling tells in
             serves_begun disk ending old new.log mounted kept (not (mounted.journal.end == ending.end)) safe (s before) wanted done.log is own staged leaves before.0 before.1 refl refl;
+        logged =
+            let tells : Type 0 = IsTold (told (disk_in mounted.journal)) in
+            let before_it : tells → IsTold (told disk) = told_before (told disk) (told (disk_in mounted.journal)) telling in
+            let one = kept_one ending (not (mounted.journal.end == ending.end)) in
+            subst (λ (x : Backed × ℕ). IsLogged tells x.0 old.settled x.1 now now) (ap (λ (b : Backed). (b, 0)) (sym done.log) ∙ ap (λ (n : ℕ). (backed new.log, n)) (sym safe.none))
+            (logged_begun (IsTold (told disk)) tells before_it (backed old.log) ending old.settled old.durable kept now safe.logs safe.gone one
+            (λ yes. let t = before_it yes in (one, begun_full disk ending old (s t) mounted is t.0 t.1)) safe.more refl l);
+        counts = counts_same (IsTold (told disk)) (IsTold (told (disk_in mounted.journal))) (told_before (told disk) (told (disk_in mounted.journal)) telling) (backed old.log)
+            (faults_of disk) (faults_of (disk_in mounted.journal)) counted (backed new.log) (ap (λ (b : Backed). b.stops) done.log) (ap (λ (b : Backed). b.downs) done.log) up;
       } in
-      subst (IsMounted moment_of left_since told image start opening true) (sym done.same) made
+      subst (IsMounted moment_of left_since told image faults_of start opening true) (sym done.same) made
 
   -- the mounting failed
   pub unmounted_missed : (disk left : D) (ending : Ending) (old new : Back D) (before after : ℕ) → (safe : IsSafeEnded disk ending old)
@@ -216,11 +243,13 @@ module _ {D : Type 0} (moment_of : D → ℕ) (left_since : D → ℕ → List �
       → LeavesOnly moment_of left_since disk left (ImageOrHeader (told disk) (image disk))
       → TellsAsBefore (told disk) (told left)
       → ((c : List ℕ) → image left c → ImageOrHeader (told disk) (image disk) c)
+      → IsLoggedDown (IsTold (told disk)) (backed old.log) ending old.settled old.durable
+      → AreCounted (IsTold (told disk)) (backed old.log) (faults_of disk) → before ≡ faults_of disk → after ≡ faults_of left → (IsTold (told left) → HasRisen (faults_of disk) (faults_of left))
       → Misses old new ending left before after
-      → IsUnmounted moment_of left_since told image start opening new
-  unmounted_missed disk left ending old new before after safe s leaves telling images done =
+      → IsUnmounted moment_of left_since told image faults_of start opening new
+  unmounted_missed disk left ending old new before after safe s leaves telling images l counted from into rises done =
       let log : backed new.log ≡ record (backed old.log) { downs = old.log.downs.items ++ record { incarnation = old.number; before = before; after = after } ∷ [] } = done.log in
-      let made : IsUnmounted moment_of left_since told image start opening (record old { store = store.Disk left; mode = Down ending; log = new.log }) = record {
+      let made : IsUnmounted moment_of left_since told image faults_of start opening (record old { store = store.Disk left; mode = Down ending; log = new.log }) = record {
         disk = left;
         ending = ending;
         safe = record {
@@ -265,5 +294,15 @@ module _ {D : Type 0} (moment_of : D → ℕ) (left_since : D → ℕ → List �
               number = e.number ∙ ap (λ (b : Backed). suc (length b.stops)) (sym log);
               full = λ needed limit is c now. full_leaves moment_of left_since told image reads_an_image start opening disk ending old e needed limit is c (images c now);
             };
+        logged =
+            let tells : Type 0 = IsTold (told left) in
+            let all : List Missed = old.log.downs.items ++ record { incarnation = old.number; before = before; after = after } ∷ [] in
+            subst (λ (b : Backed). IsLoggedDown tells b ending old.settled old.durable) (sym log)
+            (down_same (IsTold (told disk)) tells (told_before (told disk) (told left) telling) (backed old.log) ending old.settled old.durable (record (backed old.log) { downs = all }) refl refl refl
+            (λ front. missed_place front (backed old.log) all) l);
+        counts = counts_missed_more (IsTold (told disk)) (IsTold (told left)) (told_before (told disk) (told left) telling) (backed old.log) (faults_of disk) (faults_of left) counted (backed new.log)
+            (record { incarnation = old.number; before = before; after = after }) (ap (λ (b : Backed). b.stops) log) (ap (λ (b : Backed). b.downs) log) safe.number
+            (λ none. absurd (omega (arith, safe.gone, ap (λ (ss : List Stop). length ss) none))) (omega (arith, from)) (omega (arith, into))
+            (λ yes. subst (λ (x : ℕ × ℕ). HasRisen x.0 x.1) (ap (λ (n : ℕ). (n, faults_of left)) (sym from) ∙ ap (λ (n : ℕ). (before, n)) (sym into)) (rises yes));
       } in
-      subst (IsUnmounted moment_of left_since told image start opening) (sym done.same) made
+      subst (IsUnmounted moment_of left_since told image faults_of start opening) (sym done.same) made

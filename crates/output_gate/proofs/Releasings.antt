@@ -8,6 +8,7 @@ use Rattle.timeline.specs.declared.back_log.BackLog.{BackLog}
 use Rattle.output_gate.specs.Fits.{last_of}
 use Rattle.output_gate.proofs.Unmounted.{or_true}
 use Rattle.std.specs.Vec.{vec_capacity}
+use Rattle.batch_journal.specs.Moments.{IsTold}
 use Rattle.batch_journal.specs.Rest.{disk_in}
 use Rattle.storage_map.specs.Limits.{Object}
 use Rattle.storage_map.specs.declared.op.Op.{Op}
@@ -15,6 +16,7 @@ use Rattle.timeline.specs.History.{History, line, batches_in as batches_taken}
 use Rattle.timeline.specs.Logs.{Fronted, Backed, backed}
 use Rattle.timeline.specs.Passed.{Passed}
 use Rattle.timeline.specs.declared.back_log.Release.{Release}
+use Rattle.output_gate.specs.Ended.{IsLogged}
 use Rattle.output_gate.specs.Gate.{Place, place_of, history_at, Lists, IsGate}
 use Rattle.output_gate.specs.Held.{passed_by, passed_of, waiting_in, is_held_halt, has_halt, HaltsLast}
 use Rattle.output_gate.specs.Kept.{RecoversToPrefix}
@@ -26,19 +28,16 @@ use Rattle.output_gate.specs.declared.held.Held.{Held}
 use Rattle.output_gate.specs.declared.held.HeldBody.{HeldBody}
 use Rattle.output_gate.specs.declared.held.HeldBody.TheVariants.{Message, Sync, Halt}
 use Rattle.output_gate.proofs.Gates.{releases}
-use Rattle.output_gate.proofs.Histories.{same_below}
+use Rattle.output_gate.proofs.Counts.{counts_stay}
+use Rattle.output_gate.proofs.Endings.{logged_same}
 use Rattle.output_gate.proofs.Kept.{first_of}
+use Rattle.output_gate.proofs.Places.{released_place}
 
 -- what is held is a message or isn't
 pub one_or_none : (b : HeldBody) (needs since : ℕ) → (passed_by b needs since ≡ []) ⊎ ((q : Passed) × (passed_by b needs since ≡ q ∷ []) × (q.needs ≡ needs))
 one_or_none (Message sent) needs since = inr (record { message = sent; needs = needs; since = since }, refl, refl)
 one_or_none (Sync number) needs since = inl refl
 one_or_none (Halt cause) needs since = inl refl
-
--- releases don't change the place
-pub released_place : (front : Fronted) (back : Backed) (all : List Release) → place_of front (record back { released = all }) ≡ place_of front back
-released_place front back all =
-    ap (λ (h : History). record (place_of front back) { older = h }) (same_below front back (record back { released = all }) (length back.stops) (λ index less. refl))
 
 module _ {D : Type 0} (moment_of : D → ℕ) (left_since : D → ℕ → List ℕ → Type 0) (object : Option Object) (start : List (List Op)) (opening : ℕ) (front : Fronted) (p : Place) (l : Lists) (before durable : ℕ) where
   pub lets_go : (disk : D) (ps rest : List Passed) (needs : ℕ) → IsGate moment_of left_since object start opening front p disk l before durable
@@ -95,7 +94,7 @@ module _ {D : Type 0} (told : D → Option (List ℕ)) (image : D → List ℕ �
     halted = λ has. let e = s.halted (ap has_halt first ∙ halt_rest h held.items has) in (e.0, ap (λ (b : Backed). last_of b.taken) is ∙ e.1, e.2, e.3);
   }
 
-module _ {D : Type 0} (moment_of : D → ℕ) (left_since : D → ℕ → List ℕ → Type 0) (told : D → Option (List ℕ)) (image : D → List ℕ → Type 0)
+module _ {D : Type 0} (moment_of : D → ℕ) (left_since : D → ℕ → List ℕ → Type 0) (told : D → Option (List ℕ)) (image : D → List ℕ → Type 0) (faults_of : D → ℕ)
     (only_now : (disk : D) (c : List ℕ) → left_since disk (moment_of disk) c → image disk c) (start : List (List Op)) (opening : ℕ) (sound : Bool) where
   -- a crash now leaves all that is durable
   now_holds : (journal : Journal D) (back : Back D) (s : IsServing moment_of left_since told image start opening sound journal back) (front : Fronted) (c : List ℕ) → left_since (disk_in journal) (moment_of (disk_in journal)) c
@@ -137,12 +136,19 @@ module _ {D : Type 0} (moment_of : D → ℕ) (left_since : D → ℕ → List �
         cache = s.cache;
       }
 
-  pub mounted_release : (old : Back D) (log : BackLog) (held : VecDeque Held Global) (h : Held) (m : IsMounted moment_of left_since told image start opening sound old)
+  pub mounted_release : (old : Back D) (log : BackLog) (held : VecDeque Held Global) (h : Held) (m : IsMounted moment_of left_since told image faults_of start opening sound old)
       → old.held.items ≡ h ∷ held.items → h.needs ≤ old.durable
       → LogReleased old.log log (old.log.released.items ++ map (release_at (moment_of (disk_in m.journal))) (passed_of h)) → log.flights ≡ old.log.flights → log.stops ≡ old.log.stops
-      → IsMounted moment_of left_since told image start opening sound (record old { held = held; log = log })
+      → IsMounted moment_of left_since told image faults_of start opening sound (record old { held = held; log = log })
   mounted_release old log held h m first ready is flights stops = record {
     journal = m.journal;
     safe = safe_release told image old log held h m.journal (old.log.released.items ++ map (release_at (moment_of (disk_in m.journal))) (passed_of h)) m.safe first is flights stops;
     serves = λ tells. serves_release old log held h m.journal (m.serves tells) first ready is flights stops;
+    logged =
+        let all : List Release = old.log.released.items ++ map (release_at (moment_of (disk_in m.journal))) (passed_of h) in
+        let tells : Type 0 = IsTold (told (disk_in m.journal)) in
+        subst (λ (b : Backed). IsLogged tells b old.settled old.own old.before old.durable) (sym is)
+        (logged_same tells tells (λ yes. yes) (backed old.log) old.settled old.own old.before old.durable (record (backed old.log) { released = all }) refl refl refl
+        (λ front. released_place front (backed old.log) all) m.logged);
+    counts = counts_stay told faults_of (disk_in m.journal) (disk_in m.journal) (backed old.log) (backed log) refl (ap (λ (b : Backed). b.stops) is) (ap (λ (b : Backed). b.downs) is) m.counts;
   }

@@ -1,21 +1,22 @@
 -- The restart behind a halt.
 use Rattle.std.proofs.Common.{◌≡◌, ◌∙◌, ap, sym, refl, subst, ℕ, suc, ◌+◌, ◌≤◌, List, [], ◌∷◌, ◌++◌, length, sum, arith, Option, Some, None, Global}
 use Rattle.std.proofs.lemmas.List.{length_push}
-use Rattle.std.specs.Prelude.{Bool, true, false}
+use Rattle.std.specs.Prelude.{Bool, true, ◌||◌}
 use Rattle.std.specs.declared.collections.VecDeque.{VecDeque}
 use Rattle.batch_journal.specs.Rest.{disk_in}
 use Rattle.batch_journal.specs.declared.journal.Journal.{Journal}
 use Rattle.storage_map.specs.declared.op.Op.{Op}
 use Rattle.timeline.specs.History.{Incarnation, entries_of, batches_in as batches_taken}
 use Rattle.timeline.specs.Logs.{Fronted, Backed, backed}
-use Rattle.timeline.specs.Passed.{Passed, discards, bound_if, bound_by}
+use Rattle.timeline.specs.Passed.{Passed, bound_if, bound_by}
 use Rattle.timeline.specs.declared.back_log.BackLog.{BackLog}
 use Rattle.timeline.specs.declared.back_log.End.{End}
 use Rattle.timeline.specs.declared.back_log.Release.{Release}
 use Rattle.timeline.specs.declared.back_log.Stop.{Stop}
 use Rattle.timeline.specs.declared.caller.Cause.{Cause}
-use Rattle.timeline.specs.declared.caller.Cause.TheVariants as cause
+use Rattle.batch_journal.specs.Moments.{IsTold}
 use Rattle.output_gate.specs.Down.{place_down}
+use Rattle.output_gate.specs.Ended.{IsLogged}
 use Rattle.output_gate.specs.Fits.{is_halting}
 use Rattle.output_gate.specs.Gate.{Place, place_of, Lists, IsGate}
 use Rattle.output_gate.specs.Held.{passed_by, passed_of, waiting_in, is_held_halt, has_halt, halts_well, HaltsLast}
@@ -25,10 +26,13 @@ use Rattle.output_gate.specs.declared.back.Back.{Back}
 use Rattle.output_gate.specs.declared.held.Held.{Held}
 use Rattle.output_gate.specs.declared.held.HeldBody.{HeldBody}
 use Rattle.output_gate.specs.declared.held.HeldBody.TheVariants.{Halt}
-use Rattle.output_gate.proofs.Flushes.{front_none, placed}
+use Rattle.output_gate.proofs.Flushes.{front_none}
+use Rattle.output_gate.proofs.Counts.{counts_ended, no_counts}
+use Rattle.output_gate.proofs.Endings.{keeps_all, logged_restarted}
 use Rattle.output_gate.proofs.Helds.{true_false}
-use Rattle.output_gate.proofs.Histories.{all_below, stops as history_stops, stops_fit, follows_fits}
+use Rattle.output_gate.proofs.Histories.{all_below, stops_fit, follows_fits}
 use Rattle.output_gate.proofs.Mountings.{place_followed}
+use Rattle.output_gate.proofs.Places.{place_stopped}
 use Rattle.output_gate.proofs.Unmounted.{restarts}
 
 -- the back behind a halt
@@ -37,14 +41,6 @@ restarted old log held = record old { held = held; own = 0; number = old.number 
 
 abbrev pub LogRestarts : {D : Type 0} → Back D → BackLog → Cause → Type 0
 LogRestarts old log c = backed log ≡ record (backed old.log) { stops = old.log.stops.items ++ stop_of old c ∷ []; ends = old.log.ends.items ++ record { kept = old.own; cause = c } ∷ [] }
-
--- a front's cause discards nothing
-keeps_all : (c : Cause) → is_halting c ≡ true → discards c false ≡ false
-keeps_all (cause.Disk before after) is = absurd (true_false (sym is))
-keeps_all (cause.Full needed limit) is = absurd (true_false (sym is))
-keeps_all cause.Exceeded is = refl
-keeps_all cause.StartThrew is = refl
-keeps_all cause.BlockThrew is = refl
 
 none_staged : {X : Type 0} (xs : List X) (n : ℕ) → n ≡ n + length xs → xs ≡ []
 none_staged [] n is = refl
@@ -64,6 +60,16 @@ last_halt : {D : Type 0} (old : Back D) (held : VecDeque Held Global) (h : Held)
 last_halt old held h c last halting =
     let all = (subst (HaltsLast old.before) halting.first last).0 (ap is_held_halt halting.body) in
     (all.0, all.1, sym (ap halts_well halting.body) ∙ all.2)
+
+-- where the log stands behind a halt
+restart_place : (front : Fronted) (back : Backed) (stop : Stop) (own : ℕ) → AreLogs back → stop.flights ≡ length back.flights → length back.ends ≡ length back.stops
+    → place_of front (record back { stops = back.stops ++ stop ∷ []; ends = back.ends ++ record { kept = own; cause = stop.cause } ∷ [] })
+    ≡ record { ended = suc (length back.stops); taken = []; flights = []; older = record (going_on front (length back.stops) (own_entries back) (own_flights back)) { stop = Some stop; kept = Some own } ∷ older_of front back }
+restart_place front back stop own logs all followed =
+    let mid : Backed = record back { stops = back.stops ++ stop ∷ [] } in
+    let n : ℕ = length back.stops in
+    place_followed front mid (record { kept = own; cause = stop.cause }) (stops_fit front_none back stop logs all) n (omega (arith, length_push back.stops stop)) followed
+    (suc n) [] (record (going_on front n (own_entries back) (own_flights back)) { stop = Some stop }) (older_of front back) (place_stopped front back stop logs all)
 
 module _ {D : Type 0} (told : D → Option (List ℕ)) (image : D → List ℕ → Type 0) where
   halt_room : (old : Back D) (log : BackLog) (held : VecDeque Held Global) (c : Cause) → HasRoom old → LogRestarts old log c → old.before ≡ old.durable → HasRoom (restarted old log held)
@@ -109,7 +115,7 @@ module _ {D : Type 0} (told : D → Option (List ℕ)) (image : D → List ℕ �
         halted = λ has. absurd (true_false (sym has ∙ ap has_halt last.0));
       }
 
-module _ {D : Type 0} (moment_of : D → ℕ) (left_since : D → ℕ → List ℕ → Type 0) (told : D → Option (List ℕ)) (image : D → List ℕ → Type 0) (start : List (List Op)) (opening : ℕ) (sound : Bool) where
+module _ {D : Type 0} (moment_of : D → ℕ) (left_since : D → ℕ → List ℕ → Type 0) (told : D → Option (List ℕ)) (image : D → List ℕ → Type 0) (faults_of : D → ℕ) (start : List (List Op)) (opening : ℕ) (sound : Bool) where
   serves_restart : (old : Back D) (log : BackLog) (held : VecDeque Held Global) (h : Held) (c : Cause) (journal : Journal D) → IsSafe told image journal old
       → IsServing moment_of left_since told image start opening sound journal old → Halting old held h c → LogRestarts old log c
       → IsServing moment_of left_since told image start opening sound journal (restarted old log held)
@@ -118,16 +124,10 @@ module _ {D : Type 0} (moment_of : D → ℕ) (left_since : D → ℕ → List �
       let even : old.before ≡ old.durable = omega (arith, safe.unflown, last.1, halting.ready) in
       let b : Backed = backed old.log in
       let stop : Stop = stop_of old c in
-      let end : End = record { kept = old.own; cause = c } in
-      let mid : Backed = record b { stops = b.stops ++ stop ∷ [] } in
       let n : ℕ = length old.log.stops.items in
-      let stopped : length mid.stops ≡ suc n = omega (arith, length_push b.stops stop) in
-      let logs : AreLogs mid = stops_fit front_none b stop s.room.logs refl in
       let ended : Fronted → Incarnation = λ front. record (going_on front n (own_entries b) (own_flights b)) { stop = Some stop } in
-      let stopped_place : (front : Fronted) → place_of front mid ≡ place_down (suc n) [] (ended front) (older_of front b) =
-      λ front. placed front mid (place_down (suc n) [] (ended front) (older_of front b)) logs (history_stops front b stop s.room.logs refl) in
       let place : (front : Fronted) → place_of front (backed log) ≡ record (place_down (suc n) [] (ended front) (older_of front b)) { older = record (ended front) { kept = Some old.own } ∷ older_of front b } =
-      λ front. ap (place_of front) is ∙ place_followed front mid end logs n stopped s.room.followed (suc n) [] (ended front) (older_of front b) (stopped_place front) in
+      λ front. ap (place_of front) is ∙ restart_place front b stop old.own s.room.logs refl s.room.followed in
       let waits : waiting_in old.held.items ≡ [] =
       ap waiting_in halting.first ∙ ap (λ ps. ps ++ waiting_in held.items) (halt_waits h c halting.body) ∙ ap waiting_in last.0 in
       let bound : bound_by (Some stop) (own_flights b) ≡ None = ap (λ yes. bound_if yes c (sum (own_flights b))) (keeps_all c last.2) in
@@ -159,10 +159,23 @@ module _ {D : Type 0} (moment_of : D → ℕ) (left_since : D → ℕ → List �
         cache = s.cache;
       }
 
-  pub mounted_restart : (old : Back D) (log : BackLog) (held : VecDeque Held Global) (h : Held) (c : Cause) (m : IsMounted moment_of left_since told image start opening sound old)
-      → Halting old held h c → LogRestarts old log c → IsMounted moment_of left_since told image start opening sound (restarted old log held)
+  pub mounted_restart : (old : Back D) (log : BackLog) (held : VecDeque Held Global) (h : Held) (c : Cause) (m : IsMounted moment_of left_since told image faults_of start opening sound old)
+      → Halting old held h c → LogRestarts old log c → IsMounted moment_of left_since told image faults_of start opening sound (restarted old log held)
   mounted_restart old log held h c m halting is = record {
     journal = m.journal;
     safe = safe_restart told image old log held h c m.journal m.safe halting is;
     serves = λ tells. serves_restart old log held h c m.journal m.safe (m.serves tells) halting is;
+    logged =
+        let s = m.safe in
+        let last = last_halt old held h c s.halts halting in
+        let e = s.halted (ap has_halt halting.first ∙ ap (λ (b : HeldBody). is_held_halt b || has_halt held.items) halting.body) in
+        let tells : Type 0 = IsTold (told (disk_in m.journal)) in
+        subst (λ (b : Backed). IsLogged tells b old.settled 0 old.before old.durable) (sym is)
+        (logged_restarted tells tells (λ yes. yes) (backed old.log) old.settled old.own old.before old.durable (stop_of old c) e.0 s.room.logs refl s.room.followed s.room.own
+        (omega (arith, s.unflown, last.1, halting.ready)) refl refl last.2 e.1 (e.2 ∙ s.room.number) e.3 (λ front. restart_place front (backed old.log) (stop_of old c) old.own s.room.logs refl s.room.followed) m.logged);
+    counts =
+        let last = last_halt old held h c m.safe.halts halting in
+        let tells : Type 0 = IsTold (told (disk_in m.journal)) in
+        counts_ended tells tells (λ yes. yes) (backed old.log) (faults_of (disk_in m.journal)) (faults_of (disk_in m.journal)) m.counts (backed log) (stop_of old c)
+        (ap (λ (b : Backed). b.stops) is) (ap (λ (b : Backed). b.downs) is) (no_counts c last.2) (omega arith);
   }

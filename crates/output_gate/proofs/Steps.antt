@@ -2,7 +2,7 @@
 use Rattle.std.proofs.Common.{◌≡◌, ◌≢◌, ◌∙◌, ap, sym, refl, subst, inl, inr, ℕ, suc, ◌+◌, ◌-◌, ◌<◌, ◌≤◌, List, [], ◌∷◌, ◌++◌, length, arith, Option, Some, None, Ok, Err}
 use Rattle.std.proofs.lemmas.List.{length_push}
 use Rattle.std.proofs.lemmas.List.Elements.{All-push}
-use Rattle.std.specs.Prelude.{true, Bool, is_some}
+use Rattle.std.specs.Prelude.{true, false, Bool, is_some}
 use Rattle.batch_journal.specs.Frames.{Frame, Name}
 use Rattle.batch_journal.specs.Moments.{TellsAsBefore, IsTold}
 use Rattle.batch_journal.specs.Rest.{IsAtRest, IsStaged, CanAppend, disk_in}
@@ -13,15 +13,23 @@ use Rattle.storage_map.specs.declared.op.Op.{Op}
 use Rattle.timeline.specs.History.{batches_in as batches_taken, entries_of}
 use Rattle.output_gate.specs.Fits.{last_of}
 use Rattle.timeline.specs.Logs.{Backed, backed}
+use Rattle.timeline.specs.Passed.{discards}
 use Rattle.timeline.specs.declared.back_log.Stop.{Stop}
+use Rattle.timeline.specs.declared.back_log.BackLog.{BackLog}
+use Rattle.timeline.specs.declared.caller.Cause.{Cause}
+use Rattle.timeline.specs.declared.caller.Cause.TheVariants as cause
+use Rattle.output_gate.specs.Counted.{stop_counts, AreCounted}
+use Rattle.output_gate.specs.Ended.{IsLogged, IsLoggedDown}
 use Rattle.output_gate.specs.Held.{has_halt}
-use Rattle.output_gate.specs.Serving.{IsSafe, IsMounted, IsSafeEnded, IsUnmounted, IsBack, Lands, CanLand, Stops, CanStop, ending_of, stop_of}
+use Rattle.output_gate.specs.Serving.{HasRoom, IsSafe, IsMounted, IsSafeEnded, IsUnmounted, IsBack, Lands, CanLand, Stops, CanStop, ending_of, stop_of}
 use Rattle.output_gate.specs.Standing.{AreLogs, own_entries}
-use Rattle.output_gate.specs.Storing.{Appends, IsDiskOf}
+use Rattle.output_gate.specs.Storing.{Appends, IsCauseOf, IsDiskOf}
 use Rattle.output_gate.specs.declared.back.Back.{Back}
 use Rattle.output_gate.specs.declared.store.Fault.{Fault}
 use Rattle.output_gate.specs.declared.store.Store.{Store}
 use Rattle.output_gate.specs.declared.store.Store.TheVariants as store
+use Rattle.output_gate.proofs.Counts.{counts_same, counts_fell, counts_ended}
+use Rattle.output_gate.proofs.Endings.{logged_flew, logged_stopped}
 use Rattle.output_gate.proofs.Flushes.{front_none, name_all, lands, ends, stopped}
 use Rattle.output_gate.proofs.Helds.{true_false, none_stays}
 use Rattle.output_gate.proofs.Histories.{flies_fit, stops_fit, all_below}
@@ -41,6 +49,41 @@ told_before old new same tells = told_if old (sym same ∙ ap is_some tells.1)
 longer : {X : Type 0} (durable before : ℕ) (xs : List X) → before ≡ durable + length xs → before ≢ durable → durable < before
 longer durable before [] is other = absurd (other (omega (arith, is)))
 longer durable before (x ∷ xs) is other = omega (arith, is)
+
+-- what the log shows behind an append that was good, and behind one that wasn't
+logged_lands : {D : Type 0} (tells later_tells : Type 0) → (later_tells → tells) → (old new : Back D) (later : Journal D) → AreLogs (backed old.log) → old.durable ≤ old.before
+    → Lands (record old { store = store.Journal later }) new → IsLogged tells (backed old.log) old.settled old.own old.before old.durable
+    → IsLogged later_tells (backed new.log) new.settled new.own new.before new.durable
+logged_lands {D} tells later_tells before_it old new later logs less done l =
+    let at : backed new.log ≡ record (backed old.log) { flights = old.log.flights.items ++ (old.before - old.durable) ∷ [] } =
+    ap backed done.log ∙ ap (λ (fs : List ℕ). record (backed old.log) { flights = fs }) done.flights in
+    subst (λ (x : Back D). IsLogged later_tells (backed x.log) x.settled x.own x.before x.durable) (sym done.same)
+    (subst (λ (b : Backed). IsLogged later_tells b old.settled old.own old.before old.before) (sym at)
+    (logged_flew tells later_tells before_it (backed old.log) old.settled old.own old.before old.durable logs less l))
+
+logged_ends : {D : Type 0} (tells later_tells : Type 0) → (later_tells → tells) → (old new : Back D) (later : Journal D) (fault : Fault) → HasRoom old → old.durable < old.before
+    → old.before ≤ old.durable + old.own → discards fault.cause false ≡ true → Stops (record old { store = store.Journal later }) new fault
+    → IsLogged tells (backed old.log) old.settled old.own old.before old.durable
+    → IsLoggedDown later_tells (backed new.log) (ending_of old fault) new.settled new.durable
+logged_ends {D} tells later_tells before_it old new later fault room more some drops done l =
+    let stop : Stop = stop_of old fault.cause in
+    let at : backed new.log ≡ record (backed old.log) { stops = old.log.stops.items ++ stop ∷ [] } =
+    ap backed done.log ∙ ap (λ (ss : List Stop). record (backed old.log) { stops = ss }) done.stops in
+    subst (λ (x : Back D). IsLoggedDown later_tells (backed x.log) (ending_of old fault) x.settled x.durable) (sym done.same)
+    (subst (λ (b : Backed). IsLoggedDown later_tells b (ending_of old fault) old.durable old.durable) (sym at)
+    (logged_stopped tells later_tells before_it (backed old.log) old.settled old.own old.before old.durable stop (ending_of old fault) room.logs refl room.followed room.own more some refl refl drops refl refl refl l))
+
+-- the counts behind an append that wasn't good
+counts_by : {D : Type 0} (faults_of : D → ℕ) (journal later : Journal D) (tells later_tells : Type 0) → (later_tells → tells) → (back next : Backed) (stop : Stop)
+    → AreCounted tells back (faults_of (disk_in journal)) → next.stops ≡ back.stops ++ stop ∷ [] → next.downs ≡ back.downs → (c : Cause) → stop.cause ≡ c → IsCauseOf faults_of journal later c
+    → faults_of (disk_in journal) ≤ faults_of (disk_in later) → AreCounted later_tells next (faults_of (disk_in later))
+counts_by faults_of journal later tells later_tells before_it back next stop counted stops downs (cause.Disk before after) by is up =
+    counts_fell tells later_tells before_it back (faults_of (disk_in journal)) (faults_of (disk_in later)) counted next stop before after stops downs by is.0 is.1 up is.2
+counts_by faults_of journal later tells later_tells before_it back next stop counted stops downs (cause.Full needed limit) by is up =
+    counts_ended tells later_tells before_it back (faults_of (disk_in journal)) (faults_of (disk_in later)) counted next stop stops downs (ap stop_counts by) up
+counts_by faults_of journal later tells later_tells before_it back next stop counted stops downs cause.Exceeded by is up = absurd is
+counts_by faults_of journal later tells later_tells before_it back next stop counted stops downs cause.StartThrew by is up = absurd is
+counts_by faults_of journal later tells later_tells before_it back next stop counted stops downs cause.BlockThrew by is up = absurd is
 
 module _ {D : Type 0} (told : D → Option (List ℕ)) (image : D → List ℕ → Type 0) where
   safe_staged : (journal : Journal D) (back : Back D) (s : IsSafe told image journal back) → back.before ≢ back.durable → s.staged ≢ []
@@ -128,8 +171,8 @@ module _ {D : Type 0} (told : D → Option (List ℕ)) (image : D → List ℕ �
 
 module _ {D : Type 0} (moment_of : D → ℕ) (left_since : D → ℕ → List ℕ → Type 0) (told : D → Option (List ℕ)) (image : D → List ℕ → Type 0) (faults_of : D → ℕ)
     (counts_now : (disk : D) (t : ℕ) (c : List ℕ) → t ≤ moment_of disk → image disk c → left_since disk t c) (start : List (List Op)) (opening : ℕ) (sound : Bool) where
-  pub mounted_lands : (old new : Back D) (after : Store D) (m : IsMounted moment_of left_since told image start opening sound old) → old.before ≢ old.durable
-      → Appends moment_of left_since told image faults_of m.journal after (Ok tt) → Lands (record old { store = after }) new → IsMounted moment_of left_since told image start opening sound new
+  pub mounted_lands : (old new : Back D) (after : Store D) (m : IsMounted moment_of left_since told image faults_of start opening sound old) → old.before ≢ old.durable
+      → Appends moment_of left_since told image faults_of m.journal after (Ok tt) → Lands (record old { store = after }) new → IsMounted moment_of left_since told image faults_of start opening sound new
   mounted_lands old new after m more a done =
       let lands_now : Lands (record old { store = store.Journal a.new }) new = subst (λ (x : Store D). Lands (record old { store = x }) new) a.is done in
       record {
@@ -137,10 +180,15 @@ module _ {D : Type 0} (moment_of : D → ℕ) (left_since : D → ℕ → List �
         safe = safe_lands told image old new m.journal a.new m.safe more a.appended a.unstaged lands_now;
         serves = λ tells. lands moment_of left_since told image counts_now start opening sound old new m.journal a.new
             (m.serves (told_before (told (disk_in m.journal)) (told (disk_in a.new)) a.telling tells)) more a.appended a.unstaged a.any_moment lands_now;
+        logged = logged_lands (IsTold (told (disk_in m.journal))) (IsTold (told (disk_in a.new))) (told_before (told (disk_in m.journal)) (told (disk_in a.new)) a.telling) old new a.new
+            m.safe.room.logs (omega (arith, m.safe.unflown)) lands_now m.logged;
+        counts = counts_same (IsTold (told (disk_in m.journal))) (IsTold (told (disk_in a.new))) (told_before (told (disk_in m.journal)) (told (disk_in a.new)) a.telling)
+            (backed old.log) (faults_of (disk_in m.journal)) (faults_of (disk_in a.new)) m.counts (backed new.log)
+            (ap (λ (log : BackLog). log.stops.items) lands_now.log) (ap (λ (log : BackLog). log.downs.items) lands_now.log) a.later;
       }
 
-  pub mounted_ends : (old new : Back D) (after : Store D) (fault : Fault) (m : IsMounted moment_of left_since told image start opening sound old) → old.before ≢ old.durable
-      → Appends moment_of left_since told image faults_of m.journal after (Err fault) → Stops (record old { store = after }) new fault → IsUnmounted moment_of left_since told image start opening new
+  pub mounted_ends : (old new : Back D) (after : Store D) (fault : Fault) (m : IsMounted moment_of left_since told image faults_of start opening sound old) → old.before ≢ old.durable
+      → Appends moment_of left_since told image faults_of m.journal after (Err fault) → Stops (record old { store = after }) new fault → IsUnmounted moment_of left_since told image faults_of start opening new
   mounted_ends old new after fault m more a done =
       let ends_now : Stops (record old { store = store.Journal a.new }) new fault = subst (λ (x : Store D). Stops (record old { store = x }) new fault) a.is done in
       record {
@@ -151,16 +199,20 @@ module _ {D : Type 0} (moment_of : D → ℕ) (left_since : D → ℕ → List �
             let s = m.serves (told_before (told (disk_in m.journal)) (told (disk_in a.new)) a.telling tells) in
             ends moment_of left_since told image counts_now start opening sound old new m.journal a.new fault s more a.any_moment
             (λ n limit is. a.full_keeps n limit s.frames is s.at_rest) a.ended.discards a.ended.end ends_now;
+        logged = logged_ends (IsTold (told (disk_in m.journal))) (IsTold (told (disk_in a.new))) (told_before (told (disk_in m.journal)) (told (disk_in a.new)) a.telling) old new a.new fault
+            m.safe.room (longer old.durable old.before m.safe.staged m.safe.unflown more) (omega (arith, m.safe.unflown, m.safe.own)) a.ended.discards ends_now m.logged;
+        counts = counts_by faults_of m.journal a.new (IsTold (told (disk_in m.journal))) (IsTold (told (disk_in a.new))) (told_before (told (disk_in m.journal)) (told (disk_in a.new)) a.telling)
+            (backed old.log) (backed new.log) (stop_of old fault.cause) m.counts ends_now.stops (ap (λ (log : BackLog). log.downs.items) ends_now.log) fault.cause refl a.ended.cause a.later;
       }
 
 -- a store that has a disk
-pub has_disk : {D : Type 0} (moment_of : D → ℕ) (left_since : D → ℕ → List ℕ → Type 0) (told : D → Option (List ℕ)) (image : D → List ℕ → Type 0) (start : List (List Op)) (opening : ℕ) (sound : Bool)
-    (back : Back D) → IsBack moment_of left_since told image start opening sound back → (disk : D) × IsDiskOf back.store disk
-has_disk {D} moment_of left_since told image start opening sound back (inl m) = (disk_in m.journal, subst (λ (s : Store D). IsDiskOf s (disk_in m.journal)) (sym m.safe.store) refl)
-has_disk moment_of left_since told image start opening sound back (inr u) = (u.disk, u.safe.store)
+pub has_disk : {D : Type 0} (moment_of : D → ℕ) (left_since : D → ℕ → List ℕ → Type 0) (told : D → Option (List ℕ)) (image : D → List ℕ → Type 0) (faults_of : D → ℕ) (start : List (List Op)) (opening : ℕ) (sound : Bool)
+    (back : Back D) → IsBack moment_of left_since told image faults_of start opening sound back → (disk : D) × IsDiskOf back.store disk
+has_disk {D} moment_of left_since told image faults_of start opening sound back (inl m) = (disk_in m.journal, subst (λ (s : Store D). IsDiskOf s (disk_in m.journal)) (sym m.safe.store) refl)
+has_disk moment_of left_since told image faults_of start opening sound back (inr u) = (u.disk, u.safe.store)
 
 -- What has something to flush is mounted.
-pub flushed_back : {D : Type 0} (moment_of : D → ℕ) (left_since : D → ℕ → List ℕ → Type 0) (told : D → Option (List ℕ)) (image : D → List ℕ → Type 0) (start : List (List Op)) (opening : ℕ) (sound : Bool)
-    (back : Back D) → back.before ≢ back.durable → IsBack moment_of left_since told image start opening sound back → IsMounted moment_of left_since told image start opening sound back
-flushed_back moment_of left_since told image start opening sound back more (inl m) = m
-flushed_back moment_of left_since told image start opening sound back more (inr u) = absurd (more u.safe.even)
+pub flushed_back : {D : Type 0} (moment_of : D → ℕ) (left_since : D → ℕ → List ℕ → Type 0) (told : D → Option (List ℕ)) (image : D → List ℕ → Type 0) (faults_of : D → ℕ) (start : List (List Op)) (opening : ℕ) (sound : Bool)
+    (back : Back D) → back.before ≢ back.durable → IsBack moment_of left_since told image faults_of start opening sound back → IsMounted moment_of left_since told image faults_of start opening sound back
+flushed_back moment_of left_since told image faults_of start opening sound back more (inl m) = m
+flushed_back moment_of left_since told image faults_of start opening sound back more (inr u) = absurd (more u.safe.even)

@@ -25,10 +25,11 @@ use Rattle.output_gate.specs.Passing.{IsSilent}
 use Rattle.output_gate.specs.declared.held.Held.{Held}
 use Rattle.timeline.specs.declared.message.Message.{Message}
 use Rattle.std.proofs.Common.{Global}
-use Rattle.std.proofs.lemmas.Bool.{eq-eqb}
 use Rattle.std.specs.declared.collections.VecDeque.{VecDeque}
-use Rattle.std.specs.Prelude.{Bool, true, false, not, nat_lt, slice_get, if◌then◌else◌}
+use Rattle.std.specs.Prelude.{Bool, true, false}
 use Rattle.storage_map.specs.Ops.{batch_bytes}
+use Rattle.output_gate.specs.Counted.{AreCounted}
+use Rattle.output_gate.specs.Ended.{IsLogged}
 use Rattle.output_gate.specs.Fits.{is_halt, last_of, comes_behind}
 use Rattle.output_gate.specs.declared.store.Store.{Store}
 use Rattle.output_gate.specs.declared.store.Store.TheVariants as store
@@ -40,7 +41,10 @@ use Rattle.output_gate.proofs.Flushes.{front_none, placed}
 use Rattle.output_gate.proofs.Helds.{true_false, halts_none, halts_push, push_none}
 use Rattle.output_gate.proofs.Named.{some_none, no_frames, named_gate}
 use Rattle.output_gate.proofs.Gates.{batches_more, takes_batch, takes_silent, takes_message}
-use Rattle.output_gate.proofs.Histories.{get_last, takes as history_takes, takes_fit}
+use Rattle.output_gate.proofs.Histories.{takes as history_takes, takes_fit}
+use Rattle.output_gate.proofs.Counts.{counts_stay}
+use Rattle.output_gate.proofs.Endings.{logged_took, logged_said, logged_same}
+use Rattle.output_gate.proofs.Ordered.{last_push, no_halt}
 
 -- the operations of one more batch
 applies : (line : List (List Op)) (ops : List Op) → apply (apply nothing (flat_map (λ x. x) line)) ops ≡ apply nothing (flat_map (λ x. x) (line ++ ops ∷ []))
@@ -115,19 +119,6 @@ same_room old log room same later cache held stuck = record {
   own_few = subst (λ (b : Backed). old.own ≤ length b.taken) (sym same.same) room.own_few;
   followed = ap (λ (b : Backed). length b.ends) same.same ∙ room.followed ∙ ap (λ (b : Backed). length b.stops) (sym same.same);
 }
-
--- the last entry of a longer log
-pub last_push : (entries : List Entry) (e : Entry) → last_of (entries ++ e ∷ []) ≡ Some e
-last_push entries e = ap (slice_get (entries ++ e ∷ [])) (omega (arith, length_push entries e)) ∙ get_last entries e
-
-abbrev given : Option Entry → Entry → Entry
-given None other = other
-given (Some e) other = e
-
--- where an entry of the newest incarnation may come, no halt is held
-no_halt : (last : Entry) (e : Entry) → last.incarnation ≡ e.incarnation → is_halt last.body ≡ true → comes_behind (Some last) e ≡ true → ⊥
-no_halt last e same halts comes =
-    true_false (sym comes ∙ ap (λ (b : Bool). if b then not (is_halt last.body) else nat_lt last.incarnation e.incarnation) (eq-eqb last.incarnation e.incarnation same) ∙ ap not halts)
 
 -- what is held: nothing more, or one more
 pub data HoldsMore (old new : List Held) (e : Entry) (before : ℕ) (more : List Passed) : Type 0 where
@@ -264,7 +255,7 @@ module _ {D : Type 0} (told : D → Option (List ℕ)) (image : D → List ℕ �
     halted = λ has. let h = s.halted (sym (ap has_halt items) ∙ has) in (h.0, ap (λ (b : Backed). last_of b.taken) same.same ∙ h.1, h.2, h.3);
   }
 
-module _ {D : Type 0} (moment_of : D → ℕ) (left_since : D → ℕ → List ℕ → Type 0) (told : D → Option (List ℕ)) (image : D → List ℕ → Type 0) (start : List (List Op)) (opening : ℕ) (sound : Bool) where
+module _ {D : Type 0} (moment_of : D → ℕ) (left_since : D → ℕ → List ℕ → Type 0) (told : D → Option (List ℕ)) (image : D → List ℕ → Type 0) (faults_of : D → ℕ) (start : List (List Op)) (opening : ℕ) (sound : Bool) where
   serves_batch : (old : Back D) (log : BackLog) (number : ℕ) (ops : List Op) (tail : Option ℕ) (journal later : Journal D) (cache : Contents) (bytes : ℕ) (object : Object)
       → IsServing moment_of left_since told image start opening sound journal old → LogTook old.log log (batch_entry old number ops tail) → old.identity ≡ Some object
       → ((batches : List (List Op)) → IsStaged journal object batches → IsStaged later object (batches ++ ops ∷ []))
@@ -417,68 +408,95 @@ module _ {D : Type 0} (moment_of : D → ℕ) (left_since : D → ℕ → List �
     cache = λ yes. let k = keeps yes in k.1 ∙ s.cache k.0;
   }
 
+  -- what the log shows behind an entry that writes nothing
+  said_logged : (old : Back D) (log : BackLog) (e : Entry) (m : IsMounted moment_of left_since told image faults_of start opening sound old)
+      → LogTook old.log log e → e.incarnation ≡ suc (length old.log.stops.items)
+      → IsLogged (IsTold (told (disk_in m.journal))) (backed log) old.settled old.own old.before old.durable
+  said_logged old log e m took is =
+      subst (λ (b : Backed). IsLogged (IsTold (told (disk_in m.journal))) b old.settled old.own old.before old.durable) (sym took.taken)
+      (logged_said (IsTold (told (disk_in m.journal))) (IsTold (told (disk_in m.journal))) (λ tells. tells) (backed old.log) old.settled old.own old.before old.durable e m.safe.room.logs is m.logged)
+
+  took_counts : (old : Back D) (log : BackLog) (e : Entry) (m : IsMounted moment_of left_since told image faults_of start opening sound old) (later : D) → later ≡ disk_in m.journal
+      → LogTook old.log log e → AreCounted (IsTold (told later)) (backed log) (faults_of later)
+  took_counts old log e m later disk took =
+      counts_stay told faults_of (disk_in m.journal) later (backed old.log) (backed log) disk (ap (λ (b : Backed). b.stops) took.taken) (ap (λ (b : Backed). b.downs) took.taken) m.counts
+
   -- All of it, over any disk.
   pub mounted_batch : (old : Back D) (log : BackLog) (number : ℕ) (ops : List Op) (tail : Option ℕ) (later : Journal D) (cache : Contents) (bytes : ℕ) (object : Object)
-      (m : IsMounted moment_of left_since told image start opening sound old) → LogTook old.log log (batch_entry old number ops tail) → old.identity ≡ Some object
+      (m : IsMounted moment_of left_since told image faults_of start opening sound old) → LogTook old.log log (batch_entry old number ops tail) → old.identity ≡ Some object
       → comes_behind (last_of old.log.taken.items) (batch_entry old number ops tail) ≡ true
       → ((batches : List (List Op)) → IsStaged m.journal object batches → IsStaged later object (batches ++ ops ∷ []))
       → ((frames : List Frame) → IsAtRest told image m.journal frames → IsAtRest told image later frames)
       → disk_in later ≡ disk_in m.journal → cache ≡ apply old.cache ops → bytes ≡ old.unflushed + length (batch_bytes ops)
-      → IsMounted moment_of left_since told image start opening sound (with_batch old log later cache bytes)
+      → IsMounted moment_of left_since told image faults_of start opening sound (with_batch old log later cache bytes)
   mounted_batch old log number ops tail later cache bytes object m took named comes staged frames disk wrote is = record {
     journal = later;
     safe = safe_batch told image old log number ops tail m.journal later cache bytes object m.safe took named comes staged frames is;
     serves = λ tells. serves_batch old log number ops tail m.journal later cache bytes object (m.serves (subst (λ (d : D). IsTold (told d)) disk tells)) took named staged frames disk wrote is;
+    logged = subst (λ (b : Backed). IsLogged (IsTold (told (disk_in later))) b old.settled (old.own + 1) (old.before + 1) old.durable) (sym took.taken)
+        (logged_took (IsTold (told (disk_in m.journal))) (IsTold (told (disk_in later))) (λ tells. subst (λ (d : D). IsTold (told d)) disk tells) (backed old.log) old.settled old.own old.before old.durable
+        (batch_entry old number ops tail) 1 m.safe.room.logs m.safe.room.number m.logged);
+    counts = took_counts old log (batch_entry old number ops tail) m (disk_in later) disk took;
   }
 
-  pub mounted_silent : (old : Back D) (log : BackLog) (held : VecDeque Held Global) (e : Entry) (m : IsMounted moment_of left_since told image start opening sound old)
+  pub mounted_silent : (old : Back D) (log : BackLog) (held : VecDeque Held Global) (e : Entry) (m : IsMounted moment_of left_since told image faults_of start opening sound old)
       → LogTook old.log log e → e.incarnation ≡ old.number → comes_behind (last_of old.log.taken.items) e ≡ true
       → is_mend e.body ≡ false → IsSilent e.body → batches_of (said_by e.body) ≡ [] → HoldsMore old.held.items held.items e old.before []
-      → IsMounted moment_of left_since told image start opening sound (record old { held = held; log = log })
+      → IsMounted moment_of left_since told image faults_of start opening sound (record old { held = held; log = log })
   mounted_silent old log held e m took own comes other silent none holds = record {
     journal = m.journal;
     safe = safe_said told image old log held e [] m.journal m.safe took own comes none holds;
     serves = λ tells. serves_silent old log held e m.journal (m.serves tells) took own other silent none (waits_as old.held.items held.items e old.before [] holds);
+    logged = said_logged old log e m took (own ∙ m.safe.room.number);
+    counts = took_counts old log e m (disk_in m.journal) refl took;
   }
 
-  pub mounted_message : (old : Back D) (log : BackLog) (held : VecDeque Held Global) (e : Entry) (sent : Message) (m : IsMounted moment_of left_since told image start opening sound old)
+  pub mounted_message : (old : Back D) (log : BackLog) (held : VecDeque Held Global) (e : Entry) (sent : Message) (m : IsMounted moment_of left_since told image faults_of start opening sound old)
       → LogTook old.log log e → e.incarnation ≡ old.number → comes_behind (last_of old.log.taken.items) e ≡ true → e.body ≡ body.Message sent
       → HoldsMore old.held.items held.items e old.before (record { message = sent; needs = old.before; since = old.number } ∷ [])
-      → IsMounted moment_of left_since told image start opening sound (record old { held = held; log = log })
+      → IsMounted moment_of left_since told image faults_of start opening sound (record old { held = held; log = log })
   mounted_message old log held e sent m took own comes says holds = record {
     journal = m.journal;
     safe = safe_said told image old log held e (record { message = sent; needs = old.before; since = old.number } ∷ []) m.journal m.safe took own comes (ap (λ b. batches_of (said_by b)) says) holds;
     serves = λ tells. serves_message old log held e sent m.journal (m.serves tells) took own says
         (waits_as old.held.items held.items e old.before (record { message = sent; needs = old.before; since = old.number } ∷ []) holds);
+    logged = said_logged old log e m took (own ∙ m.safe.room.number);
+    counts = took_counts old log e m (disk_in m.journal) refl took;
   }
 
-  pub mounted_bind : (old : Back D) (log : BackLog) (number : ℕ) (object : Object) (m : IsMounted moment_of left_since told image start opening sound old)
+  pub mounted_bind : (old : Back D) (log : BackLog) (number : ℕ) (object : Object) (m : IsMounted moment_of left_since told image faults_of start opening sound old)
       → LogTook old.log log (bind_entry old number object) → old.identity ≡ None → comes_behind (last_of old.log.taken.items) (bind_entry old number object) ≡ true
-      → IsMounted moment_of left_since told image start opening sound (record old { identity = Some object; log = log })
+      → IsMounted moment_of left_since told image faults_of start opening sound (record old { identity = Some object; log = log })
   mounted_bind old log number object m took nobody comes = record {
     journal = m.journal;
     safe = safe_bind told image old log number object m.journal m.safe took nobody comes;
     serves = λ tells. serves_bind old log number object m.journal (m.serves tells) took nobody;
+    logged = said_logged old log (bind_entry old number object) m took m.safe.room.number;
+    counts = took_counts old log (bind_entry old number object) m (disk_in m.journal) refl took;
   }
 
-  pub mounted_same : (out : Bool) (old : Back D) (log : BackLog) (held : VecDeque Held Global) (later : Journal D) (cache : Contents) (stuck : Bool) (m : IsMounted moment_of left_since told image start opening sound old)
+  pub mounted_same : (out : Bool) (old : Back D) (log : BackLog) (held : VecDeque Held Global) (later : Journal D) (cache : Contents) (stuck : Bool) (m : IsMounted moment_of left_since told image faults_of start opening sound old)
       → LogSame old.log log → held.items ≡ old.held.items
       → ((object : Object) (batches : List (List Op)) → IsStaged m.journal object batches → IsStaged later object batches)
       → ((frames : List Frame) → IsAtRest told image m.journal frames → IsAtRest told image later frames)
       → disk_in later ≡ disk_in m.journal → (out ≡ true → (sound ≡ true) × (cache ≡ old.cache))
-      → IsMounted moment_of left_since told image start opening out (record old { store = store.Journal later; cache = cache; held = held; stuck = stuck; log = log })
+      → IsMounted moment_of left_since told image faults_of start opening out (record old { store = store.Journal later; cache = cache; held = held; stuck = stuck; log = log })
   mounted_same out old log held later cache stuck m same items staged frames disk keeps = record {
     journal = later;
     safe = safe_same told image old log held m.journal later cache stuck m.safe same items staged frames;
     serves = λ tells. serves_same out old log held m.journal later cache stuck (m.serves (subst (λ (d : D). IsTold (told d)) disk tells)) same items staged frames disk keeps;
+    logged = subst (λ (b : Backed). IsLogged (IsTold (told (disk_in later))) b old.settled old.own old.before old.durable) (sym same.same)
+        (logged_same (IsTold (told (disk_in m.journal))) (IsTold (told (disk_in later))) (λ tells. subst (λ (d : D). IsTold (told d)) disk tells) (backed old.log) old.settled old.own old.before old.durable
+        (backed old.log) refl refl refl (λ front. refl) m.logged);
+    counts = counts_stay told faults_of (disk_in m.journal) (disk_in later) (backed old.log) (backed log) disk (ap (λ (b : Backed). b.stops) same.same) (ap (λ (b : Backed). b.downs) same.same) m.counts;
   }
 
   -- Memory was wanting, and what was staged stays.
   pub kept_fails : (old new : Back D) (cache : Contents) (held : VecDeque Held Global) (log : BackLog) → new ≡ record old { cache = cache; held = held; log = log }
       → LogSame old.log log → held.items ≡ old.held.items
-      → IsMounted moment_of left_since told image start opening sound old → IsMounted moment_of left_since told image start opening false new
+      → IsMounted moment_of left_since told image faults_of start opening sound old → IsMounted moment_of left_since told image faults_of start opening false new
   kept_fails old new cache held log is same items m =
-      subst (IsMounted moment_of left_since told image start opening false)
+      subst (IsMounted moment_of left_since told image faults_of start opening false)
       (ap (λ (s : Store D). record old { store = s; cache = cache; held = held; log = log }) (sym m.safe.store) ∙ sym is)
       (mounted_same false old log held m.journal cache old.stuck m same items (λ object batches staged. staged) (λ frames rest. rest) refl (λ yes. absurd (true_false (sym yes))))
 

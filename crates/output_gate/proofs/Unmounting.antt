@@ -14,7 +14,9 @@ use Rattle.timeline.specs.declared.back_log.Release.{Release}
 use Rattle.timeline.specs.declared.entry.Body.TheVariants as body
 use Rattle.timeline.specs.declared.entry.Entry.{Entry}
 use Rattle.timeline.specs.declared.message.Message.{Message}
+use Rattle.batch_journal.specs.Moments.{IsTold}
 use Rattle.output_gate.specs.Down.{IsDown}
+use Rattle.output_gate.specs.Ended.{IsLoggedDown}
 use Rattle.output_gate.specs.Gate.{Place, place_of, Lists}
 use Rattle.output_gate.specs.Held.{passed_of, waiting_in, is_held_halt, has_halt}
 use Rattle.output_gate.specs.Kept.{RecoversToPrefix}
@@ -35,7 +37,10 @@ use Rattle.output_gate.proofs.Helds.{push_none, or_right}
 use Rattle.output_gate.proofs.Histories.{takes_fit}
 use Rattle.output_gate.proofs.Mends.{one_of_down}
 use Rattle.output_gate.proofs.Mountings.{down_wanted}
-use Rattle.output_gate.proofs.Releasings.{LogReleased, one_or_none, released_place}
+use Rattle.output_gate.proofs.Counts.{counts_stay}
+use Rattle.output_gate.proofs.Endings.{down_same, down_took}
+use Rattle.output_gate.proofs.Places.{released_place}
+use Rattle.output_gate.proofs.Releasings.{LogReleased, one_or_none}
 use Rattle.output_gate.proofs.Takings.{took_place, waits_more}
 use Rattle.output_gate.specs.declared.held.HeldBody.TheVariants as held_body
 use Rattle.output_gate.proofs.Unmounted.{down_message, down_mend, are_mended}
@@ -59,7 +64,7 @@ module _ {D : Type 0} (moment_of : D → ℕ) (left_since : D → ℕ → List �
       (sym one.1)
       (releases_down moment_of left_since object start opening front ended taken last rest disk l now one.0 others (release_at (moment_of disk) one.0) g (waits ∙ ap (λ qs. qs ++ others) one.1) (omega (arith, ready, one.2)) refl holds)
 
-module _ {D : Type 0} (moment_of : D → ℕ) (left_since : D → ℕ → List ℕ → Type 0) (told : D → Option (List ℕ)) (image : D → List ℕ → Type 0)
+module _ {D : Type 0} (moment_of : D → ℕ) (left_since : D → ℕ → List ℕ → Type 0) (told : D → Option (List ℕ)) (image : D → List ℕ → Type 0) (faults_of : D → ℕ)
     (only_now : (disk : D) (c : List ℕ) → left_since disk (moment_of disk) c → image disk c)
     (reads_an_image : (disk : D) (c : List ℕ) → told disk ≡ Some c → image disk c) (start : List (List Op)) (opening : ℕ) where
   ended_release : (disk : D) (ending : Ending) (old : Back D) (log : BackLog) (held : VecDeque Held Global) (h : Held)
@@ -99,10 +104,10 @@ module _ {D : Type 0} (moment_of : D → ℕ) (left_since : D → ℕ → List �
         full = s.full;
       }
 
-  pub unmounted_release : (old : Back D) (log : BackLog) (held : VecDeque Held Global) (h : Held) (u : IsUnmounted moment_of left_since told image start opening old)
+  pub unmounted_release : (old : Back D) (log : BackLog) (held : VecDeque Held Global) (h : Held) (u : IsUnmounted moment_of left_since told image faults_of start opening old)
       → old.held.items ≡ h ∷ held.items → h.needs ≤ old.durable
       → LogReleased old.log log (old.log.released.items ++ map (release_at (moment_of u.disk)) (passed_of h))
-      → IsUnmounted moment_of left_since told image start opening (record old { held = held; log = log })
+      → IsUnmounted moment_of left_since told image faults_of start opening (record old { held = held; log = log })
   unmounted_release old log held h u first ready is = record {
     disk = u.disk;
     ending = u.ending;
@@ -121,12 +126,18 @@ module _ {D : Type 0} (moment_of : D → ℕ) (left_since : D → ℕ → List �
       halts = none_behind h held.items (sym (ap has_halt first) ∙ s.halts);
     };
     ended = λ tells. ended_release u.disk u.ending old log held h (u.ended tells) first ready is;
+    logged =
+        let all : List Release = old.log.released.items ++ map (release_at (moment_of u.disk)) (passed_of h) in
+        let tells : Type 0 = IsTold (told u.disk) in
+        subst (λ (b : Backed). IsLoggedDown tells b u.ending old.settled old.durable) (sym is)
+        (down_same tells tells (λ yes. yes) (backed old.log) u.ending old.settled old.durable (record (backed old.log) { released = all }) refl refl refl (λ front. released_place front (backed old.log) all) u.logged);
+    counts = counts_stay told faults_of u.disk u.disk (backed old.log) (backed log) refl (ap (λ (b : Backed). b.stops) is) (ap (λ (b : Backed). b.downs) is) u.counts;
   }
 
-module _ {D : Type 0} (moment_of : D → ℕ) (left_since : D → ℕ → List ℕ → Type 0) (told : D → Option (List ℕ)) (image : D → List ℕ → Type 0) (start : List (List Op)) (opening : ℕ) where
+module _ {D : Type 0} (moment_of : D → ℕ) (left_since : D → ℕ → List ℕ → Type 0) (told : D → Option (List ℕ)) (image : D → List ℕ → Type 0) (faults_of : D → ℕ) (start : List (List Op)) (opening : ℕ) where
   -- the same, where the logs and what is held have the same
-  pub unmounted_same : (old : Back D) (log : BackLog) (held : VecDeque Held Global) (stuck : Bool) (u : IsUnmounted moment_of left_since told image start opening old)
-      → backed log ≡ backed old.log → held.items ≡ old.held.items → IsUnmounted moment_of left_since told image start opening (record old { held = held; stuck = stuck; log = log })
+  pub unmounted_same : (old : Back D) (log : BackLog) (held : VecDeque Held Global) (stuck : Bool) (u : IsUnmounted moment_of left_since told image faults_of start opening old)
+      → backed log ≡ backed old.log → held.items ≡ old.held.items → IsUnmounted moment_of left_since told image faults_of start opening (record old { held = held; stuck = stuck; log = log })
   unmounted_same old log held stuck u is items = record {
     disk = u.disk;
     ending = u.ending;
@@ -170,16 +181,18 @@ module _ {D : Type 0} (moment_of : D → ℕ) (left_since : D → ℕ → List �
       number = s.number ∙ ap (λ (b : Backed). suc (length b.stops)) (sym is);
       full = s.full;
     };
+    logged = subst (λ (b : Backed). IsLoggedDown (IsTold (told u.disk)) b u.ending old.settled old.durable) (sym is) u.logged;
+    counts = counts_stay told faults_of u.disk u.disk (backed old.log) (backed log) refl (ap (λ (b : Backed). b.stops) is) (ap (λ (b : Backed). b.downs) is) u.counts;
   }
 
   -- An entry is taken that writes nothing.
-  unmounted_took : (old : Back D) (log : BackLog) (held : VecDeque Held Global) (mode : Mode) (e : Entry) (more : List Passed) (u : IsUnmounted moment_of left_since told image start opening old)
+  unmounted_took : (old : Back D) (log : BackLog) (held : VecDeque Held Global) (mode : Mode) (e : Entry) (more : List Passed) (u : IsUnmounted moment_of left_since told image faults_of start opening old)
       → LogTook old.log log e → e.incarnation ≡ old.number → batches_of (said_by e.body) ≡ [] → waiting_in held.items ≡ waiting_in old.held.items ++ more → has_halt held.items ≡ false
       → IsAtEnd u.ending mode
       → ((s : IsEnded moment_of left_since image start opening u.disk u.ending old) → mode ≡ Wanted u.ending → AreMended (s.taken ++ e ∷ []))
       → ((front : Fronted) (s : IsEnded moment_of left_since image start opening u.disk u.ending old) → IsDown moment_of left_since old.identity start opening front s.ended (s.taken ++ e ∷ []) (s.last front) (s.rest front) u.disk
       (record { released = old.log.released.items; left = s.left; waiting = waiting_in old.held.items ++ more; flown = s.flown; staged = s.flight.batches }) old.durable)
-      → IsUnmounted moment_of left_since told image start opening (record old { held = held; mode = mode; log = log })
+      → IsUnmounted moment_of left_since told image faults_of start opening (record old { held = held; mode = mode; log = log })
   unmounted_took old log held mode e more u took own silent waits free at_end mended gate =
       let number : e.incarnation ≡ suc (length old.log.stops.items) = own ∙ u.safe.number in
       let fits : AreLogs (backed log) = subst AreLogs (sym took.taken) (takes_fit front_none (backed old.log) e u.safe.logs (omega (arith, number))) in
@@ -231,12 +244,17 @@ module _ {D : Type 0} (moment_of : D → ℕ) (left_since : D → ℕ → List �
           number = omega (arith, s.number, stops);
           full = s.full;
         };
+        logged =
+            let tells : Type 0 = IsTold (told u.disk) in
+            subst (λ (b : Backed). IsLoggedDown tells b u.ending old.settled old.durable) (sym took.taken)
+            (down_took tells tells (λ yes. yes) (backed old.log) u.ending old.settled old.durable e u.safe.logs number u.logged);
+        counts = counts_stay told faults_of u.disk u.disk (backed old.log) (backed log) refl (ap (λ (b : Backed). b.stops) took.taken) (ap (λ (b : Backed). b.downs) took.taken) u.counts;
       }
 
-  pub unmounted_message : (old : Back D) (log : BackLog) (held : VecDeque Held Global) (e : Entry) (sent : Message) (u : IsUnmounted moment_of left_since told image start opening old)
+  pub unmounted_message : (old : Back D) (log : BackLog) (held : VecDeque Held Global) (e : Entry) (sent : Message) (u : IsUnmounted moment_of left_since told image faults_of start opening old)
       → LogTook old.log log e → e.incarnation ≡ old.number → e.body ≡ body.Message sent → old.mode ≡ Down u.ending
       → held.items ≡ old.held.items ++ record { body = held_body.Message sent; needs = old.before; since = old.number - 1 } ∷ []
-      → IsUnmounted moment_of left_since told image start opening (record old { held = held; log = log })
+      → IsUnmounted moment_of left_since told image faults_of start opening (record old { held = held; log = log })
   unmounted_message old log held e sent u took own says down items =
       let one : ℕ → ℕ → Passed = λ needs since. record { message = sent; needs = needs; since = since } in
       let ended : (s : IsEnded moment_of left_since image start opening u.disk u.ending old) → old.number - 1 ≡ s.ended =
@@ -251,9 +269,9 @@ module _ {D : Type 0} (moment_of : D → ℕ) (left_since : D → ℕ → List �
       (down_message moment_of left_since old.identity start opening front s.ended s.taken (s.last front) (s.rest front) u.disk
       (record { released = old.log.released.items; left = s.left; waiting = waiting_in old.held.items; flown = s.flown; staged = s.flight.batches }) old.durable e sent says (s.down front)))
 
-  pub unmounted_mend : (old : Back D) (log : BackLog) (e : Entry) (u : IsUnmounted moment_of left_since told image start opening old)
+  pub unmounted_mend : (old : Back D) (log : BackLog) (e : Entry) (u : IsUnmounted moment_of left_since told image faults_of start opening old)
       → LogTook old.log log e → e.incarnation ≡ old.number → e.body ≡ body.Mend
-      → IsUnmounted moment_of left_since told image start opening (record old { mode = Wanted u.ending; log = log })
+      → IsUnmounted moment_of left_since told image faults_of start opening (record old { mode = Wanted u.ending; log = log })
   unmounted_mend old log e u took own says =
       unmounted_took old log old.held (Wanted u.ending) e [] u took own (ap (λ b. batches_of (said_by b)) says)
       (sym (append-nil (waiting_in old.held.items))) u.safe.halts (inl refl) (λ s wanted. are_mended s.taken e says)
@@ -263,6 +281,6 @@ module _ {D : Type 0} (moment_of : D → ℕ) (left_since : D → ℕ → List �
       (down_mend moment_of left_since old.identity start opening front s.ended s.taken (s.last front) (s.rest front) u.disk
       (record { released = old.log.released.items; left = s.left; waiting = waiting_in old.held.items; flown = s.flown; staged = s.flight.batches }) old.durable e says (s.down front)))
 
-  pub unmounted_held : (old : Back D) (held : VecDeque Held Global) (u : IsUnmounted moment_of left_since told image start opening old) → held.items ≡ old.held.items
-      → IsUnmounted moment_of left_since told image start opening (record old { held = held })
+  pub unmounted_held : (old : Back D) (held : VecDeque Held Global) (u : IsUnmounted moment_of left_since told image faults_of start opening old) → held.items ≡ old.held.items
+      → IsUnmounted moment_of left_since told image faults_of start opening (record old { held = held })
   unmounted_held old held u items = unmounted_same old old.log held old.stuck u refl items

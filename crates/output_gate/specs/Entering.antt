@@ -92,62 +92,56 @@ pub record LosesEntry {D : Type 0} (old new : Back D) (got_before got : List Ent
   pub log : (backed new.log ≡ backed old.log) ⊎ (backed new.log ≡ record (backed old.log) { taken = old.log.taken.items ++ entry ∷ [] })
 
 -- What taking an entry of the newest incarnation needs while it is mounted, and does.
-pub record CanTake {D : Type 0} (moment_of : D → ℕ) (left_since : D → ℕ → List ℕ → Type 0) (told : D → Option (List ℕ)) (image : D → List ℕ → Type 0)
+pub record CanTake {D : Type 0} (moment_of : D → ℕ) (left_since : D → ℕ → List ℕ → Type 0) (told : D → Option (List ℕ)) (image : D → List ℕ → Type 0) (faults_of : D → ℕ)
     (old : Back D) (number : ℕ) (b : Body) : Type 0 where
   pub start : List (List Op)
   pub opening : ℕ
-  pub back : IsMounted moment_of left_since told image start opening true old
+  pub back : IsMounted moment_of left_since told image faults_of start opening true old
   pub room : LogRoom old.log
   pub comes : comes_behind (last_of old.log.taken.items) (record { incarnation = old.number; number = number; body = b }) ≡ true
   pub fits : fits_mounted b (is_some old.identity) ≡ true
   pub few : old.unflushed < most_unflushed
 
-pub record TakesOwn {D : Type 0} (moment_of : D → ℕ) (left_since : D → ℕ → List ℕ → Type 0) (told : D → Option (List ℕ)) (image : D → List ℕ → Type 0)
+pub record TakesOwn {D : Type 0} (moment_of : D → ℕ) (left_since : D → ℕ → List ℕ → Type 0) (told : D → Option (List ℕ)) (image : D → List ℕ → Type 0) (faults_of : D → ℕ)
     (old new : Back D) (number : ℕ) (b : Body) : Type 0 where
   pub log : backed new.log ≡ record (backed old.log) { taken = old.log.taken.items ++ record { incarnation = old.number; number = number; body = b } ∷ [] }
   pub stuck : new.stuck ≡ old.stuck
   pub holds : new.held.items ≡ old.held.items ++ held_by old.before old.number number b
-  pub back : (start : List (List Op)) (opening : ℕ) → IsMounted moment_of left_since told image start opening true old
-      → IsMounted moment_of left_since told image start opening true new
+  pub back : (start : List (List Op)) (opening : ℕ) → IsMounted moment_of left_since told image faults_of start opening true old
+      → IsMounted moment_of left_since told image faults_of start opening true new
 
-pub record FailsOwn {D : Type 0} (moment_of : D → ℕ) (left_since : D → ℕ → List ℕ → Type 0) (told : D → Option (List ℕ)) (image : D → List ℕ → Type 0)
+pub record FailsOwn {D : Type 0} (moment_of : D → ℕ) (left_since : D → ℕ → List ℕ → Type 0) (told : D → Option (List ℕ)) (image : D → List ℕ → Type 0) (faults_of : D → ℕ)
     (old new : Back D) : Type 0 where
   pub log : backed new.log ≡ backed old.log
-  pub back : (start : List (List Op)) (opening : ℕ) → IsMounted moment_of left_since told image start opening true old
-      → IsMounted moment_of left_since told image start opening false new
+  pub back : (start : List (List Op)) (opening : ℕ) → IsMounted moment_of left_since told image faults_of start opening true old
+      → IsMounted moment_of left_since told image faults_of start opening false new
 
 -- The same of the newest incarnation while it isn't mounted.
-pub record CanTakeDown {D : Type 0} (moment_of : D → ℕ) (left_since : D → ℕ → List ℕ → Type 0) (told : D → Option (List ℕ)) (image : D → List ℕ → Type 0)
+pub record CanTakeDown {D : Type 0} (moment_of : D → ℕ) (left_since : D → ℕ → List ℕ → Type 0) (told : D → Option (List ℕ)) (image : D → List ℕ → Type 0) (faults_of : D → ℕ)
     (old : Back D) (number : ℕ) (b : Body) : Type 0 where
   pub start : List (List Op)
   pub opening : ℕ
-  pub back : IsUnmounted moment_of left_since told image start opening old
+  pub back : IsUnmounted moment_of left_since told image faults_of start opening old
   pub room : LogRoom old.log
   pub fits : fits_down b ≡ true
   pub ending : Ending
   pub down : old.mode ≡ Down ending
 
-pub record TakesDown {D : Type 0} (moment_of : D → ℕ) (left_since : D → ℕ → List ℕ → Type 0) (told : D → Option (List ℕ)) (image : D → List ℕ → Type 0)
+pub record TakesDown {D : Type 0} (moment_of : D → ℕ) (left_since : D → ℕ → List ℕ → Type 0) (told : D → Option (List ℕ)) (image : D → List ℕ → Type 0) (faults_of : D → ℕ)
     (old new : Back D) (number : ℕ) (b : Body) : Type 0 where
   pub log : backed new.log ≡ record (backed old.log) { taken = old.log.taken.items ++ record { incarnation = old.number; number = number; body = b } ∷ [] }
   pub stuck : new.stuck ≡ old.stuck
   pub holds : new.held.items ≡ old.held.items ++ held_by old.before (old.number - 1) number b
-  pub back : (start : List (List Op)) (opening : ℕ) → IsUnmounted moment_of left_since told image start opening old
-      → IsUnmounted moment_of left_since told image start opening new
+  pub back : (start : List (List Op)) (opening : ℕ) → IsUnmounted moment_of left_since told image faults_of start opening old
+      → IsUnmounted moment_of left_since told image faults_of start opening new
 
-pub record FailsDown {D : Type 0} (moment_of : D → ℕ) (left_since : D → ℕ → List ℕ → Type 0) (told : D → Option (List ℕ)) (image : D → List ℕ → Type 0)
+pub record FailsDown {D : Type 0} (moment_of : D → ℕ) (left_since : D → ℕ → List ℕ → Type 0) (told : D → Option (List ℕ)) (image : D → List ℕ → Type 0) (faults_of : D → ℕ)
     (old new : Back D) : Type 0 where
   pub log : backed new.log ≡ backed old.log
-  pub back : (start : List (List Op)) (opening : ℕ) → IsUnmounted moment_of left_since told image start opening old
-      → IsUnmounted moment_of left_since told image start opening new
+  pub back : (start : List (List Op)) (opening : ℕ) → IsUnmounted moment_of left_since told image faults_of start opening old
+      → IsUnmounted moment_of left_since told image faults_of start opening new
 
 pub record TakesLate {D : Type 0} (old new : Back D) (e : Entry) : Type 0 where
   pub log : backed new.log ≡ record (backed old.log) { taken = old.log.taken.items ++ e ∷ [] }
   pub holds : new.held.items ≡ old.held.items ++ late_held old e
   pub same : new ≡ record old { held = new.held; log = new.log }
-
--- The entry that was taken is of an incarnation that has ended.
-pub record TakesLateEntry {D : Type 0} (old : Back D) (got_before got : List Entry) : Type 0 where
-  pub entry : Entry
-  pub took : got ≡ got_before ++ entry ∷ []
-  pub late : fit_of old entry ≡ fit.Late

@@ -4,6 +4,8 @@ pub mod Kept
 pub mod Gate
 pub mod Down
 pub mod Fits
+pub mod Ended
+pub mod Counted
 pub mod Held
 pub mod Storing
 pub mod Serving
@@ -13,3 +15,5 @@ pub mod Entering
 pub mod Logs
 pub mod Releasing
 pub mod Mending
+pub mod Laws
+pub mod Telling

@@ -72,6 +72,12 @@ abbrev pub IsRefusedFor : {D : Type 0} → (D → ℕ) → (D → Option (List �
 IsRefusedFor faults_of told disk (found.Refused left) = HasRisen (faults_of disk) (faults_of left) ⊎ IfTold (told disk) IsRefusedFile
 IsRefusedFor faults_of told disk found = Unit {0}
 
+-- The disk's count of faults is as before where the mounting was good, and never falls.
+abbrev pub CountsFound : {D : Type 0} → (D → ℕ) → D → Found D → Type 0
+CountsFound faults_of disk (found.Mounted mounted) = faults_of (disk_in mounted.journal) ≡ faults_of disk
+CountsFound faults_of disk (found.Refused left) = HasRisen (faults_of disk) (faults_of left) ⊎ (faults_of left ≡ faults_of disk)
+CountsFound faults_of disk (found.NoMemory left) = faults_of left ≡ faults_of disk
+
 -- Where a mounting of a disk that tells its content left the object down, the disk's count of faults rose meanwhile.
 abbrev pub FallsByFault : {D : Type 0} → (D → ℕ) → (D → Option (List ℕ)) → (old new : Back D) → Type 0
 FallsByFault {D} faults_of told old new = (disk left : D) (ending : Ending) → new.mode ≡ Down ending → IsDiskOf old.store disk → IsDiskOf new.store left
@@ -91,11 +97,11 @@ pub record CanBegin {D : Type 0} (old : Back D) (ending : Ending) : Type 0 where
   pub few : old.durable + (ending.whole - ending.flown) ≤ length old.log.taken.items
   pub room : vec_len old.log.ends + 1 ≤ vec_capacity old.log.ends
 
-pub record CanMend {D : Type 0} (moment_of : D → ℕ) (left_since : D → ℕ → List ℕ → Type 0) (told : D → Option (List ℕ)) (image : D → List ℕ → Type 0)
+pub record CanMend {D : Type 0} (moment_of : D → ℕ) (left_since : D → ℕ → List ℕ → Type 0) (told : D → Option (List ℕ)) (image : D → List ℕ → Type 0) (faults_of : D → ℕ)
     (old : Back D) (ending : Ending) : Type 0 where
   pub start : List (List Op)
   pub opening : ℕ
-  pub back : IsUnmounted moment_of left_since told image start opening old
+  pub back : IsUnmounted moment_of left_since told image faults_of start opening old
   pub wanted : old.mode ≡ Wanted ending
   pub room : MendRoom old.log
 

@@ -73,26 +73,26 @@ pub record Stays {D : Type 0} (old new : Back D) (sent_before sent : List Notice
   pub held : new.held ≡ old.held
 
 -- What letting this go needs, and does.
-pub record CanGo {D : Type 0} (moment_of : D → ℕ) (left_since : D → ℕ → List ℕ → Type 0) (told : D → Option (List ℕ)) (image : D → List ℕ → Type 0)
+pub record CanGo {D : Type 0} (moment_of : D → ℕ) (left_since : D → ℕ → List ℕ → Type 0) (told : D → Option (List ℕ)) (image : D → List ℕ → Type 0) (faults_of : D → ℕ)
     (old : Back D) (b : HeldBody) : Type 0 where
   pub start : List (List Op)
   pub opening : ℕ
-  pub back : IsBack moment_of left_since told image start opening true old
+  pub back : IsBack moment_of left_since told image faults_of start opening true old
   pub first : Held
   pub rest : List Held
   pub held : old.held.items ≡ first ∷ rest
   pub body : first.body ≡ b
   pub ready : first.needs ≤ old.durable
 
-pub record Goes {D : Type 0} (moment_of : D → ℕ) (left_since : D → ℕ → List ℕ → Type 0) (told : D → Option (List ℕ)) (image : D → List ℕ → Type 0)
+pub record Goes {D : Type 0} (moment_of : D → ℕ) (left_since : D → ℕ → List ℕ → Type 0) (told : D → Option (List ℕ)) (image : D → List ℕ → Type 0) (faults_of : D → ℕ)
     (old new : Back D) (sent_before sent : List Notice) (out_before out : List Sent) : Type 0 where
   pub releases : Releases moment_of old new sent_before sent out_before out
-  pub back : (start : List (List Op)) (opening : ℕ) → IsBack moment_of left_since told image start opening true old → IsBack moment_of left_since told image start opening true new
+  pub back : (start : List (List Op)) (opening : ℕ) → IsBack moment_of left_since told image faults_of start opening true old → IsBack moment_of left_since told image faults_of start opening true new
 
-pub record StaysPut {D : Type 0} (moment_of : D → ℕ) (left_since : D → ℕ → List ℕ → Type 0) (told : D → Option (List ℕ)) (image : D → List ℕ → Type 0)
+pub record StaysPut {D : Type 0} (moment_of : D → ℕ) (left_since : D → ℕ → List ℕ → Type 0) (told : D → Option (List ℕ)) (image : D → List ℕ → Type 0) (faults_of : D → ℕ)
     (old new : Back D) (sent_before sent : List Notice) (out_before out : List Sent) : Type 0 where
   pub stays : Stays old new sent_before sent out_before out
-  pub back : (start : List (List Op)) (opening : ℕ) → IsBack moment_of left_since told image start opening true old → IsBack moment_of left_since told image start opening false new
+  pub back : (start : List (List Op)) (opening : ℕ) → IsBack moment_of left_since told image faults_of start opening true old → IsBack moment_of left_since told image faults_of start opening false new
 
 -- One more message has left.
 pub record LogReleases (old new : BackLog) (release : Release) : Type 0 where

@@ -18,7 +18,9 @@ use Rattle.timeline.specs.Logs.{Fronted, backed}
 use Rattle.timeline.specs.Passed.{Passed}
 use Rattle.timeline.specs.declared.back_log.Stop.{Stop}
 use Rattle.timeline.specs.declared.caller.Cause.{Cause}
+use Rattle.output_gate.specs.Counted.{AreCounted}
 use Rattle.output_gate.specs.Down.{place_down, IsDown}
+use Rattle.output_gate.specs.Ended.{IsLogged, IsLoggedDown}
 use Rattle.output_gate.specs.Fits.{is_halt, last_of}
 use Rattle.output_gate.specs.Gate.{place_of, IsGate}
 use Rattle.output_gate.specs.Held.{stays, waiting_in, has_halt, HaltsLast}
@@ -83,11 +85,13 @@ pub record IsServing {D : Type 0} (moment_of : D → ℕ) (left_since : D → �
   pub cache : sound ≡ true → back.cache ≡ apply nothing (flat_map (λ ops. ops) (start ++ flown ++ staged))
 
 -- The newest incarnation is mounted.
-pub record IsMounted {D : Type 0} (moment_of : D → ℕ) (left_since : D → ℕ → List ℕ → Type 0) (told : D → Option (List ℕ)) (image : D → List ℕ → Type 0)
+pub record IsMounted {D : Type 0} (moment_of : D → ℕ) (left_since : D → ℕ → List ℕ → Type 0) (told : D → Option (List ℕ)) (image : D → List ℕ → Type 0) (faults_of : D → ℕ)
     (start : List (List Op)) (opening : ℕ) (sound : Bool) (back : Back D) : Type 0 where
   pub journal : Journal D
   pub safe : IsSafe told image journal back
   pub serves : IsTold (told (disk_in journal)) → IsServing moment_of left_since told image start opening sound journal back
+  pub logged : IsLogged (IsTold (told (disk_in journal))) (backed back.log) back.settled back.own back.before back.durable
+  pub counts : AreCounted (IsTold (told (disk_in journal))) (backed back.log) (faults_of (disk_in journal))
 
 -- It isn't mounted, since an end of which this is known.
 abbrev pub IsAtEnd : Ending → Mode → Type 0
@@ -137,20 +141,27 @@ pub record IsEnded {D : Type 0} (moment_of : D → ℕ) (left_since : D → ℕ 
   pub full : (needed limit : ℕ) → ending.cause ≡ causes.Full needed limit → (c : List ℕ) → image disk c → Recovers c frames
 
 -- The newest incarnation isn't mounted.
-pub record IsUnmounted {D : Type 0} (moment_of : D → ℕ) (left_since : D → ℕ → List ℕ → Type 0) (told : D → Option (List ℕ)) (image : D → List ℕ → Type 0)
+pub record IsUnmounted {D : Type 0} (moment_of : D → ℕ) (left_since : D → ℕ → List ℕ → Type 0) (told : D → Option (List ℕ)) (image : D → List ℕ → Type 0) (faults_of : D → ℕ)
     (start : List (List Op)) (opening : ℕ) (back : Back D) : Type 0 where
   pub disk : D
   pub ending : Ending
   pub safe : IsSafeEnded disk ending back
   pub ended : IsTold (told disk) → IsEnded moment_of left_since image start opening disk ending back
+  pub logged : IsLoggedDown (IsTold (told disk)) (backed back.log) ending back.settled back.durable
+  pub counts : AreCounted (IsTold (told disk)) (backed back.log) (faults_of disk)
 
 -- What holds of a back after each of its steps. After want of memory it isn't sound.
-abbrev pub IsBack : {D : Type 0} → (D → ℕ) → (D → ℕ → List ℕ → Type 0) → (D → Option (List ℕ)) → (D → List ℕ → Type 0) → List (List Op) → ℕ → (sound : Bool) → Back D → Type 0
-IsBack moment_of left_since told image start opening sound back =
-    IsMounted moment_of left_since told image start opening sound back ⊎ IsUnmounted moment_of left_since told image start opening back
+abbrev pub IsBack : {D : Type 0} → (D → ℕ) → (D → ℕ → List ℕ → Type 0) → (D → Option (List ℕ)) → (D → List ℕ → Type 0) → (D → ℕ) → List (List Op) → ℕ → (sound : Bool) → Back D → Type 0
+IsBack moment_of left_since told image faults_of start opening sound back =
+    IsMounted moment_of left_since told image faults_of start opening sound back ⊎ IsUnmounted moment_of left_since told image faults_of start opening back
 
-abbrev pub CanServe : {D : Type 0} → (D → ℕ) → (D → ℕ → List ℕ → Type 0) → (D → Option (List ℕ)) → (D → List ℕ → Type 0) → (sound : Bool) → Back D → Type 0
-CanServe moment_of left_since told image sound back = (start : List (List Op)) × (opening : ℕ) × IsBack moment_of left_since told image start opening sound back
+-- A step keeps this.
+abbrev pub KeepsBack : {D : Type 0} → (D → ℕ) → (D → ℕ → List ℕ → Type 0) → (D → Option (List ℕ)) → (D → List ℕ → Type 0) → (D → ℕ) → (sound later : Bool) → (old new : Back D) → Type 0
+KeepsBack moment_of left_since told image faults_of sound later old new = (start : List (List Op)) (opening : ℕ)
+    → IsBack moment_of left_since told image faults_of start opening sound old → IsBack moment_of left_since told image faults_of start opening later new
+
+abbrev pub CanServe : {D : Type 0} → (D → ℕ) → (D → ℕ → List ℕ → Type 0) → (D → Option (List ℕ)) → (D → List ℕ → Type 0) → (D → ℕ) → (sound : Bool) → Back D → Type 0
+CanServe moment_of left_since told image faults_of sound back = (start : List (List Op)) × (opening : ℕ) × IsBack moment_of left_since told image faults_of start opening sound back
 
 -- What the two ends of a flush need of the back, and what they do to it.
 pub record CanLand {D : Type 0} (back : Back D) : Type 0 where

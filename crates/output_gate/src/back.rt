@@ -84,7 +84,7 @@ impl<D: Disk> Back<D> {
         requires { (object : Object) → IsStaged mounted.journal object [] }
         ensures fresh { IsFresh mounted result }
         ensures back { (disk : D) (is : IsMountOf D.told D.image D.moment_of D.left_since disk mounted)
-            → IsBack D.moment_of D.left_since D.told D.image (batches_in is.frames) (next_count (D.moment_of disk)) true result }
+            → IsBack D.moment_of D.left_since D.told D.image D.faults_of (batches_in is.frames) (next_count (D.moment_of disk)) true result }
     {
         let Mounted {
             journal,
@@ -126,7 +126,7 @@ impl<D: Disk> Back<D> {
 
     /// The disk, the object and the history. It takes no memory.
     pub fn into_parts(self) -> BackParts<D>
-        requires { (sound : Bool) × CanServe D.moment_of D.left_since D.told D.image sound self }
+        requires { (sound : Bool) × CanServe D.moment_of D.left_since D.told D.image D.faults_of sound self }
         ensures disk { IsDiskOf self.store result.disk }
         ensures identity { result.identity ≡ self.identity }
         ensures log { backed result.log ≡ backed self.log }

@@ -15,11 +15,12 @@ impl<D: Disk> Back<D> {
     /// Appends all batches that were taken since the last append as one flight. Where the append fails or is full, the
     /// incarnation ends. It takes no memory.
     pub fn flush(&mut self) -> Stepped
-        requires { (sound : Bool) × CanServe D.moment_of D.left_since D.told D.image sound self.old }
+        requires { (sound : Bool) × CanServe D.moment_of D.left_since D.told D.image D.faults_of sound self.old }
         ensures nothing { self.old.before ≡ self.old.durable → (result ≡ Nothing) × (self.new ≡ self.old) }
         ensures flushed { self.old.before ≢ self.old.durable → (result ≡ Did) × Flushes D.faults_of self.old self.new }
-        ensures back { (start : List (List Op)) (opening : ℕ) (sound : Bool) → IsBack D.moment_of D.left_since D.told D.image start opening sound self.old
-            → IsBack D.moment_of D.left_since D.told D.image start opening sound self.new }
+        ensures back { (start : List (List Op)) (opening : ℕ) (sound : Bool)
+            → IsBack D.moment_of D.left_since D.told D.image D.faults_of start opening sound self.old
+            → IsBack D.moment_of D.left_since D.told D.image D.faults_of start opening sound self.new }
     {
         if self.before == self.durable {
             return Stepped::Nothing;

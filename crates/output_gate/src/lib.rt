@@ -6,6 +6,7 @@ mod back;
 mod fit;
 mod flushing;
 mod held;
+pub mod laws;
 mod mending;
 mod releasing;
 mod store;

@@ -5,10 +5,10 @@ ghost use Rattle.batch_journal.specs.Rest.{disk_in};
 ghost use Rattle.storage_map.specs.declared.op.Op.{Op};
 ghost use Rattle.timeline.specs.Logs.{backed};
 ghost use Rattle.timeline.specs.declared.notice.Notice.TheVariants as notice;
-ghost use Rattle.output_gate.specs.Mending.{IsFound, is_own_object, Begins, Misses, CanBegin, CanMend, Remounts, may_mend, MendRoom, IsIdleMend, Mends, LosesMend, IsRefusedFor, FallsByFault};
+ghost use Rattle.output_gate.specs.Mending.{IsFound, CountsFound, is_own_object, Begins, Misses, CanBegin, CanMend, Remounts, may_mend, MendRoom, IsIdleMend, Mends, LosesMend, IsRefusedFor, FallsByFault};
 ghost use Rattle.output_gate.specs.Taking.{LogSame};
 ghost use Rattle.timeline.specs.declared.notice.Stepped.TheVariants.{Did, Nothing};
-ghost use Rattle.output_gate.specs.Serving.{IsUnmounted, IsBack, CanServe};
+ghost use Rattle.output_gate.specs.Serving.{IsUnmounted, IsBack, CanServe, KeepsBack};
 
 use crate::back::{Back, Ending, Mode};
 use crate::releasing::send;
@@ -35,17 +35,15 @@ impl<D: Disk> Back<D> {
     /// Mounts the journal again where an append has ended the incarnation. Where that succeeds the next incarnation begins with
     /// what is found; where it fails the object is down until a `Mend` is taken. After `NoMemory` the back is stopped.
     pub fn mend<N: Outlet<Notice>>(&mut self, alloc: Global, notices: &mut N) -> Mem<Stepped>
-        requires { CanServe D.moment_of D.left_since D.told D.image true self.old }
+        requires { CanServe D.moment_of D.left_since D.told D.image D.faults_of true self.old }
         ensures barred { may_mend self.old ≡ false → IsIdleMend self.old self.new (N.sent notices.old) (N.sent notices.new) result }
         ensures nothing { result ≡ Ok Nothing → may_mend self.old ≡ false }
         ensures mended { result ≡ Ok Did → Mends D.faults_of self.old self.new (N.sent notices.old) (N.sent notices.new) }
         ensures falls { may_mend self.old ≡ true → FallsByFault D.faults_of D.told self.old self.new }
         ensures lost { OnErr result (LosesMend D.faults_of self.old self.new (N.sent notices.old) (N.sent notices.new)) }
         ensures outlet { (N.outlet notices.new ≡ N.outlet notices.old) × (N.left notices.new ≡ N.left notices.old) }
-        ensures back { OnOk result ((start : List (List Op)) (opening : ℕ) → IsBack D.moment_of D.left_since D.told D.image start opening true self.old
-            → IsBack D.moment_of D.left_since D.told D.image start opening true self.new) }
-        ensures stopped { OnErr result ((start : List (List Op)) (opening : ℕ) → IsBack D.moment_of D.left_since D.told D.image start opening true self.old
-            → IsBack D.moment_of D.left_since D.told D.image start opening false self.new) }
+        ensures back { OnOk result (KeepsBack D.moment_of D.left_since D.told D.image D.faults_of true true self.old self.new) }
+        ensures stopped { OnErr result (KeepsBack D.moment_of D.left_since D.told D.image D.faults_of true false self.old self.new) }
     {
         let Mode::Wanted(ending) = self.mode else {
             return Ok(Stepped::Nothing);
@@ -61,14 +59,16 @@ impl<D: Disk> Back<D> {
 
     // Mounts the journal again: the next incarnation begins with what is found, or the object is down.
     fn remount(&mut self, alloc: Global, ending: Ending) -> Mem<Notice>
-        requires { CanMend D.moment_of D.left_since D.told D.image self.old ending }
+        requires { CanMend D.moment_of D.left_since D.told D.image D.faults_of self.old ending }
         ensures remounts { IfOk result (λ notice. Remounts D.faults_of self.old self.new ending notice) }
         ensures falls { FallsByFault D.faults_of D.told self.old self.new }
         ensures kept { OnErr result (backed self.new.log ≡ backed self.old.log) }
-        ensures back { OnOk result ((start : List (List Op)) (opening : ℕ) → IsUnmounted D.moment_of D.left_since D.told D.image start opening self.old
-            → IsBack D.moment_of D.left_since D.told D.image start opening true self.new) }
-        ensures stopped { OnErr result ((start : List (List Op)) (opening : ℕ) → IsUnmounted D.moment_of D.left_since D.told D.image start opening self.old
-            → IsUnmounted D.moment_of D.left_since D.told D.image start opening self.new) }
+        ensures back { OnOk result ((start : List (List Op)) (opening : ℕ)
+            → IsUnmounted D.moment_of D.left_since D.told D.image D.faults_of start opening self.old
+            → IsBack D.moment_of D.left_since D.told D.image D.faults_of start opening true self.new) }
+        ensures stopped { OnErr result ((start : List (List Op)) (opening : ℕ)
+            → IsUnmounted D.moment_of D.left_since D.told D.image D.faults_of start opening self.old
+            → IsUnmounted D.moment_of D.left_since D.told D.image D.faults_of start opening self.new) }
     {
         let disk = self.store.leave();
         let before = disk.faults();
@@ -160,6 +160,7 @@ impl<D: Disk> Back<D> {
 fn mount_again<D: Disk>(alloc: Global, disk: D, limit: u64) -> Found<D>
     ensures found { IsFound D.moment_of D.left_since D.told D.image disk result }
     ensures cause { IsRefusedFor D.faults_of D.told disk result }
+    ensures counted { CountsFound D.faults_of disk result }
 {
     match Journal::mount(alloc, disk, limit) {
         Ok(mounted) => Found::Mounted(mounted),

@@ -7,7 +7,7 @@ ghost use Rattle.timeline.specs.Logs.{backed};
 ghost use Rattle.timeline.specs.declared.notice.Stepped.TheVariants.{Did, Nothing};
 ghost use Rattle.output_gate.specs.Releasing as releasing;
 ghost use Rattle.output_gate.specs.Releasing.{IsIdleRelease, Releases, Stays, CanGo, Goes, StaysPut, LogReleases, HaltRoom, LogHalts};
-ghost use Rattle.output_gate.specs.Serving.{CanServe, IsBack};
+ghost use Rattle.output_gate.specs.Serving.{CanServe, KeepsBack};
 ghost use Rattle.output_gate.specs.declared.held.HeldBody.TheVariants as held_body;
 
 use crate::back::Back;
@@ -28,7 +28,7 @@ impl<D: Disk> Back<D> {
         notices: &mut N,
         out: &mut O,
     ) -> Mem<Stepped>
-        requires { CanServe D.moment_of D.left_since D.told D.image true self.old }
+        requires { CanServe D.moment_of D.left_since D.told D.image D.faults_of true self.old }
         ensures barred { releasing.may_release self.old ≡ false
             → IsIdleRelease self.old self.new (N.sent notices.old) (N.sent notices.new) (O.sent out.old) (O.sent out.new) result }
         ensures nothing { result ≡ Ok Nothing → releasing.may_release self.old ≡ false }
@@ -37,10 +37,8 @@ impl<D: Disk> Back<D> {
         ensures stays { OnErr result (Stays self.old self.new (N.sent notices.old) (N.sent notices.new) (O.sent out.old) (O.sent out.new)) }
         ensures outlet { (N.outlet notices.new ≡ N.outlet notices.old) × (N.left notices.new ≡ N.left notices.old) }
         ensures out { (O.outlet out.new ≡ O.outlet out.old) × (O.left out.new ≡ O.left out.old) }
-        ensures back { OnOk result ((start : List (List Op)) (opening : ℕ) → IsBack D.moment_of D.left_since D.told D.image start opening true self.old
-            → IsBack D.moment_of D.left_since D.told D.image start opening true self.new) }
-        ensures stopped { OnErr result ((start : List (List Op)) (opening : ℕ) → IsBack D.moment_of D.left_since D.told D.image start opening true self.old
-            → IsBack D.moment_of D.left_since D.told D.image start opening false self.new) }
+        ensures back { OnOk result (KeepsBack D.moment_of D.left_since D.told D.image D.faults_of true true self.old self.new) }
+        ensures stopped { OnErr result (KeepsBack D.moment_of D.left_since D.told D.image D.faults_of true false self.old self.new) }
     {
         if self.stuck {
             return Ok(Stepped::Nothing);
@@ -70,11 +68,11 @@ impl<D: Disk> Back<D> {
 
     // Sends a copy of the message that is the first of what is held, and logs it.
     fn release_message<O: Outlet<Message>>(&mut self, copy: Message, out: &mut O) -> Mem<()>
-        requires { CanGo D.moment_of D.left_since D.told D.image self.old (held_body.Message copy) }
+        requires { CanGo D.moment_of D.left_since D.told D.image D.faults_of self.old (held_body.Message copy) }
         ensures went { OnOk result ((sent : List Notice)
-            → Goes D.moment_of D.left_since D.told D.image self.old self.new sent sent (O.sent out.old) (O.sent out.new)) }
+            → Goes D.moment_of D.left_since D.told D.image D.faults_of self.old self.new sent sent (O.sent out.old) (O.sent out.new)) }
         ensures stays { OnErr result ((sent : List Notice)
-            → StaysPut D.moment_of D.left_since D.told D.image self.old self.new sent sent (O.sent out.old) (O.sent out.new)) }
+            → StaysPut D.moment_of D.left_since D.told D.image D.faults_of self.old self.new sent sent (O.sent out.old) (O.sent out.new)) }
         ensures out { (O.outlet out.new ≡ O.outlet out.old) × (O.left out.new ≡ O.left out.old) }
     {
         release_room(&mut self.log)?;
@@ -87,11 +85,11 @@ impl<D: Disk> Back<D> {
 
     // Tells the front of the sync that is the first of what is held.
     fn release_sync<N: Outlet<Notice>>(&mut self, number: u64, notices: &mut N) -> Mem<()>
-        requires { CanGo D.moment_of D.left_since D.told D.image self.old (held_body.Sync number) }
+        requires { CanGo D.moment_of D.left_since D.told D.image D.faults_of self.old (held_body.Sync number) }
         ensures went { OnOk result ((out : List Message)
-            → Goes D.moment_of D.left_since D.told D.image self.old self.new (N.sent notices.old) (N.sent notices.new) out out) }
+            → Goes D.moment_of D.left_since D.told D.image D.faults_of self.old self.new (N.sent notices.old) (N.sent notices.new) out out) }
         ensures stays { OnErr result ((out : List Message)
-            → StaysPut D.moment_of D.left_since D.told D.image self.old self.new (N.sent notices.old) (N.sent notices.new) out out) }
+            → StaysPut D.moment_of D.left_since D.told D.image D.faults_of self.old self.new (N.sent notices.old) (N.sent notices.new) out out) }
         ensures outlet { (N.outlet notices.new ≡ N.outlet notices.old) × (N.left notices.new ≡ N.left notices.old) }
     {
         send(notices, Notice::Synced { number })?;
@@ -101,11 +99,11 @@ impl<D: Disk> Back<D> {
 
     // The incarnation has ended by the halt that is the first of what is held, and the next one begins with all of its batches.
     fn restart<N: Outlet<Notice>>(&mut self, cause: Cause, notices: &mut N) -> Mem<()>
-        requires { CanGo D.moment_of D.left_since D.told D.image self.old (held_body.Halt cause) }
+        requires { CanGo D.moment_of D.left_since D.told D.image D.faults_of self.old (held_body.Halt cause) }
         ensures went { OnOk result ((out : List Message)
-            → Goes D.moment_of D.left_since D.told D.image self.old self.new (N.sent notices.old) (N.sent notices.new) out out) }
+            → Goes D.moment_of D.left_since D.told D.image D.faults_of self.old self.new (N.sent notices.old) (N.sent notices.new) out out) }
         ensures stays { OnErr result ((out : List Message)
-            → StaysPut D.moment_of D.left_since D.told D.image self.old self.new (N.sent notices.old) (N.sent notices.new) out out) }
+            → StaysPut D.moment_of D.left_since D.told D.image D.faults_of self.old self.new (N.sent notices.old) (N.sent notices.new) out out) }
         ensures outlet { (N.outlet notices.new ≡ N.outlet notices.old) × (N.left notices.new ≡ N.left notices.old) }
     {
         halt_room(&mut self.log)?;

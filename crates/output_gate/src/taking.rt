@@ -9,8 +9,8 @@ ghost use Rattle.batch_journal.specs.Rest.{CanStage};
 ghost use Rattle.batch_journal.specs.declared.journal.Journal.{Journal};
 ghost use Rattle.timeline.specs.Logs.{backed};
 ghost use Rattle.timeline.specs.declared.notice.Stepped.TheVariants.{Did, Nothing};
-ghost use Rattle.output_gate.specs.Entering.{Enters, IsIdle, Takes, LosesEntry, CanTake, TakesOwn, FailsOwn, CanTakeDown, TakesDown, FailsDown, TakesLate, TakesLateEntry, late_held, notice_at};
-ghost use Rattle.output_gate.specs.Serving.{CanServe, IsBack};
+ghost use Rattle.output_gate.specs.Entering.{Enters, IsIdle, Takes, LosesEntry, CanTake, TakesOwn, FailsOwn, CanTakeDown, TakesDown, FailsDown, TakesLate, late_held, notice_at};
+ghost use Rattle.output_gate.specs.Serving.{CanServe, KeepsBack};
 ghost use Rattle.output_gate.specs.Storing.{Stages};
 ghost use Rattle.output_gate.specs.Taking as taking;
 ghost use Rattle.output_gate.specs.Taking.{LogRoom, LogTook, LogSame, notice_of};
@@ -34,7 +34,7 @@ impl<D: Disk> Back<D> {
         line: &mut L,
         notices: &mut N,
     ) -> Mem<Stepped>
-        requires { CanServe D.moment_of D.left_since D.told D.image true self.old }
+        requires { CanServe D.moment_of D.left_since D.told D.image D.faults_of true self.old }
         ensures barred { taking.may_take self.old ≡ false
             → IsIdle self.old self.new (L.got line.old) (L.got line.new) (N.sent notices.old) (N.sent notices.new) result }
         ensures nothing { result ≡ Ok Nothing → IsIdle self.old self.new (L.got line.old) (L.got line.new) (N.sent notices.old) (N.sent notices.new) result }
@@ -43,10 +43,8 @@ impl<D: Disk> Back<D> {
         ensures lost { OnErr result (LosesEntry self.old self.new (L.got line.old) (L.got line.new) (N.sent notices.old) (N.sent notices.new)) }
         ensures inlet { (L.inlet line.new ≡ L.inlet line.old) × (L.told line.new ≡ L.told line.old) }
         ensures outlet { (N.outlet notices.new ≡ N.outlet notices.old) × (N.left notices.new ≡ N.left notices.old) }
-        ensures back { OnOk result ((start : List (List Op)) (opening : ℕ) → IsBack D.moment_of D.left_since D.told D.image start opening true self.old
-            → TakesLateEntry self.old (L.got line.old) (L.got line.new) ⊎ IsBack D.moment_of D.left_since D.told D.image start opening true self.new) }
-        ensures stopped { OnErr result ((start : List (List Op)) (opening : ℕ) → IsBack D.moment_of D.left_since D.told D.image start opening true self.old
-            → IsBack D.moment_of D.left_since D.told D.image start opening false self.new) }
+        ensures back { OnOk result (KeepsBack D.moment_of D.left_since D.told D.image D.faults_of true true self.old self.new) }
+        ensures stopped { OnErr result (KeepsBack D.moment_of D.left_since D.told D.image D.faults_of true false self.old self.new) }
     {
         if !self.may_take() {
             return Ok(Stepped::Nothing);
@@ -98,15 +96,13 @@ impl<D: Disk> Back<D> {
 
     // Takes an entry. A notice is there where the front waits for one that can be given at once.
     fn take_entry(&mut self, entry: Entry) -> Mem<Option<Notice>>
-        requires back { CanServe D.moment_of D.left_since D.told D.image true self.old }
+        requires back { CanServe D.moment_of D.left_since D.told D.image D.faults_of true self.old }
         requires may { taking.may_take self.old ≡ true }
         ensures notice { IfOk result (λ notice. notice ≡ notice_at self.old entry) }
         ensures enters { OnOk result (Enters self.old self.new entry) }
         ensures kept { OnErr result (backed self.new.log ≡ backed self.old.log) }
-        ensures back { OnOk result ((start : List (List Op)) (opening : ℕ) → IsBack D.moment_of D.left_since D.told D.image start opening true self.old
-            → (taking.fit_of self.old entry ≡ Fit.Late) ⊎ IsBack D.moment_of D.left_since D.told D.image start opening true self.new) }
-        ensures stopped { OnErr result ((start : List (List Op)) (opening : ℕ) → IsBack D.moment_of D.left_since D.told D.image start opening true self.old
-            → IsBack D.moment_of D.left_since D.told D.image start opening false self.new) }
+        ensures back { OnOk result (KeepsBack D.moment_of D.left_since D.told D.image D.faults_of true true self.old self.new) }
+        ensures stopped { OnErr result (KeepsBack D.moment_of D.left_since D.told D.image D.faults_of true false self.old self.new) }
     {
         match self.fit_of(&entry) {
             Fit::Unfit => {
@@ -121,16 +117,14 @@ impl<D: Disk> Back<D> {
 
     // An entry of the newest incarnation, which is mounted.
     fn enter_own(&mut self, entry: Entry) -> Mem<Option<Notice>>
-        requires back { CanServe D.moment_of D.left_since D.told D.image true self.old }
+        requires back { CanServe D.moment_of D.left_since D.told D.image D.faults_of true self.old }
         requires may { taking.may_take self.old ≡ true }
         requires fit { taking.fit_of self.old entry ≡ Fit.Own }
         ensures notice { IfOk result (λ notice. notice ≡ notice_at self.old entry) }
         ensures enters { OnOk result (Enters self.old self.new entry) }
         ensures kept { OnErr result (backed self.new.log ≡ backed self.old.log) }
-        ensures back { OnOk result ((start : List (List Op)) (opening : ℕ) → IsBack D.moment_of D.left_since D.told D.image start opening true self.old
-            → IsBack D.moment_of D.left_since D.told D.image start opening true self.new) }
-        ensures stopped { OnErr result ((start : List (List Op)) (opening : ℕ) → IsBack D.moment_of D.left_since D.told D.image start opening true self.old
-            → IsBack D.moment_of D.left_since D.told D.image start opening false self.new) }
+        ensures back { OnOk result (KeepsBack D.moment_of D.left_since D.told D.image D.faults_of true true self.old self.new) }
+        ensures stopped { OnErr result (KeepsBack D.moment_of D.left_since D.told D.image D.faults_of true false self.old self.new) }
     {
         make_room(&mut self.log)?;
         let Entry {
@@ -143,16 +137,14 @@ impl<D: Disk> Back<D> {
 
     // An entry of the newest incarnation, which isn't mounted.
     fn enter_down(&mut self, entry: Entry) -> Mem<Option<Notice>>
-        requires back { CanServe D.moment_of D.left_since D.told D.image true self.old }
+        requires back { CanServe D.moment_of D.left_since D.told D.image D.faults_of true self.old }
         requires may { taking.may_take self.old ≡ true }
         requires fit { taking.fit_of self.old entry ≡ Fit.Down }
         ensures notice { IfOk result (λ notice. notice ≡ notice_at self.old entry) }
         ensures enters { OnOk result (Enters self.old self.new entry) }
         ensures kept { OnErr result (backed self.new.log ≡ backed self.old.log) }
-        ensures back { OnOk result ((start : List (List Op)) (opening : ℕ) → IsBack D.moment_of D.left_since D.told D.image start opening true self.old
-            → IsBack D.moment_of D.left_since D.told D.image start opening true self.new) }
-        ensures stopped { OnErr result ((start : List (List Op)) (opening : ℕ) → IsBack D.moment_of D.left_since D.told D.image start opening true self.old
-            → IsBack D.moment_of D.left_since D.told D.image start opening false self.new) }
+        ensures back { OnOk result (KeepsBack D.moment_of D.left_since D.told D.image D.faults_of true true self.old self.new) }
+        ensures stopped { OnErr result (KeepsBack D.moment_of D.left_since D.told D.image D.faults_of true false self.old self.new) }
     {
         make_room(&mut self.log)?;
         let Entry {
@@ -166,14 +158,14 @@ impl<D: Disk> Back<D> {
 
     // An entry of an incarnation that has ended.
     fn enter_late(&mut self, entry: Entry) -> Mem<Option<Notice>>
-        requires back { CanServe D.moment_of D.left_since D.told D.image true self.old }
+        requires back { CanServe D.moment_of D.left_since D.told D.image D.faults_of true self.old }
         requires may { taking.may_take self.old ≡ true }
         requires fit { taking.fit_of self.old entry ≡ Fit.Late }
         ensures notice { IfOk result (λ notice. notice ≡ notice_at self.old entry) }
         ensures enters { OnOk result (Enters self.old self.new entry) }
         ensures kept { OnErr result (backed self.new.log ≡ backed self.old.log) }
-        ensures stopped { OnErr result ((start : List (List Op)) (opening : ℕ) → IsBack D.moment_of D.left_since D.told D.image start opening true self.old
-            → IsBack D.moment_of D.left_since D.told D.image start opening false self.new) }
+        ensures back { OnOk result (KeepsBack D.moment_of D.left_since D.told D.image D.faults_of true true self.old self.new) }
+        ensures stopped { OnErr result (KeepsBack D.moment_of D.left_since D.told D.image D.faults_of true false self.old self.new) }
     {
         make_room(&mut self.log)?;
         self.take_late(entry)?;
@@ -181,10 +173,10 @@ impl<D: Disk> Back<D> {
     }
 
     fn take_own(&mut self, number: u64, body: Body) -> Mem<Option<Notice>>
-        requires { CanTake D.moment_of D.left_since D.told D.image self.old number body }
+        requires { CanTake D.moment_of D.left_since D.told D.image D.faults_of self.old number body }
         ensures notice { IfOk result (λ notice. notice ≡ notice_of number self.old.cache body) }
-        ensures took { OnOk result (TakesOwn D.moment_of D.left_since D.told D.image self.old self.new number body) }
-        ensures failed { OnErr result (FailsOwn D.moment_of D.left_since D.told D.image self.old self.new) }
+        ensures took { OnOk result (TakesOwn D.moment_of D.left_since D.told D.image D.faults_of self.old self.new number body) }
+        ensures failed { OnErr result (FailsOwn D.moment_of D.left_since D.told D.image D.faults_of self.old self.new) }
     {
         match body {
             Body::Bind(identity) => {
@@ -213,9 +205,9 @@ impl<D: Disk> Back<D> {
     }
 
     fn take_sync(&mut self, number: u64) -> Mem<()>
-        requires { CanTake D.moment_of D.left_since D.told D.image self.old number Body.Sync }
-        ensures took { OnOk result (TakesOwn D.moment_of D.left_since D.told D.image self.old self.new number Body.Sync) }
-        ensures failed { OnErr result (FailsOwn D.moment_of D.left_since D.told D.image self.old self.new) }
+        requires { CanTake D.moment_of D.left_since D.told D.image D.faults_of self.old number Body.Sync }
+        ensures took { OnOk result (TakesOwn D.moment_of D.left_since D.told D.image D.faults_of self.old self.new number Body.Sync) }
+        ensures failed { OnErr result (FailsOwn D.moment_of D.left_since D.told D.image D.faults_of self.old self.new) }
     {
         self.hold(HeldBody::Sync { number }, self.number)?;
         self.add(number, Body::Sync);
@@ -223,9 +215,9 @@ impl<D: Disk> Back<D> {
     }
 
     fn take_halt(&mut self, number: u64, cause: Cause) -> Mem<()>
-        requires { CanTake D.moment_of D.left_since D.told D.image self.old number (Body.Halt cause) }
-        ensures took { OnOk result (TakesOwn D.moment_of D.left_since D.told D.image self.old self.new number (Body.Halt cause)) }
-        ensures failed { OnErr result (FailsOwn D.moment_of D.left_since D.told D.image self.old self.new) }
+        requires { CanTake D.moment_of D.left_since D.told D.image D.faults_of self.old number (Body.Halt cause) }
+        ensures took { OnOk result (TakesOwn D.moment_of D.left_since D.told D.image D.faults_of self.old self.new number (Body.Halt cause)) }
+        ensures failed { OnErr result (FailsOwn D.moment_of D.left_since D.told D.image D.faults_of self.old self.new) }
     {
         self.hold(HeldBody::Halt(cause), self.number)?;
         self.add(number, Body::Halt(cause));
@@ -233,9 +225,9 @@ impl<D: Disk> Back<D> {
     }
 
     fn take_bind(&mut self, number: u64, identity: Identity) -> Mem<()>
-        requires { CanTake D.moment_of D.left_since D.told D.image self.old number (Body.Bind identity) }
-        ensures took { OnOk result (TakesOwn D.moment_of D.left_since D.told D.image self.old self.new number (Body.Bind identity)) }
-        ensures failed { OnErr result (FailsOwn D.moment_of D.left_since D.told D.image self.old self.new) }
+        requires { CanTake D.moment_of D.left_since D.told D.image D.faults_of self.old number (Body.Bind identity) }
+        ensures took { OnOk result (TakesOwn D.moment_of D.left_since D.told D.image D.faults_of self.old self.new number (Body.Bind identity)) }
+        ensures failed { OnErr result (FailsOwn D.moment_of D.left_since D.told D.image D.faults_of self.old self.new) }
     {
         let copy = identity.copy()?;
         self.identity = Some(copy);
@@ -244,10 +236,10 @@ impl<D: Disk> Back<D> {
     }
 
     fn take_batch(&mut self, number: u64, batch: Batch, tail: Option<u32>) -> Mem<Option<Notice>>
-        requires { CanTake D.moment_of D.left_since D.told D.image self.old number (Body.Batch batch tail) }
+        requires { CanTake D.moment_of D.left_since D.told D.image D.faults_of self.old number (Body.Batch batch tail) }
         ensures notice { IfOk result (λ notice. notice ≡ notice_of number self.old.cache (Body.Batch batch tail)) }
-        ensures took { OnOk result (TakesOwn D.moment_of D.left_since D.told D.image self.old self.new number (Body.Batch batch tail)) }
-        ensures failed { OnErr result (FailsOwn D.moment_of D.left_since D.told D.image self.old self.new) }
+        ensures took { OnOk result (TakesOwn D.moment_of D.left_since D.told D.image D.faults_of self.old self.new number (Body.Batch batch tail)) }
+        ensures failed { OnErr result (FailsOwn D.moment_of D.left_since D.told D.image D.faults_of self.old self.new) }
     {
         let count = self.cache.take(&batch, tail.unwrap_or(0))?;
         let size = batch_size(&batch);
@@ -263,10 +255,10 @@ impl<D: Disk> Back<D> {
     }
 
     fn take_ask(&mut self, number: u64, ask: StoreAsk) -> Mem<Notice>
-        requires { CanTake D.moment_of D.left_since D.told D.image self.old number (Body.Ask ask) }
+        requires { CanTake D.moment_of D.left_since D.told D.image D.faults_of self.old number (Body.Ask ask) }
         ensures notice { IfOk result (λ notice. Some notice ≡ notice_of number self.old.cache (Body.Ask ask)) }
-        ensures took { OnOk result (TakesOwn D.moment_of D.left_since D.told D.image self.old self.new number (Body.Ask ask)) }
-        ensures failed { OnErr result (FailsOwn D.moment_of D.left_since D.told D.image self.old self.new) }
+        ensures took { OnOk result (TakesOwn D.moment_of D.left_since D.told D.image D.faults_of self.old self.new number (Body.Ask ask)) }
+        ensures failed { OnErr result (FailsOwn D.moment_of D.left_since D.told D.image D.faults_of self.old self.new) }
     {
         let reading = self.cache.answer(&ask)?;
         self.add(number, Body::Ask(ask));
@@ -274,9 +266,9 @@ impl<D: Disk> Back<D> {
     }
 
     fn take_message(&mut self, number: u64, message: Message) -> Mem<()>
-        requires { CanTake D.moment_of D.left_since D.told D.image self.old number (Body.Message message) }
-        ensures took { OnOk result (TakesOwn D.moment_of D.left_since D.told D.image self.old self.new number (Body.Message message)) }
-        ensures failed { OnErr result (FailsOwn D.moment_of D.left_since D.told D.image self.old self.new) }
+        requires { CanTake D.moment_of D.left_since D.told D.image D.faults_of self.old number (Body.Message message) }
+        ensures took { OnOk result (TakesOwn D.moment_of D.left_since D.told D.image D.faults_of self.old self.new number (Body.Message message)) }
+        ensures failed { OnErr result (FailsOwn D.moment_of D.left_since D.told D.image D.faults_of self.old self.new) }
     {
         let copy = message.copy()?;
         self.hold(HeldBody::Message(copy), self.number)?;
@@ -285,9 +277,9 @@ impl<D: Disk> Back<D> {
     }
 
     fn take_down(&mut self, number: u64, body: Body) -> Mem<()>
-        requires { CanTakeDown D.moment_of D.left_since D.told D.image self.old number body }
-        ensures took { OnOk result (TakesDown D.moment_of D.left_since D.told D.image self.old self.new number body) }
-        ensures failed { OnErr result (FailsDown D.moment_of D.left_since D.told D.image self.old self.new) }
+        requires { CanTakeDown D.moment_of D.left_since D.told D.image D.faults_of self.old number body }
+        ensures took { OnOk result (TakesDown D.moment_of D.left_since D.told D.image D.faults_of self.old self.new number body) }
+        ensures failed { OnErr result (FailsDown D.moment_of D.left_since D.told D.image D.faults_of self.old self.new) }
     {
         match body {
             Body::Mend => {

@@ -11,13 +11,13 @@ both : (a b m n : ℕ) → ((made : ℕ) → steps.refusal a made ≡ steps.refu
 both a b m n same made = same m ∙ ap (λ (x : ℕ). steps.refusal b x) made
 
 pub returns-in-Some : goal.returns-in-Some
-returns-in-Some g c = λ l ts t again deeper messages held paused same is.
+returns-in-Some g c = λ l ts t again deeper messages held paused waits same is.
     let e : steps.refusal deeper t.made ≡ Some (Thrown c.in-Some.value) =
     both deeper c.args.depth t.made _ same paused.running.made ∙ c.in_ok-value.ensures.refusal ∙ ap (λ (v : Option Value). option_map Thrown v) c.in-Some.is in
     rw e (record { tasks = ts; goes = t; says = []; held = held; paused = paused; said = sym (append-nil _); gives = refl })
 
 pub returns-in_ok-state-in-None : goal.returns-in_ok-state-in-None
-returns-in_ok-state-in-None g c = λ l ts t again deeper messages held paused same is.
+returns-in_ok-state-in-None g c = λ l ts t again deeper messages held paused waits same is.
     let e : steps.refusal deeper t.made ≡ None =
     both deeper c.args.depth t.made _ same paused.running.made ∙ c.in_ok-value.ensures.refusal ∙ ap (λ (v : Option Value). option_map Thrown v) c.in-None.is in
-    rw e (c.in_ok-state-in-None.ensures l ts t (again (object_of c.args.object ts)) messages held paused (is (c.in_ok-value.ensures.few c.in-None.is).0))
+    rw e (c.in_ok-state-in-None.ensures l ts t (again (object_of c.args.object ts)) messages held paused waits (is (c.in_ok-value.ensures.few c.in-None.is).0))

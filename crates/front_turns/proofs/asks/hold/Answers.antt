@@ -10,13 +10,13 @@ use Rattle.front_turns.proofs.asks.hold.Goals as goal
 pub returns-in-Ok : goal.returns-in-Ok
 returns-in-Ok g c = record {
   object = refl;
-  holds = λ l ts t held paused number.
+  holds = λ l ts t held paused number waits.
       let o = c.args.object in
-      let h : Held g.row.T.Denot = record { running = c.args.running; task = c.args.task } in
+      let h : Held g.row.T.Denot = record { running = c.args.running; awaited = c.args.awaited; task = c.args.task } in
       let all = c.in-Ok.ensures.entries ∙ put_last c.args.number h o.made o.tasks.entries held.numbers (omega (arith, c.requires)) in
       record {
         tasks = subst (λ (hs : List (ℕ × Held g.row.T.Denot)). AreHeld g.T.Task.seen l hs (ts ++ t ∷ [])) (sym all)
-            (held_too g.T.Task.seen l o.tasks.entries ts (c.args.number, h) t held.tasks (number, paused));
+            (held_too g.T.Task.seen l o.tasks.entries ts (c.args.number, h) t held.tasks (record { number = number; paused = paused; waits = waits }));
         blocks = c.in_ok-blocks.ensures ∙ ap (λ (b : Bool). (if b then 1 else 0) + o.blocks) (c.block.ensures ∙ sym paused.block)
             ∙ ap (λ (n : ℕ). (if t.block then 1 else 0) + n) held.blocks ∙ sym (blocks_too ts t);
         numbers = subst (λ (hs : List (ℕ × Held g.row.T.Denot)). AreAtMost c.args.number hs) (sym all)

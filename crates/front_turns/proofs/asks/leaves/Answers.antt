@@ -7,7 +7,7 @@ use Rattle.front_turns.proofs.Saying.{one_said}
 use Rattle.front_turns.proofs.asks.leaves.Goals as goal
 
 pub returns : goal.returns
-returns g c = λ l ts t again messages held paused is.
+returns g c = λ l ts t again messages held paused waits is.
     let u : OpenTask = record t { number = c.args.number; made = t.made + 1 } in
     rw (sym c.requires.number, is)
     (one_said {o = c.in_ok-object.object} (body.Message c.args.message) (ts ++ u ∷ []) _
@@ -16,6 +16,6 @@ returns g c = λ l ts t again messages held paused is.
       class = paused.class;
       block = paused.block;
       running = record { purpose = paused.running.purpose; depth = paused.running.depth; made = ap (λ n. n + 1) paused.running.made };
-    }) refl)
+    }) refl (waits (t.made + 1)))
     (ap (λ (x : seen.Object). record x { tasks = ts ++ u ∷ [] }) c.in_ok-object.ensures.object)
     c.in_ok-say.ensures)

@@ -9,7 +9,8 @@ pub returns-in_ok-went-in-Paused : goal.returns-in_ok-went-in-Paused
 returns-in_ok-went-in-Paused g c = λ l ts t again same held runs.
     let r = subst (λ (o : Outcome g.row.T.Denot). Runs g.T.Task.seen l o c.args.running t) c.in-Paused.is runs in
     by_turn g.T.Task.seen l _ _ _ again _ t (latest_turn l t) _ r.turn (c.in_ok-went-in-Paused.ensures l ts t again same held
-    (record { linked = r.linked; class = r.class; block = refl; running = record { purpose = r.running.purpose; depth = r.running.depth; made = r.running.made } }))
+    (record { linked = r.linked; class = r.class; block = refl; running = record { purpose = r.running.purpose; depth = r.running.depth; made = r.running.made } })
+    (record { batches = _; fields = _; block = _; turn = r.turn }))
 
 pub returns-in_ok-state-in-Done : goal.returns-in_ok-state-in-Done
 returns-in_ok-state-in-Done g c = λ l ts t again same held runs.

@@ -11,12 +11,12 @@ use Rattle.output_gate.proofs.back.Back.enter_down.Goals as goal
 pub take_down-requires : goal.take_down-requires
 take_down-requires g c =
     let b = c.requires.back in
-    down_can g.D.Disk.moment_of g.D.Disk.left_since g.D.Disk.told g.D.Disk.image b.0 b.1 c.args.self.now c.make_room.new.log c.args.entry c.make_room.ensures.same c.in_ok-make_room.ensures.room c.requires.may c.requires.fit b.2
+    down_can g.D.Disk.moment_of g.D.Disk.left_since g.D.Disk.told g.D.Disk.image g.D.Disk.faults_of b.0 b.1 c.args.self.now c.make_room.new.log c.args.entry c.make_room.ensures.same c.in_ok-make_room.ensures.room c.requires.may c.requires.fit b.2
 
 pub returns-in_err-make_room-clause-stopped : goal.returns-in_err-make_room-clause-stopped
 returns-in_err-make_room-clause-stopped g c =
-    let f : (start : List (List Op)) (opening : ℕ) → IsBack g.D.Disk.moment_of g.D.Disk.left_since g.D.Disk.told g.D.Disk.image start opening true c.args.self.now → IsBack g.D.Disk.moment_of g.D.Disk.left_since g.D.Disk.told g.D.Disk.image start opening false (record c.args.self.now { log = c.make_room.new.log }) =
-    λ start opening b. back_stopped g.D.Disk.moment_of g.D.Disk.left_since g.D.Disk.told g.D.Disk.image start opening (record c.args.self.now { log = c.make_room.new.log }) (back_room g.D.Disk.moment_of g.D.Disk.left_since g.D.Disk.told g.D.Disk.image start opening c.args.self.now c.make_room.new.log c.make_room.ensures.same b) in
+    let f : (start : List (List Op)) (opening : ℕ) → IsBack g.D.Disk.moment_of g.D.Disk.left_since g.D.Disk.told g.D.Disk.image g.D.Disk.faults_of start opening true c.args.self.now → IsBack g.D.Disk.moment_of g.D.Disk.left_since g.D.Disk.told g.D.Disk.image g.D.Disk.faults_of start opening false (record c.args.self.now { log = c.make_room.new.log }) =
+    λ start opening b. back_stopped g.D.Disk.moment_of g.D.Disk.left_since g.D.Disk.told g.D.Disk.image g.D.Disk.faults_of start opening (record c.args.self.now { log = c.make_room.new.log }) (back_room g.D.Disk.moment_of g.D.Disk.left_since g.D.Disk.told g.D.Disk.image g.D.Disk.faults_of start opening c.args.self.now c.make_room.new.log c.make_room.ensures.same b) in
     on_err _ _ f
 
 pub returns-clause-notice : goal.returns-clause-notice
@@ -24,14 +24,14 @@ returns-clause-notice g c = ap (λ (x : Fit). notice_as x c.args.entry c.args.se
 
 pub returns-clause-enters : goal.returns-clause-enters
 returns-clause-enters g c =
-    down_enters g.D.Disk.moment_of g.D.Disk.left_since g.D.Disk.told g.D.Disk.image c.args.self.now c.take_down.new.self c.make_room.new.log c.args.entry c.make_room.ensures.same c.requires.may c.requires.fit c.in_ok-take_down.ensures.took
+    down_enters g.D.Disk.moment_of g.D.Disk.left_since g.D.Disk.told g.D.Disk.image g.D.Disk.faults_of c.args.self.now c.take_down.new.self c.make_room.new.log c.args.entry c.make_room.ensures.same c.requires.may c.requires.fit c.in_ok-take_down.ensures.took
 
 pub returns-clause-back : goal.returns-clause-back
 returns-clause-back g c start opening b =
-    inr (c.in_ok-take_down.ensures.took.back start opening (down_unmounted g.D.Disk.moment_of g.D.Disk.left_since g.D.Disk.told g.D.Disk.image start opening c.args.self.now c.make_room.new.log c.args.entry c.make_room.ensures.same c.requires.fit b))
+    inr (c.in_ok-take_down.ensures.took.back start opening (down_unmounted g.D.Disk.moment_of g.D.Disk.left_since g.D.Disk.told g.D.Disk.image g.D.Disk.faults_of start opening c.args.self.now c.make_room.new.log c.args.entry c.make_room.ensures.same c.requires.fit b))
 
 pub returns-in_err-take_down-clause-stopped : goal.returns-in_err-take_down-clause-stopped
 returns-in_err-take_down-clause-stopped g c =
-    let f : (start : List (List Op)) (opening : ℕ) → IsBack g.D.Disk.moment_of g.D.Disk.left_since g.D.Disk.told g.D.Disk.image start opening true c.args.self.now → IsBack g.D.Disk.moment_of g.D.Disk.left_since g.D.Disk.told g.D.Disk.image start opening false c.take_down.new.self =
-    λ start opening b. inr (c.in_err-take_down.ensures.failed.back start opening (down_unmounted g.D.Disk.moment_of g.D.Disk.left_since g.D.Disk.told g.D.Disk.image start opening c.args.self.now c.make_room.new.log c.args.entry c.make_room.ensures.same c.requires.fit b)) in
+    let f : (start : List (List Op)) (opening : ℕ) → IsBack g.D.Disk.moment_of g.D.Disk.left_since g.D.Disk.told g.D.Disk.image g.D.Disk.faults_of start opening true c.args.self.now → IsBack g.D.Disk.moment_of g.D.Disk.left_since g.D.Disk.told g.D.Disk.image g.D.Disk.faults_of start opening false c.take_down.new.self =
+    λ start opening b. inr (c.in_err-take_down.ensures.failed.back start opening (down_unmounted g.D.Disk.moment_of g.D.Disk.left_since g.D.Disk.told g.D.Disk.image g.D.Disk.faults_of start opening c.args.self.now c.make_room.new.log c.args.entry c.make_room.ensures.same c.requires.fit b)) in
     on_err _ _ f

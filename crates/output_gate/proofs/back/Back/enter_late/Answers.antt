@@ -3,15 +3,15 @@ use Rattle.storage_map.specs.declared.op.Op.{Op}
 use Rattle.output_gate.specs.Entering.{notice_as}
 use Rattle.output_gate.specs.Serving.{IsBack}
 use Rattle.output_gate.specs.declared.fit.Fit.{Fit}
-use Rattle.output_gate.proofs.Enter.{late_enters}
+use Rattle.output_gate.proofs.Enter.{late_enters, late_back}
 use Rattle.output_gate.proofs.Entered.{on_err}
 use Rattle.output_gate.proofs.Gone.{back_room, back_stopped, back_held}
 use Rattle.output_gate.proofs.back.Back.enter_late.Goals as goal
 
 pub returns-in_err-make_room-clause-stopped : goal.returns-in_err-make_room-clause-stopped
 returns-in_err-make_room-clause-stopped g c =
-    let f : (start : List (List Op)) (opening : ℕ) → IsBack g.D.Disk.moment_of g.D.Disk.left_since g.D.Disk.told g.D.Disk.image start opening true c.args.self.now → IsBack g.D.Disk.moment_of g.D.Disk.left_since g.D.Disk.told g.D.Disk.image start opening false (record c.args.self.now { log = c.make_room.new.log }) =
-    λ start opening b. back_stopped g.D.Disk.moment_of g.D.Disk.left_since g.D.Disk.told g.D.Disk.image start opening (record c.args.self.now { log = c.make_room.new.log }) (back_room g.D.Disk.moment_of g.D.Disk.left_since g.D.Disk.told g.D.Disk.image start opening c.args.self.now c.make_room.new.log c.make_room.ensures.same b) in
+    let f : (start : List (List Op)) (opening : ℕ) → IsBack g.D.Disk.moment_of g.D.Disk.left_since g.D.Disk.told g.D.Disk.image g.D.Disk.faults_of start opening true c.args.self.now → IsBack g.D.Disk.moment_of g.D.Disk.left_since g.D.Disk.told g.D.Disk.image g.D.Disk.faults_of start opening false (record c.args.self.now { log = c.make_room.new.log }) =
+    λ start opening b. back_stopped g.D.Disk.moment_of g.D.Disk.left_since g.D.Disk.told g.D.Disk.image g.D.Disk.faults_of start opening (record c.args.self.now { log = c.make_room.new.log }) (back_room g.D.Disk.moment_of g.D.Disk.left_since g.D.Disk.told g.D.Disk.image g.D.Disk.faults_of start opening c.args.self.now c.make_room.new.log c.make_room.ensures.same b) in
     on_err _ _ f
 
 pub returns-clause-notice : goal.returns-clause-notice
@@ -19,11 +19,15 @@ returns-clause-notice g c = ap (λ (x : Fit). notice_as x c.args.entry c.args.se
 
 pub returns-clause-enters : goal.returns-clause-enters
 returns-clause-enters g c =
-    late_enters g.D.Disk.moment_of g.D.Disk.left_since g.D.Disk.told g.D.Disk.image c.args.self.now c.take_late.new.self c.make_room.new.log c.args.entry c.make_room.ensures.same c.requires.may c.requires.fit c.in_ok-take_late.ensures.took
+    late_enters g.D.Disk.moment_of g.D.Disk.left_since g.D.Disk.told g.D.Disk.image g.D.Disk.faults_of c.args.self.now c.take_late.new.self c.make_room.new.log c.args.entry c.make_room.ensures.same c.requires.may c.requires.fit c.in_ok-take_late.ensures.took
 
 pub returns-in_err-take_late-clause-stopped : goal.returns-in_err-take_late-clause-stopped
 returns-in_err-take_late-clause-stopped g c =
-    let f : (start : List (List Op)) (opening : ℕ) → IsBack g.D.Disk.moment_of g.D.Disk.left_since g.D.Disk.told g.D.Disk.image start opening true c.args.self.now → IsBack g.D.Disk.moment_of g.D.Disk.left_since g.D.Disk.told g.D.Disk.image start opening false c.take_late.new.self =
-    λ start opening b. back_held g.D.Disk.moment_of g.D.Disk.left_since g.D.Disk.told g.D.Disk.image start opening (record c.args.self.now { log = c.make_room.new.log }) c.take_late.new.self c.in_err-take_late.ensures.kept.0 c.in_err-take_late.ensures.kept.1
-    (back_room g.D.Disk.moment_of g.D.Disk.left_since g.D.Disk.told g.D.Disk.image start opening c.args.self.now c.make_room.new.log c.make_room.ensures.same b) in
+    let f : (start : List (List Op)) (opening : ℕ) → IsBack g.D.Disk.moment_of g.D.Disk.left_since g.D.Disk.told g.D.Disk.image g.D.Disk.faults_of start opening true c.args.self.now → IsBack g.D.Disk.moment_of g.D.Disk.left_since g.D.Disk.told g.D.Disk.image g.D.Disk.faults_of start opening false c.take_late.new.self =
+    λ start opening b. back_held g.D.Disk.moment_of g.D.Disk.left_since g.D.Disk.told g.D.Disk.image g.D.Disk.faults_of start opening (record c.args.self.now { log = c.make_room.new.log }) c.take_late.new.self c.in_err-take_late.ensures.kept.0 c.in_err-take_late.ensures.kept.1
+    (back_room g.D.Disk.moment_of g.D.Disk.left_since g.D.Disk.told g.D.Disk.image g.D.Disk.faults_of start opening c.args.self.now c.make_room.new.log c.make_room.ensures.same b) in
     on_err _ _ f
+
+pub returns-clause-back : goal.returns-clause-back
+returns-clause-back g c start opening b =
+    late_back g.D.Disk.moment_of g.D.Disk.left_since g.D.Disk.told g.D.Disk.image g.D.Disk.faults_of start opening c.args.self.now c.take_late.new.self c.make_room.new.log c.args.entry c.make_room.ensures.same c.requires.fit c.in_ok-take_late.ensures.took b

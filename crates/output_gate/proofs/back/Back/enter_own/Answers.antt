@@ -12,12 +12,12 @@ use Rattle.output_gate.proofs.back.Back.enter_own.Goals as goal
 pub take_own-requires : goal.take_own-requires
 take_own-requires g c =
     let b = c.requires.back in
-    own_can g.D.Disk.moment_of g.D.Disk.left_since g.D.Disk.told g.D.Disk.image b.0 b.1 c.args.self.now c.make_room.new.log c.args.entry c.make_room.ensures.same c.in_ok-make_room.ensures.room c.requires.may c.requires.fit b.2
+    own_can g.D.Disk.moment_of g.D.Disk.left_since g.D.Disk.told g.D.Disk.image g.D.Disk.faults_of b.0 b.1 c.args.self.now c.make_room.new.log c.args.entry c.make_room.ensures.same c.in_ok-make_room.ensures.room c.requires.may c.requires.fit b.2
 
 pub returns-in_err-make_room-clause-stopped : goal.returns-in_err-make_room-clause-stopped
 returns-in_err-make_room-clause-stopped g c =
-    let f : (start : List (List Op)) (opening : ℕ) → IsBack g.D.Disk.moment_of g.D.Disk.left_since g.D.Disk.told g.D.Disk.image start opening true c.args.self.now → IsBack g.D.Disk.moment_of g.D.Disk.left_since g.D.Disk.told g.D.Disk.image start opening false (record c.args.self.now { log = c.make_room.new.log }) =
-    λ start opening b. back_stopped g.D.Disk.moment_of g.D.Disk.left_since g.D.Disk.told g.D.Disk.image start opening (record c.args.self.now { log = c.make_room.new.log }) (back_room g.D.Disk.moment_of g.D.Disk.left_since g.D.Disk.told g.D.Disk.image start opening c.args.self.now c.make_room.new.log c.make_room.ensures.same b) in
+    let f : (start : List (List Op)) (opening : ℕ) → IsBack g.D.Disk.moment_of g.D.Disk.left_since g.D.Disk.told g.D.Disk.image g.D.Disk.faults_of start opening true c.args.self.now → IsBack g.D.Disk.moment_of g.D.Disk.left_since g.D.Disk.told g.D.Disk.image g.D.Disk.faults_of start opening false (record c.args.self.now { log = c.make_room.new.log }) =
+    λ start opening b. back_stopped g.D.Disk.moment_of g.D.Disk.left_since g.D.Disk.told g.D.Disk.image g.D.Disk.faults_of start opening (record c.args.self.now { log = c.make_room.new.log }) (back_room g.D.Disk.moment_of g.D.Disk.left_since g.D.Disk.told g.D.Disk.image g.D.Disk.faults_of start opening c.args.self.now c.make_room.new.log c.make_room.ensures.same b) in
     on_err _ _ f
 
 pub returns-clause-notice : goal.returns-clause-notice
@@ -26,15 +26,15 @@ returns-clause-notice g c =
 
 pub returns-clause-enters : goal.returns-clause-enters
 returns-clause-enters g c =
-    on_ok_weaker c.take_own.result (λ t. own_enters g.D.Disk.moment_of g.D.Disk.left_since g.D.Disk.told g.D.Disk.image c.args.self.now c.take_own.new.self c.make_room.new.log c.args.entry c.make_room.ensures.same c.requires.may c.requires.fit t)
+    on_ok_weaker c.take_own.result (λ t. own_enters g.D.Disk.moment_of g.D.Disk.left_since g.D.Disk.told g.D.Disk.image g.D.Disk.faults_of c.args.self.now c.take_own.new.self c.make_room.new.log c.args.entry c.make_room.ensures.same c.requires.may c.requires.fit t)
     c.take_own.ensures.took
 
 pub returns-clause-back : goal.returns-clause-back
 returns-clause-back g c =
     on_ok_weaker c.take_own.result (λ t start opening b. inl (t.back start opening
-    (own_mounted g.D.Disk.moment_of g.D.Disk.left_since g.D.Disk.told g.D.Disk.image start opening c.args.self.now c.make_room.new.log c.args.entry c.make_room.ensures.same c.requires.fit b))) c.take_own.ensures.took
+    (own_mounted g.D.Disk.moment_of g.D.Disk.left_since g.D.Disk.told g.D.Disk.image g.D.Disk.faults_of start opening c.args.self.now c.make_room.new.log c.args.entry c.make_room.ensures.same c.requires.fit b))) c.take_own.ensures.took
 
 pub returns-clause-stopped : goal.returns-clause-stopped
 returns-clause-stopped g c =
     err_weaker c.take_own.result _ _ (λ t start opening b. inl (t.back start opening
-    (own_mounted g.D.Disk.moment_of g.D.Disk.left_since g.D.Disk.told g.D.Disk.image start opening c.args.self.now c.make_room.new.log c.args.entry c.make_room.ensures.same c.requires.fit b))) c.take_own.ensures.failed
+    (own_mounted g.D.Disk.moment_of g.D.Disk.left_since g.D.Disk.told g.D.Disk.image g.D.Disk.faults_of start opening c.args.self.now c.make_room.new.log c.args.entry c.make_room.ensures.same c.requires.fit b))) c.take_own.ensures.failed

@@ -8,19 +8,19 @@ use Rattle.output_gate.proofs.back.Back.flush.Goals as goal
 pub append-requires : goal.append-requires
 append-requires g c =
     let r = c.requires in
-    let m = flushed_back g.D.Disk.moment_of g.D.Disk.left_since g.D.Disk.told g.D.Disk.image r.1.0 r.1.1 r.0 c.args.self.now c.if-self.false r.1.2 in
+    let m = flushed_back g.D.Disk.moment_of g.D.Disk.left_since g.D.Disk.told g.D.Disk.image g.D.Disk.faults_of r.1.0 r.1.1 r.0 c.args.self.now c.if-self.false r.1.2 in
     (m.journal, m.safe.store, can_append g.D.Disk.told g.D.Disk.image m.journal c.args.self.now m.safe c.if-self.false)
 
 pub land-requires : goal.land-requires
 land-requires g c =
     let r = c.requires in
-    let m = flushed_back g.D.Disk.moment_of g.D.Disk.left_since g.D.Disk.told g.D.Disk.image r.1.0 r.1.1 r.0 c.args.self.now c.if-self.false r.1.2 in
+    let m = flushed_back g.D.Disk.moment_of g.D.Disk.left_since g.D.Disk.told g.D.Disk.image g.D.Disk.faults_of r.1.0 r.1.1 r.0 c.args.self.now c.if-self.false r.1.2 in
     can_land g.D.Disk.told g.D.Disk.image m.journal c.args.self.now c.append.new.self m.safe c.if-self.false
 
 pub stop-requires : goal.stop-requires
 stop-requires g c =
     let r = c.requires in
-    let m = flushed_back g.D.Disk.moment_of g.D.Disk.left_since g.D.Disk.told g.D.Disk.image r.1.0 r.1.1 r.0 c.args.self.now c.if-self.false r.1.2 in
+    let m = flushed_back g.D.Disk.moment_of g.D.Disk.left_since g.D.Disk.told g.D.Disk.image g.D.Disk.faults_of r.1.0 r.1.1 r.0 c.args.self.now c.if-self.false r.1.2 in
     can_stop g.D.Disk.told g.D.Disk.image m.journal c.args.self.now c.append.new.self m.safe c.if-self.false
 
 pub returns-in-Ok : goal.returns-in-Ok
@@ -28,7 +28,7 @@ returns-in-Ok g c = record {
   nothing = λ even. absurd (c.if-self.false even);
   flushed = λ other. (refl, inl (ap backed c.land.ensures.log ∙ ap (λ (fs : List ℕ). record (backed c.args.self.now.log) { flights = fs }) c.land.ensures.flights));
   back = λ start opening sound b.
-      let m = flushed_back g.D.Disk.moment_of g.D.Disk.left_since g.D.Disk.told g.D.Disk.image start opening sound c.args.self.now c.if-self.false b in
+      let m = flushed_back g.D.Disk.moment_of g.D.Disk.left_since g.D.Disk.told g.D.Disk.image g.D.Disk.faults_of start opening sound c.args.self.now c.if-self.false b in
       inl (mounted_lands g.D.Disk.moment_of g.D.Disk.left_since g.D.Disk.told g.D.Disk.image g.D.Disk.faults_of g.met.D.Disk.counts_now start opening sound c.args.self.now c.land.new.self c.append.new.self m
       c.if-self.false (c.in-Ok.ensures m.journal m.safe.store) c.land.ensures);
 }
@@ -36,7 +36,7 @@ returns-in-Ok g c = record {
 pub returns-in-Err : goal.returns-in-Err
 returns-in-Err g c =
     let r = c.requires in
-    let m = flushed_back g.D.Disk.moment_of g.D.Disk.left_since g.D.Disk.told g.D.Disk.image r.1.0 r.1.1 r.0 c.args.self.now c.if-self.false r.1.2 in
+    let m = flushed_back g.D.Disk.moment_of g.D.Disk.left_since g.D.Disk.told g.D.Disk.image g.D.Disk.faults_of r.1.0 r.1.1 r.0 c.args.self.now c.if-self.false r.1.2 in
     let a = c.in-Err.ensures m.journal m.safe.store in
     record {
       nothing = λ even. absurd (c.if-self.false even);
@@ -53,7 +53,7 @@ returns-in-Err g c =
         }),
       );
       back = λ start opening sound b.
-          let n = flushed_back g.D.Disk.moment_of g.D.Disk.left_since g.D.Disk.told g.D.Disk.image start opening sound c.args.self.now c.if-self.false b in
+          let n = flushed_back g.D.Disk.moment_of g.D.Disk.left_since g.D.Disk.told g.D.Disk.image g.D.Disk.faults_of start opening sound c.args.self.now c.if-self.false b in
           inr (mounted_ends g.D.Disk.moment_of g.D.Disk.left_since g.D.Disk.told g.D.Disk.image g.D.Disk.faults_of g.met.D.Disk.counts_now start opening sound c.args.self.now c.stop.new.self c.append.new.self
           c.in-Err.fault n c.if-self.false (c.in-Err.ensures n.journal n.safe.store) c.stop.ensures);
     }

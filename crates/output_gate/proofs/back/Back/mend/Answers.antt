@@ -10,19 +10,19 @@ use Rattle.output_gate.proofs.back.Back.mend.Goals as goal
 
 pub returns-in_err-mend_room-clause-stopped : goal.returns-in_err-mend_room-clause-stopped
 returns-in_err-mend_room-clause-stopped g c =
-    let f : (start : List (List Op)) (opening : ℕ) → IsBack g.D.Disk.moment_of g.D.Disk.left_since g.D.Disk.told g.D.Disk.image start opening true c.args.self.now → IsBack g.D.Disk.moment_of g.D.Disk.left_since g.D.Disk.told g.D.Disk.image start opening false (record c.args.self.now { log = c.mend_room.new.log }) =
-    λ start opening b. back_stopped g.D.Disk.moment_of g.D.Disk.left_since g.D.Disk.told g.D.Disk.image start opening (record c.args.self.now { log = c.mend_room.new.log })
-    (back_room g.D.Disk.moment_of g.D.Disk.left_since g.D.Disk.told g.D.Disk.image start opening c.args.self.now c.mend_room.new.log c.mend_room.ensures.same b) in
+    let f : (start : List (List Op)) (opening : ℕ) → IsBack g.D.Disk.moment_of g.D.Disk.left_since g.D.Disk.told g.D.Disk.image g.D.Disk.faults_of start opening true c.args.self.now → IsBack g.D.Disk.moment_of g.D.Disk.left_since g.D.Disk.told g.D.Disk.image g.D.Disk.faults_of start opening false (record c.args.self.now { log = c.mend_room.new.log }) =
+    λ start opening b. back_stopped g.D.Disk.moment_of g.D.Disk.left_since g.D.Disk.told g.D.Disk.image g.D.Disk.faults_of start opening (record c.args.self.now { log = c.mend_room.new.log })
+    (back_room g.D.Disk.moment_of g.D.Disk.left_since g.D.Disk.told g.D.Disk.image g.D.Disk.faults_of start opening c.args.self.now c.mend_room.new.log c.mend_room.ensures.same b) in
     on_err _ _ f
 
 pub remount-requires : goal.remount-requires
 remount-requires g c =
-    mend_can g.D.Disk.moment_of g.D.Disk.left_since g.D.Disk.told g.D.Disk.image c.args.self.now c.mend_room.new.log c.in-Wanted.ending c.mend_room.ensures.same c.in_ok-mend_room.ensures.room c.in-Wanted.is c.requires
+    mend_can g.D.Disk.moment_of g.D.Disk.left_since g.D.Disk.told g.D.Disk.image g.D.Disk.faults_of c.args.self.now c.mend_room.new.log c.in-Wanted.ending c.mend_room.ensures.same c.in_ok-mend_room.ensures.room c.in-Wanted.is c.requires
 
 pub returns-in_err-notice-clause-stopped : goal.returns-in_err-notice-clause-stopped
 returns-in_err-notice-clause-stopped g c =
-    let f : (start : List (List Op)) (opening : ℕ) → IsBack g.D.Disk.moment_of g.D.Disk.left_since g.D.Disk.told g.D.Disk.image start opening true c.args.self.now → IsBack g.D.Disk.moment_of g.D.Disk.left_since g.D.Disk.told g.D.Disk.image start opening false c.remount.new.self =
-    λ start opening b. inr (c.in_err-notice.ensures.stopped start opening (unmounted_room g.D.Disk.moment_of g.D.Disk.left_since g.D.Disk.told g.D.Disk.image start opening c.args.self.now c.mend_room.new.log c.in-Wanted.ending c.mend_room.ensures.same c.in-Wanted.is b)) in
+    let f : (start : List (List Op)) (opening : ℕ) → IsBack g.D.Disk.moment_of g.D.Disk.left_since g.D.Disk.told g.D.Disk.image g.D.Disk.faults_of start opening true c.args.self.now → IsBack g.D.Disk.moment_of g.D.Disk.left_since g.D.Disk.told g.D.Disk.image g.D.Disk.faults_of start opening false c.remount.new.self =
+    λ start opening b. inr (c.in_err-notice.ensures.stopped start opening (unmounted_room g.D.Disk.moment_of g.D.Disk.left_since g.D.Disk.told g.D.Disk.image g.D.Disk.faults_of start opening c.args.self.now c.mend_room.new.log c.in-Wanted.ending c.mend_room.ensures.same c.in-Wanted.is b)) in
     on_err _ _ f
 
 pub returns-in_err-send-clause-lost : goal.returns-in_err-send-clause-lost
@@ -34,8 +34,8 @@ returns-in_err-send-clause-lost g c =
 
 pub returns-in_err-send-clause-stopped : goal.returns-in_err-send-clause-stopped
 returns-in_err-send-clause-stopped g c =
-    let f : (start : List (List Op)) (opening : ℕ) → IsBack g.D.Disk.moment_of g.D.Disk.left_since g.D.Disk.told g.D.Disk.image start opening true c.args.self.now → IsBack g.D.Disk.moment_of g.D.Disk.left_since g.D.Disk.told g.D.Disk.image start opening false c.remount.new.self =
-    λ start opening b. back_stopped g.D.Disk.moment_of g.D.Disk.left_since g.D.Disk.told g.D.Disk.image start opening c.remount.new.self (c.in_ok-notice.ensures.back start opening (unmounted_room g.D.Disk.moment_of g.D.Disk.left_since g.D.Disk.told g.D.Disk.image start opening c.args.self.now c.mend_room.new.log c.in-Wanted.ending c.mend_room.ensures.same c.in-Wanted.is b)) in
+    let f : (start : List (List Op)) (opening : ℕ) → IsBack g.D.Disk.moment_of g.D.Disk.left_since g.D.Disk.told g.D.Disk.image g.D.Disk.faults_of start opening true c.args.self.now → IsBack g.D.Disk.moment_of g.D.Disk.left_since g.D.Disk.told g.D.Disk.image g.D.Disk.faults_of start opening false c.remount.new.self =
+    λ start opening b. back_stopped g.D.Disk.moment_of g.D.Disk.left_since g.D.Disk.told g.D.Disk.image g.D.Disk.faults_of start opening c.remount.new.self (c.in_ok-notice.ensures.back start opening (unmounted_room g.D.Disk.moment_of g.D.Disk.left_since g.D.Disk.told g.D.Disk.image g.D.Disk.faults_of start opening c.args.self.now c.mend_room.new.log c.in-Wanted.ending c.mend_room.ensures.same c.in-Wanted.is b)) in
     on_err _ _ f
 
 pub returns-clause-mended : goal.returns-clause-mended
@@ -48,7 +48,7 @@ returns-clause-mended g c did = record {
 }
 
 pub returns-clause-back : goal.returns-clause-back
-returns-clause-back g c start opening b = c.in_ok-notice.ensures.back start opening (unmounted_room g.D.Disk.moment_of g.D.Disk.left_since g.D.Disk.told g.D.Disk.image start opening c.args.self.now c.mend_room.new.log c.in-Wanted.ending c.mend_room.ensures.same c.in-Wanted.is b)
+returns-clause-back g c start opening b = c.in_ok-notice.ensures.back start opening (unmounted_room g.D.Disk.moment_of g.D.Disk.left_since g.D.Disk.told g.D.Disk.image g.D.Disk.faults_of start opening c.args.self.now c.mend_room.new.log c.in-Wanted.ending c.mend_room.ensures.same c.in-Wanted.is b)
 
 pub returns-clause-falls : goal.returns-clause-falls
 returns-clause-falls g c may = c.remount.ensures.falls

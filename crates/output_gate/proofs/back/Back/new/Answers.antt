@@ -1,4 +1,6 @@
 use Rattle.std.proofs.Common.{refl, inl}
+use Rattle.output_gate.proofs.Counts.{counts_new}
+use Rattle.output_gate.proofs.Endings.{logged_new}
 use Rattle.output_gate.proofs.Opens.{serves_new, safe_new}
 use Rattle.output_gate.proofs.back.Back.new.Goals as goal
 
@@ -18,5 +20,7 @@ returns g c = record {
         (rw (c.new-3.ensures.items, c.new-4.ensures.items, c.new-5.ensures.items, c.new-6.ensures.items, c.new-7.ensures.items, c.new-8.ensures.items) refl);
     serves = λ tells. serves_new g.D.Disk.moment_of g.D.Disk.left_since g.D.Disk.told g.D.Disk.image disk c.args.mounted is c.requires c.limit-limit.result c.new.result c.new-2.result _ c.new.ensures c.new-2.ensures.items
         (rw (c.new-3.ensures.items, c.new-4.ensures.items, c.new-5.ensures.items, c.new-6.ensures.items, c.new-7.ensures.items, c.new-8.ensures.items) refl);
+    logged = logged_new _ _ (rw (c.new-3.ensures.items, c.new-4.ensures.items, c.new-5.ensures.items, c.new-6.ensures.items, c.new-7.ensures.items, c.new-8.ensures.items) refl);
+    counts = counts_new _ _ _ c.new-5.ensures.items c.new-8.ensures.items;
   });
 }

@@ -7,8 +7,8 @@ use Rattle.output_gate.proofs.back.Back.release.Goals as goal
 
 pub returns-in_err-copy-in-Message-clause-stopped : goal.returns-in_err-copy-in-Message-clause-stopped
 returns-in_err-copy-in-Message-clause-stopped g c =
-    let f : (start : List (List Op)) (opening : ℕ) → IsBack g.D.Disk.moment_of g.D.Disk.left_since g.D.Disk.told g.D.Disk.image start opening true c.args.self.now → IsBack g.D.Disk.moment_of g.D.Disk.left_since g.D.Disk.told g.D.Disk.image start opening false c.args.self.now =
-    λ start opening b. back_stopped g.D.Disk.moment_of g.D.Disk.left_since g.D.Disk.told g.D.Disk.image start opening c.args.self.now b in
+    let f : (start : List (List Op)) (opening : ℕ) → IsBack g.D.Disk.moment_of g.D.Disk.left_since g.D.Disk.told g.D.Disk.image g.D.Disk.faults_of start opening true c.args.self.now → IsBack g.D.Disk.moment_of g.D.Disk.left_since g.D.Disk.told g.D.Disk.image g.D.Disk.faults_of start opening false c.args.self.now =
+    λ start opening b. back_stopped g.D.Disk.moment_of g.D.Disk.left_since g.D.Disk.told g.D.Disk.image g.D.Disk.faults_of start opening c.args.self.now b in
     on_err _ _ f
 
 pub returns-in_err-release_message-in-Message-clause-stays : goal.returns-in_err-release_message-in-Message-clause-stays

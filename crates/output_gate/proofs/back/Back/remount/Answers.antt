@@ -1,8 +1,10 @@
-use Rattle.std.proofs.Common.{sym, subst, inl, inr}
+use Rattle.std.proofs.Common.{◌∙◌, ap, sym, subst, inl, inr, refl, arith, ℕ}
 use Rattle.batch_journal.specs.Moments.{LeavesOnly, TellsAsBefore}
 use Rattle.batch_journal.specs.Mounting.{ImageOrHeader}
+use Rattle.timeline.specs.declared.notice.Notice.TheVariants as notice
+use Rattle.output_gate.specs.Mending.{Misses}
 use Rattle.output_gate.proofs.Remounts.{remount_begins, remount_misses, remount_fails}
-use Rattle.output_gate.proofs.Falls.{begun_falls, wanted_falls, refused_falls, other_falls}
+use Rattle.output_gate.proofs.Falls.{begun_falls, wanted_falls, refused_rises, refused_falls, other_rises, other_falls}
 use Rattle.output_gate.proofs.back.Back.remount.Goals as goal
 
 pub returns-then-may_be-clause-remounts : goal.returns-then-may_be-clause-remounts
@@ -13,25 +15,40 @@ returns-then-may_be-clause-remounts g c =
 pub returns-then-may_be-clause-back : goal.returns-then-may_be-clause-back
 returns-then-may_be-clause-back g c start opening u =
     let b = c.begin.ensures.begins in
-    inl (remount_begins g.D.Disk.moment_of g.D.Disk.left_since g.D.Disk.told g.D.Disk.image g.met.D.Disk.reads_an_image g.met.D.Disk.counts_now start opening c.args.self.now c.begin.new.self c.leave-disk.result c.args.ending c.in-Mounted.mounted c.requires.wanted c.leave-disk.ensures.disk
-    c.in-Mounted.ensures.found (c.may_be.ensures.own c.if-may_be.true) (record { log = b.log; same = b.same }) u)
+    inl (remount_begins g.D.Disk.moment_of g.D.Disk.left_since g.D.Disk.told g.D.Disk.image g.D.Disk.faults_of g.met.D.Disk.reads_an_image g.met.D.Disk.counts_now start opening c.args.self.now c.begin.new.self c.leave-disk.result c.args.ending c.in-Mounted.mounted c.requires.wanted c.leave-disk.ensures.disk
+    c.in-Mounted.ensures.found (c.may_be.ensures.own c.if-may_be.true) (record { log = b.log; same = b.same }) (omega (arith, c.in-Mounted.ensures.counted)) u)
+
+pub returns-else-may_be-clause-remounts : goal.returns-else-may_be-clause-remounts
+returns-else-may_be-clause-remounts g c =
+    let m = c.miss.ensures.misses in
+    inr (record {
+      disk = c.leave-disk.result;
+      left = c.bare.result;
+      at = c.leave-disk.ensures.disk;
+      misses = subst (λ (n : ℕ). Misses c.args.self.now c.miss.new.self c.args.ending c.bare.result n (g.D.Disk.faults_of c.bare.result)) c.faults-before.ensures (record { log = m.log; same = m.same });
+      notice = c.miss.ensures.notice ∙ ap (λ (n : ℕ). notice.Down c.args.ending.cause n (g.D.Disk.faults_of c.bare.result)) c.faults-before.ensures;
+    })
 
 pub returns-else-may_be-clause-back : goal.returns-else-may_be-clause-back
 returns-else-may_be-clause-back g c start opening u =
     let m = c.miss.ensures.misses in
-    inr (remount_misses g.D.Disk.moment_of g.D.Disk.left_since g.D.Disk.told g.D.Disk.image g.met.D.Disk.reads_an_image g.met.D.Disk.counts_now start opening c.args.self.now c.miss.new.self c.leave-disk.result c.bare.result c.args.ending _ _ c.requires.wanted c.leave-disk.ensures.disk
+    inr (remount_misses g.D.Disk.moment_of g.D.Disk.left_since g.D.Disk.told g.D.Disk.image g.D.Disk.faults_of g.met.D.Disk.reads_an_image g.met.D.Disk.counts_now start opening c.args.self.now c.miss.new.self c.leave-disk.result c.bare.result c.args.ending _ _ c.requires.wanted c.leave-disk.ensures.disk
     (subst (λ d. LeavesOnly g.D.Disk.moment_of g.D.Disk.left_since c.leave-disk.result d (ImageOrHeader (g.D.Disk.told c.leave-disk.result) (g.D.Disk.image c.leave-disk.result)) × TellsAsBefore (g.D.Disk.told c.leave-disk.result) (g.D.Disk.told d))
-    (sym c.bare.ensures) (c.in-Mounted.ensures.found.2, c.in-Mounted.ensures.found.3)) (record { log = m.log; same = m.same }) u)
+    (sym c.bare.ensures) (c.in-Mounted.ensures.found.2, c.in-Mounted.ensures.found.3)) (record { log = m.log; same = m.same }) c.faults-before.ensures refl
+    (other_rises g.D.Disk.moment_of g.D.Disk.left_since g.D.Disk.told g.D.Disk.image g.met.D.Disk.reads_an_image g.met.D.Disk.counts_now g.D.Disk.faults_of start opening
+    c.args.self.now c.leave-disk.result c.bare.result c.args.ending c.in-Mounted.mounted c.requires.wanted c.leave-disk.ensures.disk c.in-Mounted.ensures.found.0 (c.may_be.ensures.other c.if-may_be.false) u) u)
 
 pub returns-in-Refused-clause-back : goal.returns-in-Refused-clause-back
 returns-in-Refused-clause-back g c start opening u =
     let m = c.miss-in-Refused.ensures.misses in
-    inr (remount_misses g.D.Disk.moment_of g.D.Disk.left_since g.D.Disk.told g.D.Disk.image g.met.D.Disk.reads_an_image g.met.D.Disk.counts_now start opening c.args.self.now c.miss-in-Refused.new.self c.leave-disk.result c.in-Refused.disk c.args.ending _ _ c.requires.wanted c.leave-disk.ensures.disk
-    c.in-Refused.ensures.found (record { log = m.log; same = m.same }) u)
+    inr (remount_misses g.D.Disk.moment_of g.D.Disk.left_since g.D.Disk.told g.D.Disk.image g.D.Disk.faults_of g.met.D.Disk.reads_an_image g.met.D.Disk.counts_now start opening c.args.self.now c.miss-in-Refused.new.self c.leave-disk.result c.in-Refused.disk c.args.ending _ _ c.requires.wanted c.leave-disk.ensures.disk
+    c.in-Refused.ensures.found (record { log = m.log; same = m.same }) c.faults-before.ensures refl
+    (refused_rises g.D.Disk.moment_of g.D.Disk.left_since g.D.Disk.told g.D.Disk.image g.met.D.Disk.reads_an_image g.met.D.Disk.counts_now g.D.Disk.faults_of start opening
+    c.args.self.now c.leave-disk.result c.in-Refused.disk c.args.ending c.requires.wanted c.leave-disk.ensures.disk c.in-Refused.ensures.cause u) u)
 
 pub returns-in-NoMemory-clause-stopped : goal.returns-in-NoMemory-clause-stopped
 returns-in-NoMemory-clause-stopped g c start opening u =
-    remount_fails g.D.Disk.moment_of g.D.Disk.left_since g.D.Disk.told g.D.Disk.image g.met.D.Disk.reads_an_image g.met.D.Disk.counts_now start opening c.args.self.now c.leave-disk.result c.in-NoMemory.disk c.args.ending c.fill.new.self c.fill.ensures c.requires.wanted c.leave-disk.ensures.disk c.in-NoMemory.ensures.found u
+    remount_fails g.D.Disk.moment_of g.D.Disk.left_since g.D.Disk.told g.D.Disk.image g.D.Disk.faults_of g.met.D.Disk.reads_an_image g.met.D.Disk.counts_now start opening c.args.self.now c.leave-disk.result c.in-NoMemory.disk c.args.ending c.fill.new.self c.fill.ensures c.requires.wanted c.leave-disk.ensures.disk c.in-NoMemory.ensures.found (omega (arith, c.in-NoMemory.ensures.counted)) u
 
 pub returns-then-may_be-clause-falls : goal.returns-then-may_be-clause-falls
 returns-then-may_be-clause-falls g c =

@@ -1,7 +1,7 @@
-use Rattle.std.proofs.Common.{◌∙◌, sym, List, ℕ, true, false}
+use Rattle.std.proofs.Common.{List, ℕ, true, false}
 use Rattle.storage_map.specs.declared.op.Op.{Op}
 use Rattle.output_gate.specs.Serving.{IsBack}
-use Rattle.output_gate.proofs.Enter.{not_late, late_entry, loses}
+use Rattle.output_gate.proofs.Enter.{loses}
 use Rattle.output_gate.proofs.Entered.{on_err}
 use Rattle.output_gate.proofs.Gone.{back_stopped}
 use Rattle.output_gate.proofs.back.Back.take.Goals as goal
@@ -13,16 +13,7 @@ returns-in_err-send-in-Some-clause-lost g c =
 
 pub returns-in_err-send-in-Some-clause-stopped : goal.returns-in_err-send-in-Some-clause-stopped
 returns-in_err-send-in-Some-clause-stopped g c =
-    let told = sym c.in-Some-2.is ∙ c.in_ok-notice-in-Some.ensures.notice in
-    let f : (start : List (List Op)) (opening : ℕ) → IsBack g.D.Disk.moment_of g.D.Disk.left_since g.D.Disk.told g.D.Disk.image start opening true c.args.self.now → IsBack g.D.Disk.moment_of g.D.Disk.left_since g.D.Disk.told g.D.Disk.image start opening false c.take_entry.new.self =
-    λ start opening b. back_stopped g.D.Disk.moment_of g.D.Disk.left_since g.D.Disk.told g.D.Disk.image start opening c.take_entry.new.self
-    (not_late c.args.self.now c.in-Some.entry c.in-Some-2.notice _ told (c.in_ok-notice-in-Some.ensures.back start opening b)) in
+    let f : (start : List (List Op)) (opening : ℕ) → IsBack g.D.Disk.moment_of g.D.Disk.left_since g.D.Disk.told g.D.Disk.image g.D.Disk.faults_of start opening true c.args.self.now → IsBack g.D.Disk.moment_of g.D.Disk.left_since g.D.Disk.told g.D.Disk.image g.D.Disk.faults_of start opening false c.take_entry.new.self =
+    λ start opening b. back_stopped g.D.Disk.moment_of g.D.Disk.left_since g.D.Disk.told g.D.Disk.image g.D.Disk.faults_of start opening c.take_entry.new.self
+    (c.in_ok-notice-in-Some.ensures.back start opening b) in
     on_err _ _ f
-
-pub returns-in_ok-send-in-Some-clause-back : goal.returns-in_ok-send-in-Some-clause-back
-returns-in_ok-send-in-Some-clause-back g c start opening b =
-    late_entry c.args.self.now c.in-Some.entry (g.L.Inlet.got c.args.line.now) (g.L.Inlet.got c.take.new.self) _ c.in-Some.ensures.some (c.in_ok-notice-in-Some.ensures.back start opening b)
-
-pub returns-in_default-clause-back : goal.returns-in_default-clause-back
-returns-in_default-clause-back g c start opening b =
-    late_entry c.args.self.now c.in-Some.entry (g.L.Inlet.got c.args.line.now) (g.L.Inlet.got c.take.new.self) _ c.in-Some.ensures.some (c.in_ok-notice-in-Some.ensures.back start opening b)

@@ -7,7 +7,7 @@ use Rattle.output_gate.proofs.back.Back.take_batch.Goals as goal
 pub stage-requires : goal.stage-requires
 stage-requires g c =
     let s = c.requires.back.safe in
-    let o = somebody g.D.Disk.moment_of g.D.Disk.left_since g.D.Disk.told g.D.Disk.image c.args.self.now.identity c.requires.fits in
+    let o = somebody g.D.Disk.moment_of g.D.Disk.left_since g.D.Disk.told g.D.Disk.image g.D.Disk.faults_of c.args.self.now.identity c.requires.fits in
     (o.0, c.requires.back.journal, o.1, s.store, λ is_object batch. (s.staged, s.staged_for o.0 o.1, fits_frame o.0 s.staged c.args.batch is_object batch (omega (arith, s.unflushed, c.requires.few))))
 
 pub overflow_add-self : goal.overflow_add-self
@@ -24,22 +24,22 @@ overflow_add-self-3 g c =
 
 pub returns-in_err-count-clause-failed : goal.returns-in_err-count-clause-failed
 returns-in_err-count-clause-failed g c =
-    on_err c.from_residual.result _ (failed_cache g.D.Disk.moment_of g.D.Disk.left_since g.D.Disk.told g.D.Disk.image c.args.self.now c.take.new.self)
+    on_err c.from_residual.result _ (failed_cache g.D.Disk.moment_of g.D.Disk.left_since g.D.Disk.told g.D.Disk.image g.D.Disk.faults_of c.args.self.now c.take.new.self)
 
 pub returns-in_err-stage-clause-failed : goal.returns-in_err-stage-clause-failed
 returns-in_err-stage-clause-failed g c =
-    let o = somebody g.D.Disk.moment_of g.D.Disk.left_since g.D.Disk.told g.D.Disk.image c.args.self.now.identity c.requires.fits in
-    on_err c.from_residual-in_err-stage.result _ (failed_stage g.D.Disk.moment_of g.D.Disk.left_since g.D.Disk.told g.D.Disk.image c.args.self.now c.stage.new.self c.take.new.self o.0 c.args.batch _
+    let o = somebody g.D.Disk.moment_of g.D.Disk.left_since g.D.Disk.told g.D.Disk.image g.D.Disk.faults_of c.args.self.now.identity c.requires.fits in
+    on_err c.from_residual-in_err-stage.result _ (failed_stage g.D.Disk.moment_of g.D.Disk.left_since g.D.Disk.told g.D.Disk.image g.D.Disk.faults_of c.args.self.now c.stage.new.self c.take.new.self o.0 c.args.batch _
     (λ journal at. c.in_err-stage.ensures.staged o.0 journal o.1 at) c.stage.ensures.same)
 
 pub returns-in-Some-clause-took : goal.returns-in-Some-clause-took
 returns-in-Some-clause-took g c =
-    let o = somebody g.D.Disk.moment_of g.D.Disk.left_since g.D.Disk.told g.D.Disk.image c.args.self.now.identity c.requires.fits in
-    took_batch g.D.Disk.moment_of g.D.Disk.left_since g.D.Disk.told g.D.Disk.image c.args.self.now c.stage.new.self c.add.new.self c.args.number c.args.batch c.args.tail c.take.new.self c.batch_size-size.result o.0 o.1
+    let o = somebody g.D.Disk.moment_of g.D.Disk.left_since g.D.Disk.told g.D.Disk.image g.D.Disk.faults_of c.args.self.now.identity c.requires.fits in
+    took_batch g.D.Disk.moment_of g.D.Disk.left_since g.D.Disk.told g.D.Disk.image g.D.Disk.faults_of c.args.self.now c.stage.new.self c.add.new.self c.args.number c.args.batch c.args.tail c.take.new.self c.batch_size-size.result o.0 o.1
     c.requires.comes c.in_ok-count.ensures.taken c.batch_size-size.ensures.size (λ journal at. c.in_ok-stage.ensures.staged o.0 journal o.1 at) c.stage.ensures.same c.add.ensures.log c.add.ensures.same
 
 pub returns-in-None-clause-took : goal.returns-in-None-clause-took
 returns-in-None-clause-took g c =
-    let o = somebody g.D.Disk.moment_of g.D.Disk.left_since g.D.Disk.told g.D.Disk.image c.args.self.now.identity c.requires.fits in
-    took_batch g.D.Disk.moment_of g.D.Disk.left_since g.D.Disk.told g.D.Disk.image c.args.self.now c.stage.new.self c.add.new.self c.args.number c.args.batch c.args.tail c.take.new.self c.batch_size-size.result o.0 o.1
+    let o = somebody g.D.Disk.moment_of g.D.Disk.left_since g.D.Disk.told g.D.Disk.image g.D.Disk.faults_of c.args.self.now.identity c.requires.fits in
+    took_batch g.D.Disk.moment_of g.D.Disk.left_since g.D.Disk.told g.D.Disk.image g.D.Disk.faults_of c.args.self.now c.stage.new.self c.add.new.self c.args.number c.args.batch c.args.tail c.take.new.self c.batch_size-size.result o.0 o.1
     c.requires.comes c.in_ok-count.ensures.taken c.batch_size-size.ensures.size (λ journal at. c.in_ok-stage.ensures.staged o.0 journal o.1 at) c.stage.ensures.same c.add.ensures.log c.add.ensures.same

@@ -1,0 +1,19 @@
+use Rattle.std.proofs.Common.{sym, refl, ap, ℕ, List, [], map, arith}
+use Rattle.timeline.specs.declared.entry.Entry.{Entry}
+use Rattle.timeline.specs.declared.event.Event.{Event}
+use Rattle.object_front.proofs.front.Front.new.Goals as goal
+
+pub returns-clause-stands : goal.returns-clause-stands
+returns-clause-stands c = record {
+  class = refl;
+  known = c.requires;
+  incarnation = refl;
+  count = refl;
+  mode = λ class is. ([], sym c.begin.ensures.object, c.begin.ensures.holds _);
+  deferred = c.new.ensures.items;
+  stuck = refl;
+  delivered_from = omega arith;
+  sent_from = omega arith;
+  events = ap (λ (es : List (ℕ × Event)). map (λ d. d.1) es) c.new-2.ensures.items;
+  said = ap (λ (es : List Entry). map (λ e. e.body) es) c.new-5.ensures.items;
+}

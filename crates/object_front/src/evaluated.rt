@@ -1,0 +1,99 @@
+//! The evaluator's tasks, as a front takes them.
+ghost use Rattle.std.specs.Prelude.{◌≡◌, ◌∷◌, ℕ, List, IfOk};
+ghost use Rattle.do_value.specs.Limits.{IsSafe};
+ghost use Rattle.do_value.specs.Seen.{trees_in};
+ghost use Rattle.do_tree.specs.Checked.{tree_of};
+ghost use Rattle.do_tree.specs.Tree.{Script};
+ghost use Rattle.script_mean.specs.Meaning.{meaning};
+ghost use Rattle.script_mean.specs.Task.{Resume};
+ghost use Rattle.script_eval.specs.Tasks as evaluator;
+ghost use Rattle.front_turns.specs.Paused.{HasClass, HasMethod};
+ghost use Rattle.front_turns.specs.Outcomes.{IsOfClass, later, segment_of};
+ghost use Rattle.object_front.specs.Evaluated.{seen, stays};
+
+use do_tree::Checked;
+use do_value::{Fields, Mem, Value};
+use front_turns::{Outcome, Task};
+use script_mean::Answer;
+use std::alloc::Global;
+
+/// A task of the evaluator that waits for an answer.
+#[derive(Drop)]
+pub(crate) struct Evaluated {
+    task: script_eval::Task,
+}
+
+impl Task for Evaluated {
+    ghost seen = { seen };
+
+    fn start(
+        alloc: Global,
+        checked: &Checked,
+        class: u32,
+        method: u32,
+        args: Vec<Value>,
+        fields: Fields,
+        now: i64,
+    ) -> Mem<Outcome<Evaluated>> {
+        Ok(turned(script_eval::Task::start(alloc, checked, class, method, args, fields, now)?))
+    }
+
+    fn resume(
+        self,
+        alloc: Global,
+        checked: &Checked,
+        answer: Answer,
+        fields: Fields,
+        now: i64,
+    ) -> Mem<Outcome<Evaluated>> {
+        Ok(turned(self.task.resume(alloc, checked, answer, fields, now)?))
+    }
+
+    fn block(&self) -> bool {
+        self.task.block()
+    }
+
+    ghost stays = { stays };
+}
+
+// The evaluator's turn as the front's: nothing is copied.
+fn turned(outcome: script_eval::Outcome) -> Outcome<Evaluated>
+    ensures turn { segment_of seen result ≡ evaluator.segment_of outcome }
+    ensures later { (script : Script) (rs : List Resume) → later seen script result rs ≡ evaluator.later script outcome rs }
+    ensures class { (class : ℕ) → evaluator.IsOfClass class outcome → IsOfClass seen class result }
+{
+    match outcome {
+        script_eval::Outcome::Paused {
+            task,
+            batches,
+            ask,
+            fields,
+        } => Outcome::Paused {
+            task: Evaluated { task },
+            batches,
+            ask,
+            fields,
+        },
+        script_eval::Outcome::Done {
+            batches,
+            value,
+            fields,
+        } => Outcome::Done {
+            batches,
+            value,
+            fields,
+        },
+        script_eval::Outcome::Threw {
+            batches,
+            value,
+            fields,
+            reset,
+        } => Outcome::Threw {
+            batches,
+            value,
+            fields,
+            reset,
+        },
+        script_eval::Outcome::Exceeded { batches } => Outcome::Exceeded { batches },
+    }
+}

@@ -1,0 +1,30 @@
+//! Laws of backs, for whoever holds one. A call costs nothing and tells its caller the law.
+ghost use Rattle.output_gate.specs.Laws.{HistorySteps};
+ghost use Rattle.output_gate.specs.Telling.{BackTells, MapIsWritten, NoticesAnswer};
+
+use crate::back::Back;
+use do_disk::Disk;
+
+/// Each step of a back changes the newest incarnations of its history alone.
+pub fn history_steps()
+    ensures { HistorySteps }
+{}
+
+/// A notice that a back gives at once is the map's answer to the entry.
+pub fn notices_answer()
+    ensures { NoticesAnswer }
+{}
+
+/// What has left, what a crash leaves and what was kept, of any back over a disk that tells its content.
+pub fn back_tells<D: Disk>(back: &Back<D>)
+    ensures { BackTells D.moment_of D.left_since D.told D.image D.faults_of back.now }
+{
+    let _ = back;
+}
+
+/// The map of a back whose incarnation is mounted is what that incarnation has written.
+pub fn map_is_written<D: Disk>(back: &Back<D>)
+    ensures { MapIsWritten D.moment_of D.left_since D.told D.image D.faults_of back.now }
+{
+    let _ = back;
+}
