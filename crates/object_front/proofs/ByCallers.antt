@@ -14,15 +14,15 @@ use Rattle.object_front.specs.ByCallers.{by_parts, kept_for}
 same_number : (n k : ℕ) → is_at (nat_cmp n) k ≡ (k == n)
 same_number n k = grind (arith, nat_tests)
 
-both : (r s : Ordering) → is_eq (ordering_then r s) ≡ (is_eq r && is_eq s)
-both Less s = refl
-both Equal s = refl
-both Greater s = refl
+eq_then : (r s : Ordering) → is_eq (ordering_then r s) ≡ (is_eq r && is_eq s)
+eq_then Less s = refl
+eq_then Equal s = refl
+eq_then Greater s = refl
 
 same_parts : (p q : ℕ × ℕ × ℕ) → is_at (by_parts p) q ≡ (q.0 == p.0 && q.1 == p.1 && q.2 == p.2)
 same_parts p q =
-    both (ordering_then (nat_cmp p.0 q.0) (nat_cmp p.1 q.1)) (nat_cmp p.2 q.2)
-    ∙ ap (λ (b : Bool). b && is_eq (nat_cmp p.2 q.2)) (both (nat_cmp p.0 q.0) (nat_cmp p.1 q.1))
+    eq_then (ordering_then (nat_cmp p.0 q.0) (nat_cmp p.1 q.1)) (nat_cmp p.2 q.2)
+    ∙ ap (λ (b : Bool). b && is_eq (nat_cmp p.2 q.2)) (eq_then (nat_cmp p.0 q.0) (nat_cmp p.1 q.1))
     ∙ (λ i. same_number p.0 q.0 i && same_number p.1 q.1 i && same_number p.2 q.2 i)
 
 -- Something is kept for the call of this object, and what is kept for others stays.

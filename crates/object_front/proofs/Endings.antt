@@ -1,8 +1,9 @@
 -- What the end of an incarnation makes of a front.
-use Rattle.std.proofs.Common.{◌≡◌, ◌∙◌, sym, refl, ap, subst, ℕ, suc, ◌+◌, ℤ, List, [], ◌∷◌, ◌++◌, length, map, drop, Option, None, true, ◌⊎◌, ⊎_elim, Vec, Global, append-nil, arith}
+use Rattle.std.proofs.Common.{◌≡◌, ◌∙◌, sym, refl, ap, subst, ℕ, suc, ◌+◌, ℤ, List, [], ◌∷◌, ◌++◌, length, map, drop, Option, None, true, ◌⊎◌, ⊎_elim, append-nil, arith}
 use Rattle.std.proofs.lemmas.List.{length-append, drop_all}
 use Rattle.std.proofs.Math.Seq.{drop-append_seam}
 use Rattle.std.specs.Prelude.{option_to_list}
+use Rattle.do_tree.specs.Lookup.{constructor_of}
 use Rattle.do_tree.specs.Tree.{Script}
 use Rattle.timeline.specs.Headline.{IsPrefix}
 use Rattle.timeline.specs.Intake as intake
@@ -23,12 +24,14 @@ use Rattle.front_turns.specs.declared.object.Object.{Object}
 use Rattle.front_turns.specs.declared.object.State.{State as HeldState}
 use Rattle.front_turns.specs.declared.object.State.TheVariants.{Idle}
 use Rattle.object_front.specs.Ending.{EndsAt, EndsFirst, resets_at}
+use Rattle.object_front.specs.Gated.{IsGatedMode}
 use Rattle.object_front.specs.Noticing.{GoesOn, IsStoppedBy, in_mode}
 use Rattle.object_front.specs.Standing.{Stood, IsHalf, IsMode, is_stopped}
 use Rattle.object_front.specs.Taking.{due_at}
 use Rattle.object_front.specs.declared.half.Half.{Half}
 use Rattle.object_front.specs.declared.half.Mode.{Mode as HeldMode}
 use Rattle.object_front.specs.declared.half.Mode.TheVariants as held
+use Rattle.object_front.proofs.Blocks.{begun_gated}
 use Rattle.object_front.proofs.Leading.{LeadsTo, moves_to, stops_to, stops_before}
 use Rattle.object_front.proofs.Noticed.{mode_at, serves_so, bodies_of}
 
@@ -69,9 +72,9 @@ module _ {T : Type 0} (see : T → Paused) (script : Script) (h : Half T) (s : H
 
     -- What the next incarnation holds.
     next_holds : (new : Half T) (mode : HeldMode T) (m : Mode) → EndsAt h new c
-        → ((d : ℕ) → IsMode see (life_in script d (suc st.front.incarnation)) mode m)
+        → ((d : ℕ) → IsMode see (life_in script d (suc st.front.incarnation)) mode m) → ((d : ℕ) → IsGatedMode (constructor_of script d) m)
         → IsHalf see script (in_mode new mode) (record st { front = next_so st.front c m })
-    next_holds new mode m e stands =
+    next_holds new mode m e stands gated =
         let delivered : new.log.delivered.items ≡ h.log.delivered.items = ap (λ (l : Fronted). l.delivered) e.log in
         let sent : new.log.sent.items ≡ h.log.sent.items ++ numbered (1 + h.incarnation) 1 (resets_at h c) = ap (λ (l : Fronted). l.sent) e.log in
         let all : ℕ = length h.log.delivered.items in
@@ -83,7 +86,8 @@ module _ {T : Type 0} (see : T → Paused) (script : Script) (h : Half T) (s : H
           incarnation = e.incarnation ∙ one_more h.incarnation st.front.incarnation is.incarnation;
           count = e.count ∙ ap length same_resets;
           mode = λ d of. stands d;
-          deferred = ap (λ (x : Option Event). option_to_list x ++ new.deferred.items) e.due ∙ ap (λ (v : Vec Event Global). option_to_list h.due ++ v.items) e.deferred ∙ is.deferred;
+          gate = λ d of. gated d;
+          deferred = ap (λ (x : Option Event). option_to_list x ++ new.deferred) e.due ∙ ap (λ (v : List Event). option_to_list h.due ++ v) e.deferred ∙ is.deferred;
           stuck = e.stuck ∙ is.stuck;
           delivered_from = let same : length new.log.delivered.items ≡ all = ap length delivered in omega (arith, e.delivered_from, same);
           sent_from = omega (arith, e.sent_from, sent_length);
@@ -116,9 +120,9 @@ module _ {T : Type 0} (see : T → Paused) (script : Script) (h : Half T) (s : H
   }
 
   pub end_moves : (n : Notice) (m : Mode) → IsEnd n m → (new : Half T) (mode : HeldMode T) → EndsAt h new c
-      → ((d i : ℕ) → IsMode see (life_in script d i) mode m)
+      → ((d i : ℕ) → IsMode see (life_in script d i) mode m) → ((d : ℕ) → IsGatedMode (constructor_of script d) m)
       → GoesOn see script (in_mode h (held.Serves s)) (in_mode new mode) n
-  end_moves n m by new mode e stands st is =
+  end_moves n m by new mode e stands gated st is =
       let at : (q : State) × (st.front.mode ≡ serves q) = served st is in
       moves_to see script h (held.Serves s) (in_mode new mode) st n (next_so st.front c m) st.deferred
       (numbered (suc st.front.incarnation) 1 (resets st.front c)) (leads_next n m st by is)
@@ -132,7 +136,7 @@ module _ {T : Type 0} (see : T → Paused) (script : Script) (h : Half T) (s : H
             ∙ sym (ap (λ (x : Mode). h.log.ends.items ++ ends_by x (noticed n)) at.1 ∙ ap (λ (xs : List Cause). h.log.ends.items ++ xs) (by.ends at.0));
       })
       (ap (λ (l : Fronted). l.dropped) e.log)
-      (next_holds st is new mode m e (λ d. stands d (suc st.front.incarnation)))
+      (next_holds st is new mode m e (λ d. stands d (suc st.front.incarnation)) gated)
 
   pub end_stops : (n : Notice) (m : Mode) → IsEnd n m → (new : Half T) → is_stopped new ≡ true → (fronted new.log ≡ fronted h.log) ⊎ EndsFirst h new c
       → IsStoppedBy see script (in_mode h (held.Serves s)) new n
@@ -178,6 +182,7 @@ module _ {T : Type 0} (see : T → Paused) (script : Script) (h : Half T) (s : H
       → GoesOn see script (in_mode h (held.Serves s)) (in_mode new (held.Serves (Idle o))) (notice.Fresh i alarm c)
   fresh_moves i alarm new o e begins holds =
       end_moves (notice.Fresh i alarm c) (serves (idle (begun alarm))) (fresh_ends i alarm) new (held.Serves (Idle o)) e (λ d j. ([], sym begins, holds (life_in script d j)))
+      (λ d. begun_gated (constructor_of script d) alarm)
 
   pub fresh_stops : (i : ℕ) (alarm : Option (ℤ × ℕ)) (new : Half T) → is_stopped new ≡ true → (fronted new.log ≡ fronted h.log) ⊎ EndsFirst h new c
       → IsStoppedBy see script (in_mode h (held.Serves s)) new (notice.Fresh i alarm c)
@@ -185,7 +190,7 @@ module _ {T : Type 0} (see : T → Paused) (script : Script) (h : Half T) (s : H
 
   -- It isn't.
   pub down_moves : (before after : ℕ) (new : Half T) → EndsAt h new c → GoesOn see script (in_mode h (held.Serves s)) (in_mode new (held.Down None)) (notice.Down c before after)
-  down_moves before after new e = end_moves (notice.Down c before after) (down None) (down_ends before after) new (held.Down None) e (λ d j. refl)
+  down_moves before after new e = end_moves (notice.Down c before after) (down None) (down_ends before after) new (held.Down None) e (λ d j. refl) (λ d. tt)
 
   pub down_stops : (before after : ℕ) (new : Half T) → is_stopped new ≡ true → (fronted new.log ≡ fronted h.log) ⊎ EndsFirst h new c
       → IsStoppedBy see script (in_mode h (held.Serves s)) new (notice.Down c before after)

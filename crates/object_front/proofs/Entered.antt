@@ -1,10 +1,10 @@
 -- What becomes of an event, as a move of the front.
-use Rattle.std.proofs.Common.{◌≡◌, ◌∙◌, sym, refl, ap, subst, ℕ, suc, ◌+◌, ◌≤◌, List, [], ◌∷◌, ◌++◌, length, map, drop, append_assoc, append-nil, length-append, Bool, true, false, true≢false, Option, Some, None, IsSome, Result, Ok, Err, OnOk, OnErr, option_to_list, inl, inr, arith}
-use Rattle.std.specs.Prelude.{if◌then◌else◌}
+use Rattle.std.proofs.Common.{◌≡◌, ◌∙◌, sym, refl, ap, subst, ℕ, suc, ◌+◌, ◌≤◌, List, [], ◌∷◌, ◌++◌, length, map, drop, append_assoc, append-nil, length-append, Bool, true, false, Option, Some, None, IsSome, Result, Ok, Err, OnOk, OnErr, option_to_list, inl, inr, arith}
 use Rattle.std.proofs.lemmas.List.{drop-append-le, map-append}
 use Rattle.std.proofs.lemmas.Option.{none-some}
+use Rattle.do_tree.specs.Lookup.{constructor_of}
 use Rattle.do_tree.specs.Tree.{Script}
-use Rattle.timeline.specs.Eligible.{is_eligible, is_stale, is_early, is_fit}
+use Rattle.timeline.specs.Eligible.{is_eligible, is_stale}
 use Rattle.timeline.specs.Headline.{IsPrefix}
 use Rattle.timeline.specs.Intake.{Kind, Front, Mode, serves, down, Taken, delivered, wanted, takes, steps_to, says_more, on_delivered, numbered, closed_by, downed_by, ends_by, MayTake, MayDeliver}
 use Rattle.timeline.specs.Logs.{fronted}
@@ -16,118 +16,24 @@ use Rattle.timeline.specs.declared.entry.Body.{Body}
 use Rattle.timeline.specs.declared.entry.Body.TheVariants as body
 use Rattle.timeline.specs.declared.entry.Entry.{Entry}
 use Rattle.timeline.specs.declared.event.Event.{Event}
-use Rattle.timeline.specs.declared.event.Event.TheVariants as event
 use Rattle.front_turns.specs.Paused.{Paused, HasClass}
 use Rattle.front_turns.specs.Held.{Holds, IsObject, IsState, life_in, object_of}
 use Rattle.front_turns.specs.declared.object.Object.{Object}
 use Rattle.front_turns.specs.declared.object.State.{State}
 use Rattle.front_turns.specs.declared.object.State.TheVariants as state
-use Rattle.object_front.specs.Kinds.{IsCut}
-use Rattle.object_front.specs.Moving.{Moves, Speaks, said_by}
+use Rattle.object_front.specs.Gated.{IsGated, IsGatedMode, IsGatedState}
+use Rattle.object_front.specs.Moving.{IsCut, Moves, Speaks, said_by}
 use Rattle.object_front.specs.Standing.{Stood, IsClass, IsHalf, IsMode, IsTakenBy, IsCutShort, kind_in}
-use Rattle.object_front.specs.Taking.{leads, at_down, at_mode, class_after, delivers_to, does, doing, on_event, stale, waits}
+use Rattle.object_front.specs.Taking.{leads, class_after, delivers_to, does, doing, on_event, waits}
 use Rattle.object_front.specs.declared.half.Half.{Half}
 use Rattle.object_front.specs.declared.half.Mode.{Mode as HeldMode}
 use Rattle.object_front.specs.declared.half.Mode.TheVariants as held
 use Rattle.object_front.specs.declared.testing.Doing.{Doing}
-use Rattle.object_front.specs.declared.testing.Doing.TheVariants.{Delivers, Wants, Defers, Drops, Sticks}
+use Rattle.object_front.specs.declared.testing.Doing.TheVariants.{Delivers, Wants}
+use Rattle.object_front.proofs.Decided.{IsDelivery, delivery_of, mode_of_wanted}
+use Rattle.object_front.proofs.Blocks.{delivers_gated}
 use Rattle.object_front.proofs.Fitted.{class_known, class_stays, has_class}
 use Rattle.object_front.proofs.Stepping.{adds_on, takes_one, cuts_one}
-
--- What was found of an event that is delivered.
-pub record IsDelivery (script : Script) (st : Stood) (e : Event) : Type 0 where
-  pub object : seen.Object
-  pub mode : st.front.mode ≡ serves (idle object)
-  pub eligible : is_eligible object e ≡ true
-  pub fresh : is_stale st.front.incarnation object e ≡ false
-  pub fit : is_fit script st.class e ≡ true
-
-is_delivered : Doing → Bool
-is_delivered Delivers = true
-is_delivered Wants = false
-is_delivered Defers = false
-is_delivered Drops = false
-is_delivered Sticks = false
-
-is_wanted : Doing → Bool
-is_wanted Wants = true
-is_wanted Delivers = false
-is_wanted Defers = false
-is_wanted Drops = false
-is_wanted Sticks = false
-
-stale_not_delivered : (b : Bool) → is_delivered (stale b) ≡ false
-unfolding is_delivered
-stale_not_delivered true = refl
-stale_not_delivered false = refl
-
-down_not_delivered : (now : ℕ) (e : Event) → is_delivered (at_down now e) ≡ false
-unfolding is_delivered
-down_not_delivered now (event.Call from method args depth at) = refl
-down_not_delivered now (event.Bind identity) = stale_not_delivered (is_early now 0 (event.Bind identity))
-down_not_delivered now (event.Answer incarnation number result at) = stale_not_delivered (is_early now 0 (event.Answer incarnation number result at))
-down_not_delivered now (event.Tick at) = stale_not_delivered (is_early now 0 (event.Tick at))
-down_not_delivered now (event.Evict at) = stale_not_delivered (is_early now 0 (event.Evict at))
-
-not_delivered : {P : Type 0} (d : Doing) → is_delivered d ≡ false → d ≡ Delivers → P
-unfolding is_delivered
-not_delivered d other is = absurd (true≢false (sym (ap is_delivered is) ∙ other))
-
-pub delivery_of : (script : Script) (st : Stood) (e : Event) → doing script st e ≡ Delivers → IsDelivery script st e
-unfolding is_delivered
-delivery_of script st e is = by_fit (is_fit script st.class e) refl is
-  where
-    now : ℕ
-    now = st.front.incarnation
-
-    by_stale : (o : seen.Object) → is_fit script st.class e ≡ true → st.front.mode ≡ serves (idle o) → (b c : Bool) → is_stale now o e ≡ b → is_eligible o e ≡ c
-        → (if b then stale (is_early now o.made e) else (if c then Delivers else Defers)) ≡ Delivers → IsDelivery script st e
-    by_stale o fit mode true c old may d = not_delivered (stale (is_early now o.made e)) (stale_not_delivered (is_early now o.made e)) d
-    by_stale o fit mode false true old may d = record { object = o; mode = mode; eligible = may; fresh = old; fit = fit }
-    by_stale o fit mode false false old may d = not_delivered Defers refl d
-
-    by_mode : (m : Mode) → is_fit script st.class e ≡ true → st.front.mode ≡ m → at_mode now m e ≡ Delivers → IsDelivery script st e
-    by_mode (serves (idle o)) fit mode d = by_stale o fit mode (is_stale now o e) (is_eligible o e) refl refl d
-    by_mode (serves (waiting o t b)) fit mode d = not_delivered Defers refl d
-    by_mode (serves (ended cause)) fit mode d = not_delivered Defers refl d
-    by_mode (down call) fit mode d = not_delivered (at_down now e) (down_not_delivered now e) d
-
-    by_fit : (b : Bool) → is_fit script st.class e ≡ b → (if b then at_mode now st.front.mode e else Drops) ≡ Delivers → IsDelivery script st e
-    by_fit true fit d = by_mode st.front.mode fit refl d
-    by_fit false fit d = not_delivered Drops refl d
-
--- A call that asks for a mounting finds the object down, and no other call that waits.
-stale_not_wanted : (b : Bool) → is_wanted (stale b) ≡ false
-unfolding is_wanted
-stale_not_wanted true = refl
-stale_not_wanted false = refl
-
-not_wanted : {P : Type 0} (d : Doing) → is_wanted d ≡ false → d ≡ Wants → P
-unfolding is_wanted
-not_wanted d other is = absurd (true≢false (sym (ap is_wanted is) ∙ other))
-
-pub mode_of_wanted : (script : Script) (st : Stood) (e : Event) → waits st.front.mode ≡ false → doing script st e ≡ Wants → st.front.mode ≡ down None
-unfolding is_wanted
-mode_of_wanted script st e free is = by_fit (is_fit script st.class e) is
-  where
-    now : ℕ
-    now = st.front.incarnation
-
-    by_stale : (o : seen.Object) → (b c : Bool) → (if b then stale (is_early now o.made e) else (if c then Delivers else Defers)) ≡ Wants → ⊥
-    by_stale o true c d = not_wanted (stale (is_early now o.made e)) (stale_not_wanted (is_early now o.made e)) d
-    by_stale o false true d = not_wanted Delivers refl d
-    by_stale o false false d = not_wanted Defers refl d
-
-    by_mode : (m : Mode) → waits m ≡ false → at_mode now m e ≡ Wants → m ≡ down None
-    by_mode (serves (idle o)) free_at d = absurd (by_stale o (is_stale now o e) (is_eligible o e) d)
-    by_mode (serves (waiting o t b)) free_at d = absurd (true≢false free_at)
-    by_mode (serves (ended cause)) free_at d = absurd (true≢false free_at)
-    by_mode (down None) free_at d = refl
-    by_mode (down (Some call)) free_at d = absurd (true≢false free_at)
-
-    by_fit : (b : Bool) → (if b then at_mode now st.front.mode e else Drops) ≡ Wants → st.front.mode ≡ down None
-    by_fit true d = by_mode st.front.mode free d
-    by_fit false d = not_wanted Drops refl d
 
 -- An event ends no incarnation, and answers no call by `Down`.
 closes_none : (f : Front) (m : Mode) (e : Event) → closed_by f m (delivered e) ≡ []
@@ -191,7 +97,7 @@ pub record Keeps {T : Type 0} (h new : Half T) : Type 0 where
   pub ends : new.log.ends.items ≡ h.log.ends.items
 
 pub kept_half : {T : Type 0} (see : T → Paused) (script : Script) (h new : Half T) (st : Stood) (ds : List Event) (stuck : Bool) → Keeps h new
-    → option_to_list new.due ++ new.deferred.items ≡ ds → new.stuck ≡ stuck → IsHalf see script h st
+    → option_to_list new.due ++ new.deferred ≡ ds → new.stuck ≡ stuck → IsHalf see script h st
     → IsHalf see script new (record st { deferred = ds; stuck = stuck })
 kept_half {T} see script h new st ds stuck keeps waiting_are stuck_is half = record {
   class = keeps.class ∙ half.class;
@@ -199,6 +105,7 @@ kept_half {T} see script h new st ds stuck keeps waiting_are stuck_is half = rec
   incarnation = keeps.incarnation ∙ half.incarnation;
   count = keeps.count ∙ half.count;
   mode = λ c is. subst (λ (m : HeldMode T). IsMode see (life_in script c st.front.incarnation) m st.front.mode) (sym keeps.mode) (half.mode c is);
+  gate = half.gate;
   deferred = waiting_are;
   stuck = stuck_is;
   delivered_from = subst (λ (xs : List (ℕ × Event)). new.first_delivered ≤ length xs) (sym keeps.delivered)
@@ -224,7 +131,7 @@ kept_taken h new k from taken f keeps is = subst (λ (ts : List Taken). IsTakenB
 
 -- Such a turn is a move: some events are deferred, some dropped, or the front is stuck.
 pub kept_moves : {T : Type 0} (see : T → Paused) (script : Script) (h new : Half T) (st : Stood) (ds : List Event) (stuck : Bool) (dropped : List Event) → Keeps h new
-    → option_to_list new.due ++ new.deferred.items ≡ ds → new.stuck ≡ stuck → new.log.dropped.items ≡ h.log.dropped.items ++ dropped → IsHalf see script h st
+    → option_to_list new.due ++ new.deferred ≡ ds → new.stuck ≡ stuck → new.log.dropped.items ≡ h.log.dropped.items ++ dropped → IsHalf see script h st
     → Moves see script h new (leads (record st { deferred = ds; stuck = stuck }) [] dropped) st
 kept_moves see script h new st ds stuck dropped keeps waiting_are stuck_is drops half = record {
   half = kept_half see script h new st ds stuck keeps waiting_are stuck_is half;
@@ -242,7 +149,7 @@ behind due old ds new e before is =
 pub record IsDeliveredTo {T : Type 0} (h new : Half T) (e : Event) : Type 0 where
   pub incarnation : new.incarnation ≡ h.incarnation
   pub due : new.due ≡ h.due
-  pub deferred : new.deferred.items ≡ h.deferred.items
+  pub deferred : new.deferred ≡ h.deferred
   pub stuck : new.stuck ≡ h.stuck
   pub first_delivered : new.first_delivered ≡ h.first_delivered
   pub first_sent : new.first_sent ≡ h.first_sent
@@ -263,8 +170,9 @@ may_deliver f o e mode eligible fresh = subst (λ (m : Mode). MayDeliver f.incar
 delivered_half : {T : Type 0} (see : T → Paused) (script : Script) (h new : Half T) (st : Stood) (e : Event) (s : State T) (c : ℕ) (step : Step)
     → IsHalf see script h st → HasClass script c → IsDeliveredTo h new e → new.class ≡ Some c → new.mode ≡ held.Serves s
     → Speaks see (life_in script c st.front.incarnation) h.log.sent.items new.log.sent.items h.count s new.count step
+    → IsGatedState (constructor_of script c) step.state
     → IsHalf see script new (record { class = Some c; front = steps_to (record st.front { events = st.front.events ++ e ∷ [] }) step; deferred = st.deferred; stuck = st.stuck })
-delivered_half {T} see script h new st e s c step half has to class mode speaks = let i : ℕ = st.front.incarnation in record {
+delivered_half {T} see script h new st e s c step half has to class mode speaks gated = let i : ℕ = st.front.incarnation in record {
   class = class;
   known = has;
   incarnation = to.incarnation ∙ half.incarnation;
@@ -272,7 +180,8 @@ delivered_half {T} see script h new st e s c step half has to class mode speaks 
       ∙ ap length (sym (append_assoc st.front.said step.says (asking step.state)));
   mode = λ d is. subst (λ (m : HeldMode T). IsMode see (life_in script d i) m (serves step.state)) (sym mode)
       (subst (λ (n : ℕ). IsState see (life_in script n i) s step.state) is speaks.state);
-  deferred = ap (λ (due : Option Event). option_to_list due ++ new.deferred.items) to.due
+  gate = λ d is. subst (λ (n : ℕ). IsGatedState (constructor_of script n) step.state) is gated;
+  deferred = ap (λ (due : Option Event). option_to_list due ++ new.deferred) to.due
       ∙ ap (λ (xs : List Event). option_to_list h.due ++ xs) to.deferred ∙ half.deferred;
   stuck = to.stuck ∙ half.stuck;
   delivered_from = subst (λ (n : ℕ). n ≤ length new.log.delivered.items) (sym to.first_delivered) (inside_more _ _ _ _ half.delivered_from to.delivered);
@@ -300,10 +209,11 @@ pub delivered_moves : {T : Type 0} (see : T → Paused) (script : Script) (h new
     → IsHalf see script h st → HasClass script c → takes (kind_in script c) st.front (delivered e) ≡ steps_to (record st.front { events = st.front.events ++ e ∷ [] }) step
     → MayTake st.front (delivered e) → IsDeliveredTo h new e → new.class ≡ Some c → new.mode ≡ held.Serves s
     → Speaks see (life_in script c st.front.incarnation) h.log.sent.items new.log.sent.items h.count s new.count step
+    → IsGatedState (constructor_of script c) step.state
     → Moves see script h new (delivers_to script st (Some c) e) st
-delivered_moves {T} see script h new st e s c step half has led may to class mode speaks = let f : Front = st.front in record {
+delivered_moves {T} see script h new st e s c step half has led may to class mode speaks gated = let f : Front = st.front in record {
   half = subst (λ (g : Front). IsHalf see script new (record { class = Some c; front = g; deferred = st.deferred; stuck = st.stuck })) (sym led)
-      (delivered_half see script h new st e s c step half has to class mode speaks);
+      (delivered_half see script h new st e s c step half has to class mode speaks gated);
   dropped = to.dropped ∙ sym (append-nil h.log.dropped.items);
   taken = λ d from taken is_class is. subst (λ (n : ℕ). IsTakenBy (kind_in script n) from taken f (fronted h.log)
       → IsTakenBy (kind_in script n) from (taken ++ delivered e ∷ []) (takes (kind_in script c) f (delivered e)) (fronted new.log)) is_class
@@ -372,6 +282,18 @@ pub class_there : {T : Type 0} (see : T → Paused) (script : Script) (h : Half 
     → class_after script h.class e ≡ Some c → HasClass script c
 class_there see script h st e c half d is = has_class script st.class e c half.known d.fit (same_class see script h st e c half is)
 
+-- Only the newest task has its block open, before the delivery and after it.
+delivered_gated : {T : Type 0} (see : T → Paused) (script : Script) (h : Half T) (st : Stood) (e : Event) (o : Object T) (c : ℕ) → IsHalf see script h st
+    → IsDelivery script st e → (at : IsIdleAt see script h st e o c) → class_after script h.class e ≡ Some c
+    → IsGatedState (constructor_of script c) (delivers (life_in script c st.front.incarnation) (object_of o at.tasks) e).state
+delivered_gated see script h st e o c half d at class =
+    let is_class : IsClass st.class c = class_stays script st.class e c d.fit (same_class see script h st e c half class) in
+    let gated : IsGated (constructor_of script c) (object_of o at.tasks)
+    = subst (λ (m : Mode). IsGatedMode (constructor_of script c) m) at.mode (half.gate c is_class) in
+    let may : MayDeliver st.front.incarnation (serves (idle (object_of o at.tasks))) e
+    = subst (λ (m : Mode). MayDeliver st.front.incarnation m e) (sym d.mode ∙ at.mode) (d.eligible, d.fresh) in
+    delivers_gated (life_in script c st.front.incarnation) (object_of o at.tasks) e gated may.0
+
 -- The whole of a delivery, from what the turn of the tasks gives.
 pub delivers_moves : {T : Type 0} (see : T → Paused) (script : Script) (h new : Half T) (st : Stood) (e : Event) (o : Object T) (s : State T) (c : ℕ)
     → IsHalf see script h st → doing script st e ≡ Delivers → class_after script h.class e ≡ Some c → h.mode ≡ held.Serves (state.Idle o)
@@ -388,7 +310,8 @@ delivers_moves see script h new st e o s c half is class mode to new_class new_m
     (led_to script c st.front ob e at.mode)
     (subst (λ (m : Mode). MayDeliver st.front.incarnation m e) (sym d.mode) (d.eligible, d.fresh)) to new_class new_mode
     (subst (λ (i : ℕ). Speaks see (life_in script c i) h.log.sent.items new.log.sent.items h.count s new.count (delivers (life_in script c i) ob e)) half.incarnation
-    (speaks at.tasks at.held)))
+    (speaks at.tasks at.held))
+    (delivered_gated see script h st e o c half d at class))
 
 pub delivers_cut : {T : Type 0} (see : T → Paused) (script : Script) (h new : Half T) (st : Stood) (e : Event) (o : Object T) (c : ℕ)
     → IsHalf see script h st → doing script st e ≡ Delivers → class_after script h.class e ≡ Some c → h.mode ≡ held.Serves (state.Idle o)
@@ -412,7 +335,7 @@ pub record IsWantedBy {T : Type 0} (h new : Half T) : Type 0 where
   pub class : new.class ≡ h.class
   pub incarnation : new.incarnation ≡ h.incarnation
   pub due : new.due ≡ h.due
-  pub deferred : new.deferred.items ≡ h.deferred.items
+  pub deferred : new.deferred ≡ h.deferred
   pub stuck : new.stuck ≡ h.stuck
   pub first_delivered : new.first_delivered ≡ h.first_delivered
   pub first_sent : new.first_sent ≡ h.first_sent
@@ -431,7 +354,8 @@ wanted_half {T} see script h new st e half to mode count sent = record {
   incarnation = to.incarnation ∙ half.incarnation;
   count = count ∙ ap (λ (n : ℕ). n + 1) half.count ∙ sym (length-append st.front.said (body.Mend ∷ []));
   mode = λ d is. subst (λ (m : HeldMode T). IsMode see (life_in script d st.front.incarnation) m (down (Some e))) (sym mode) refl;
-  deferred = ap (λ (due : Option Event). option_to_list due ++ new.deferred.items) to.due
+  gate = λ d is. tt;
+  deferred = ap (λ (due : Option Event). option_to_list due ++ new.deferred) to.due
       ∙ ap (λ (xs : List Event). option_to_list h.due ++ xs) to.deferred ∙ half.deferred;
   stuck = to.stuck ∙ half.stuck;
   delivered_from = subst (λ (n : ℕ). n ≤ length new.log.delivered.items) (sym to.first_delivered)

@@ -1,7 +1,8 @@
 -- What is known of an event that a front can take.
-use Rattle.std.proofs.Common.{◌≡◌, ◌∙◌, sym, refl, ap, subst, ℕ, ◌<◌, List, Bool, true, false, ◌&&◌, T, true≢false, Option, Some, None, IfSome, is_some, slice_get, arith}
+use Rattle.std.proofs.Common.{◌≡◌, ◌∙◌, sym, refl, ap, subst, ℕ, List, Bool, true, false, ◌&&◌, T, true≢false, Option, Some, None, IfSome, is_some, slice_get, arith}
 use Rattle.std.specs.Prelude.{ℤ, pos, ◌≤ℤ◌, ◌<ℤ◌}
 use Rattle.std.specs.Int.Signed.{le_z, le_z_yes}
+use Rattle.std.proofs.lemmas.Bool.{and_parts}
 use Rattle.std.proofs.lemmas.Int.{ints}
 use Rattle.std.proofs.lemmas.Option.{same_Some}
 use Rattle.do_tree.specs.Lookup.{class_named, methods_of_class}
@@ -16,11 +17,6 @@ use Rattle.front_turns.specs.Held.{IsOfMethod, IsTime, life_in}
 use Rattle.front_turns.proofs.Methods.{item_there, position_inside}
 use Rattle.object_front.specs.Standing.{IsClass}
 use Rattle.object_front.specs.Taking.{class_after}
-
-both : (a b : Bool) → (a && b) ≡ true → (a ≡ true) × (b ≡ true)
-both true true h = (refl, refl)
-both true false h = absurd (true≢false (sym h))
-both false b h = absurd (true≢false (sym h))
 
 holds : (b : Bool) → b ≡ true → T b
 holds b e = subst T (sym e) tt
@@ -50,7 +46,7 @@ pub in_time : (at : ℤ) → pos 0 ≤ℤ at → at ≤ℤ pos most_time → is_
 in_time at h k = ap (λ (b : Bool). b && le_z at (pos most_time)) (held_true _ h.le) ∙ held_true _ k.le
 
 pub time_of : (at : ℤ) → is_moment at ≡ true → IsTime at
-time_of at h = let parts = both _ _ h in record { positive = le_z_yes (holds _ parts.0); small = le_z_yes (holds _ parts.1) }
+time_of at h = let parts = and_parts _ _ h in record { positive = le_z_yes (holds _ parts.0); small = le_z_yes (holds _ parts.1) }
 
 at_start : IsTime (pos 0)
 at_start = record { positive = le_z_yes tt; small = le_z_yes tt }
@@ -81,7 +77,8 @@ class_known script (Some class) (event.Answer incarnation number result at) fit 
 class_known script (Some class) (event.Tick at) fit = (class, refl)
 class_known script (Some class) (event.Evict at) fit = (class, refl)
 
-named : (script : Script) (name : List ℕ) (c : ℕ) → class_named script name ≡ Some c → HasClass script c
+-- The class of this name is one that the script has.
+pub named : (script : Script) (name : List ℕ) (c : ℕ) → class_named script name ≡ Some c → HasClass script c
 named script name c is = item_there script.classes c (position_inside _ script.classes c is)
 
 pub has_class : (script : Script) (class : Option ℕ) (e : Event) (c : ℕ) → IfSome class (HasClass script) → is_fit script class e ≡ true
@@ -113,7 +110,7 @@ pub of_method : (script : Script) (class : Option ℕ) (e : Event) (c incarnatio
 of_method script None (event.Call from method args depth at) c incarnation fit is = absurd (true≢false (sym fit))
 of_method script (Some class) (event.Call from method args depth at) c incarnation fit is =
     subst (λ (n : ℕ). HasMethod script n method) (same_Some _ _ is)
-    (method_there script class method (slice_get script.classes class) refl (both (is_moment at) _ fit).1)
+    (method_there script class method (slice_get script.classes class) refl (and_parts (is_moment at) _ fit).1)
 of_method script class (event.Bind identity) c incarnation fit is = tt
 of_method script class (event.Answer number made result at) c incarnation fit is = tt
 of_method script class (event.Tick at) c incarnation fit is = tt
@@ -125,7 +122,7 @@ at_moment script None (event.Call from method args depth at) fit = absurd (true�
 at_moment script None (event.Answer incarnation number result at) fit = absurd (true≢false (sym fit))
 at_moment script None (event.Tick at) fit = absurd (true≢false (sym fit))
 at_moment script None (event.Evict at) fit = absurd (true≢false (sym fit))
-at_moment script (Some class) (event.Call from method args depth at) fit = time_of at (both (is_moment at) _ fit).0
-at_moment script (Some class) (event.Answer incarnation number result at) fit = time_of at (both (is_moment at) _ fit).0
-at_moment script (Some class) (event.Tick at) fit = time_of at (both (is_moment at) _ fit).0
-at_moment script (Some class) (event.Evict at) fit = time_of at (both (is_moment at) _ fit).0
+at_moment script (Some class) (event.Call from method args depth at) fit = time_of at (and_parts (is_moment at) _ fit).0
+at_moment script (Some class) (event.Answer incarnation number result at) fit = time_of at (and_parts (is_moment at) _ fit).0
+at_moment script (Some class) (event.Tick at) fit = time_of at (and_parts (is_moment at) _ fit).0
+at_moment script (Some class) (event.Evict at) fit = time_of at (and_parts (is_moment at) _ fit).0

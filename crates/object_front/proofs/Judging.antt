@@ -33,7 +33,7 @@ use Rattle.front_turns.specs.declared.object.State.{State}
 use Rattle.front_turns.specs.declared.object.State.TheVariants as state
 use Rattle.front_turns.proofs.Holding.{found_under, none_under_too}
 use Rattle.object_front.specs.Kinds.{is_bind, is_call, named_by}
-use Rattle.object_front.specs.Standing.{Stood, IsClass, IsMode}
+use Rattle.object_front.specs.Standing.{Stood, IsMode}
 use Rattle.object_front.specs.Taking.{at_down, at_mode, doing, may_enter, stale}
 use Rattle.object_front.specs.declared.half.Mode.TheVariants as held
 use Rattle.object_front.specs.declared.testing.Doing.TheVariants.{Delivers, Wants, Defers, Drops}
@@ -202,11 +202,6 @@ down_seen see l call (down waits) is = ap down (sym is)
 pub stopped_seen : {T : Type 0} (see : T → Paused) (l : Life) (m : Mode) → IsMode {T = T} see l held.Stopped m → ⊥
 stopped_seen see l (serves s) is = is
 stopped_seen see l (down waits) is = is
-
--- Some class would do.
-pub some_class : (class : Option ℕ) → (c : ℕ) × IsClass class c
-some_class None = (0, tt)
-some_class (Some class) = (class, refl)
 
 pub fit_doing : (script : tree.Script) (st : Stood) (e : Event) → is_fit script st.class e ≡ true → doing script st e ≡ at_mode st.front.incarnation st.front.mode e
 fit_doing script st e h = ap (λ (b : Bool). if b then at_mode st.front.incarnation st.front.mode e else Drops) h

@@ -47,7 +47,7 @@ left_down see l call (serves st) i events said deferred v all same is = elim is 
 
 -- What is found by the log and by what is deferred is what the front has left.
 pub left_stands : {T : Type 0} (see : T → Paused) (script : Script) (h : Half T) (st : Stood) (deferred : List Event) (v : List (Caller × Waits)) → IsHalf see script h st
-    → waits st.front.mode ≡ false → deferred ≡ option_to_list h.due ++ h.deferred.items
+    → waits st.front.mode ≡ false → deferred ≡ option_to_list h.due ++ h.deferred
     → ((l : Life) (m : Mode) → l.incarnation ≡ h.incarnation → IsMode see l h.mode m → waits m ≡ false
     → v ≡ left l (object_at m) (map (λ d. d.1) (drop h.first_delivered h.log.delivered.items)) (map (λ e. e.body) (drop h.first_sent h.log.sent.items)) deferred)
     → v ≡ left_at script st

@@ -1,10 +1,14 @@
+pub mod Again
 pub mod Answered
+pub mod Blocks
 pub mod ByCallers
+pub mod Decided
 pub mod Endings
 pub mod Entered
 pub mod First
 pub mod Fits
 pub mod Fitted
+pub mod Gates
 pub mod Held
 pub mod Intakes
 pub mod Judging

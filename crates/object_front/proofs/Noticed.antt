@@ -3,6 +3,7 @@ use Rattle.std.proofs.Common.{◌≡◌, ◌∙◌, sym, refl, ap, subst, ℕ, s
 use Rattle.std.proofs.lemmas.List.{drop-append-le, map-append, length-append}
 use Rattle.std.proofs.lemmas.Option.{none-some}
 use Rattle.std.specs.Prelude.{unwrap_or}
+use Rattle.do_tree.specs.Lookup.{constructor_of}
 use Rattle.do_tree.specs.Tree.{Script}
 use Rattle.script_mean.specs.declared.answer.Answer.{Answer}
 use Rattle.timeline.specs.Headline.{IsPrefix}
@@ -25,6 +26,7 @@ use Rattle.front_turns.specs.declared.object.Object.{Object}
 use Rattle.front_turns.specs.declared.object.Running.{Running}
 use Rattle.front_turns.specs.declared.object.State.{State as HeldState}
 use Rattle.front_turns.specs.declared.object.State.TheVariants as state
+use Rattle.object_front.specs.Gated.{IsGatedMode, IsGatedState}
 use Rattle.object_front.specs.Moving.{Moves, Stops, Speaks, said_by}
 use Rattle.object_front.specs.Noticing.{GoesOn, answer_to, in_mode, in_wait, is_end}
 use Rattle.object_front.specs.Standing.{Stood, IsClass, IsHalf, IsMode, IsTakenBy, kind_in, is_stopped}
@@ -32,14 +34,12 @@ use Rattle.object_front.specs.Taking.{Led, IsLedBy, fits, sticks_at, leads, take
 use Rattle.object_front.specs.declared.half.Half.{Half}
 use Rattle.object_front.specs.declared.half.Mode.{Mode as HeldMode}
 use Rattle.object_front.specs.declared.half.Mode.TheVariants as held
+use Rattle.object_front.proofs.Held.{some_class}
+use Rattle.object_front.proofs.Blocks.{answers_gated}
 use Rattle.object_front.proofs.Fits.{Answers, answers_by, answers_fit, others_fit_not, idle_fits_not, ended_fits_not}
 use Rattle.object_front.proofs.Stepping.{Adds, adds_on, takes_one, cuts_one}
 
--- There is a class to speak of, and where it is known it is that.
-some_class : (class : Option ℕ) → (c : ℕ) × IsClass class c
-some_class None = (0, tt)
-some_class (Some class) = (class, refl)
-
+-- Where the class is known, it is that.
 class_is : (o : Option ℕ) (class c : ℕ) → o ≡ Some class → IsClass o c → class ≡ c
 class_is None class c is of = absurd (none-some class is)
 class_is (Some d) class c is of = sym (ap (λ (x : Option ℕ). unwrap_or x 0) is) ∙ of
@@ -106,6 +106,7 @@ module _ {T : Type 0} (see : T → Paused) where
         incarnation = is.incarnation;
         count = is.count;
         mode = is.mode;
+        gate = is.gate;
         deferred = is.deferred;
         stuck = refl;
         delivered_from = is.delivered_from;
@@ -185,14 +186,15 @@ module _ {T : Type 0} (see : T → Paused) (script : Script) where
   -- It holds what the step leads to.
   pub holds_on : (h : Half T) (mode : HeldMode T) (class : ℕ) (st : Stood) (step : Step) (sent : Vec Entry Global) (s : HeldState T) (n : ℕ)
       → IsHalf see script (in_mode h mode) st → h.class ≡ Some class → Speaks see (life_in script class h.incarnation) h.log.sent.items sent.items h.count s n step
-      → IsHalf see script (stepped h sent s n) (record st { front = steps_to st.front step })
-  holds_on h mode class st step sent s n is known says = record {
+      → IsGatedState (constructor_of script class) step.state → IsHalf see script (stepped h sent s n) (record st { front = steps_to st.front step })
+  holds_on h mode class st step sent s n is known says gated = record {
     class = is.class;
     known = is.known;
     incarnation = is.incarnation;
     count = counts_on n h.count st.front.said (said_by step) says.count is.count ∙ ap length (sym (append_assoc st.front.said step.says (asking step.state)));
     mode = λ c of. subst (λ (i : ℕ). IsState see (life_in script c i) s step.state) is.incarnation
         (subst (λ (d : ℕ). IsState see (life_in script d h.incarnation) s step.state) (class_is st.class class c (sym is.class ∙ known) of) says.state);
+    gate = λ c of. subst (λ (d : ℕ). IsGatedState (constructor_of script d) step.state) (class_is st.class class c (sym is.class ∙ known) of) gated;
     deferred = is.deferred;
     stuck = is.stuck;
     delivered_from = is.delivered_from;
@@ -225,9 +227,9 @@ module _ {T : Type 0} (see : T → Paused) (script : Script) where
 
   pub moves_on : (h : Half T) (mode : HeldMode T) (class : ℕ) (st : Stood) (n : Notice) (step : Step) (sent : Vec Entry Global) (s : HeldState T) (m : ℕ)
       → IsHalf see script (in_mode h mode) st → h.class ≡ Some class → Leads class st n step
-      → Speaks see (life_in script class h.incarnation) h.log.sent.items sent.items h.count s m step
+      → Speaks see (life_in script class h.incarnation) h.log.sent.items sent.items h.count s m step → IsGatedState (constructor_of script class) step.state
       → (led : Led) × IsLedBy script st n led × Moves see script (in_mode h mode) (stepped h sent s m) led st
-  moves_on h mode class st n step sent s m is known by says =
+  moves_on h mode class st n step sent s m is known by says gated =
       let d : ℕ = unwrap_or st.class 0 in
       let class_of : st.class ≡ Some class = sym is.class ∙ known in
       let here : class ≡ d = sym (ap (λ (x : Option ℕ). unwrap_or x 0) class_of) in
@@ -237,7 +239,7 @@ module _ {T : Type 0} (see : T → Paused) (script : Script) where
         takes_notice script st n,
         fits by.fit,
         record {
-          half = subst (λ (x : Stood). IsHalf see script (stepped h sent s m) x) same (holds_on h mode class st step sent s m is known says);
+          half = subst (λ (x : Stood). IsHalf see script (stepped h sent s m) x) same (holds_on h mode class st step sent s m is known says gated);
           dropped = sym (append-nil h.log.dropped.items);
           taken = λ c from taken of took. let k : Kind = kind_in script c in
               subst (λ (f : intake.Front). IsTakenBy k from (taken ++ noticed n ∷ []) f (fronted (stepped h sent s m).log))
@@ -304,6 +306,15 @@ module _ {T : Type 0} (see : T → Paused) (script : Script) where
         downs = ap (λ (x : Mode). downed_by st.front.incarnation x (noticed n)) w.at ∙ (by class).downs;
         ends = ap (λ (x : Mode). ends_by x (noticed n)) w.at ∙ (by class).ends;
       }
+
+  -- And that step keeps the blocks in order.
+  pub answer_gated : (h : Half T) (class : ℕ) (o : Object T) (r : Running) (task : T) (a : Asked) (given : Answer) (st : Stood)
+      → IsHalf see script (in_wait h o r task a) st → h.class ≡ Some class → (w : Waits see (life_in script class h.incarnation) st.front.mode o r task a)
+      → IsGatedState (constructor_of script class) (answers (life_in script class h.incarnation) (object_of o w.tasks) w.goes given).state
+  answer_gated h class o r task a given st is known w =
+      let gated : IsGatedState (constructor_of script class) (waiting (object_of o w.tasks) w.goes w.asks)
+      = subst (λ (m : Mode). IsGatedMode (constructor_of script class) m) w.at (is.gate class (known_class st.class class (sym is.class ∙ known))) in
+      answers_gated (life_in script class h.incarnation) (object_of o w.tasks) w.goes given gated.0 gated.1
 
   -- A front that stands isn't stopped.
   pub stopped_not : (h : Half T) (st : Stood) → IsHalf see script (in_mode h held.Stopped) st → ⊥

@@ -1,11 +1,10 @@
 -- A turn takes what it takes, and by that the front goes on.
-use Rattle.std.proofs.Common.{◌≡◌, ◌∙◌, sym, refl, ap, subst, ℕ, ◌⊎◌, inl, inr, Bool, true, false, List, ◌∷◌, [], ◌++◌, unwrap_or}
+use Rattle.std.proofs.Common.{◌≡◌, ◌∙◌, sym, refl, ap, subst, ℕ, inl, inr, Bool, true, false, List, ◌∷◌, [], ◌++◌, unwrap_or}
 use Rattle.do_tree.specs.Tree.{Script}
 use Rattle.std.specs.List.{list_any}
 use Rattle.lane.specs.Lanes.{StartsWith}
-use Rattle.timeline.specs.Intake as intake
-use Rattle.timeline.specs.Intake.{Mode, serves, down, Taken}
-use Rattle.timeline.specs.Logs.{Fronted, fronted}
+use Rattle.timeline.specs.Intake.{Mode}
+use Rattle.timeline.specs.Logs.{fronted}
 use Rattle.timeline.specs.Object.{Life}
 use Rattle.timeline.specs.declared.event.Event.{Event}
 use Rattle.timeline.specs.declared.front_log.FrontLog.{FrontLog}
@@ -13,8 +12,8 @@ use Rattle.timeline.specs.declared.notice.Notice.{Notice}
 use Rattle.front_turns.specs.Paused.{Paused}
 use Rattle.front_turns.specs.Held.{life_in}
 use Rattle.object_front.proofs.Held.{class_there}
-use Rattle.object_front.specs.Moving.{Moves, Stops}
-use Rattle.object_front.specs.Standing.{Stood, IsClass, IsHalf, IsMode, IsTakenBy, IsCutShort, kind_in, is_stopped, is_stopped_mode}
+use Rattle.object_front.specs.Moving.{IsCut, Moves, Stops}
+use Rattle.object_front.specs.Standing.{Stood, IsHalf, IsMode, IsTakenBy, kind_in, is_stopped, is_stopped_mode}
 use Rattle.object_front.specs.Taking.{Led, IsFirst, may_enter, on_event, waits, without}
 use Rattle.object_front.specs.Turning.{IsEntered, Turns, Halts}
 use Rattle.object_front.specs.declared.half.Half.{Half}
@@ -44,12 +43,6 @@ moves_without see script old mid new led st place same m = record {
   taken = λ c from taken class is. m.taken c from taken class
       (subst (λ (log : FrontLog). IsTakenBy (kind_in script c) from taken st.front (fronted log)) (sym same) is);
 }
-
-abbrev IsCut : Script → (old new : FrontLog) → Led → Stood → Type 0
-IsCut script old new led st = (fronted new ≡ fronted old) ⊎ ((new.dropped.items ≡ old.dropped.items ++ led.dropped)
-    × ((c : ℕ) (from : intake.Front) (taken : List Taken) → IsClass led.stood.class c
-    → IsTakenBy (kind_in script c) from taken st.front (fronted old)
-    → IsCutShort (kind_in script c) from (taken ++ led.item) (fronted new)))
 
 stops_without : {T : Type 0} (script : Script) (old mid new : Half T) (led : Led) (st : Stood) (place : ℕ) → mid.log ≡ old.log
     → Stops script mid new led (without st place) → Stops script old new led st

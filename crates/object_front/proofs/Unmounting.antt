@@ -2,6 +2,7 @@
 use Rattle.std.proofs.Common.{◌≡◌, ◌∙◌, sym, refl, ap, subst, ℕ, ◌+◌, ℤ, List, [], ◌∷◌, ◌++◌, length, Option, Some, None, true, false, Vec, Global, append-nil}
 use Rattle.std.proofs.lemmas.Bool.{true≢false}
 use Rattle.std.specs.Prelude.{option_to_list}
+use Rattle.do_tree.specs.Lookup.{constructor_of}
 use Rattle.do_tree.specs.Tree.{Script}
 use Rattle.timeline.specs.Headline.{IsPrefix}
 use Rattle.timeline.specs.Intake as intake
@@ -23,6 +24,7 @@ use Rattle.object_front.specs.Standing.{Stood, IsHalf, IsMode, is_stopped}
 use Rattle.object_front.specs.Taking.{due_at}
 use Rattle.object_front.specs.declared.half.Half.{Half}
 use Rattle.object_front.specs.declared.half.Mode.TheVariants as held
+use Rattle.object_front.proofs.Blocks.{begun_gated}
 use Rattle.object_front.proofs.Intakes.{numbered-append}
 use Rattle.object_front.proofs.Leading.{LeadsTo, moves_to, stops_to, stops_before}
 use Rattle.object_front.proofs.Noticed.{mode_at, down_so, sticks, said_more, longer, counts_on, at_number}
@@ -36,7 +38,7 @@ waiting_fits_not (notice.Down c before after) call said stored fit = true≢fals
 waiting_fits_not n call said stored fit = fit
 
 -- the half whose object is mounted, with this event before its deferred ones
-abbrev pub mounted : {T : Type 0} → Half T → Object T → Option Event → Vec Event Global → Half T
+abbrev pub mounted : {T : Type 0} → Half T → Object T → Option Event → List Event → Half T
 mounted h o due deferred = record h { mode = held.Serves (Idle o); due = due; deferred = deferred }
 
 -- the half whose call got its failure
@@ -69,8 +71,8 @@ module _ {T : Type 0} (see : T → Paused) (script : Script) where
         → (i : ℕ) (c : Cause) → IsStoppedBy see script (in_mode h (held.Down (Some call))) new (notice.Fresh i alarm c)
     mount_stops new stopped same i c st is = stops_before see script h (held.Down (Some call)) new st (notice.Fresh i alarm c) (mount_fits i c st is) stopped same
 
-    pub mounts : (o : Object T) (due : Option Event) (deferred : Vec Event Global) → object_of o [] ≡ begun alarm → ((l : Life) → Holds see l o [])
-        → option_to_list due ++ deferred.items ≡ call ∷ (option_to_list h.due ++ h.deferred.items)
+    pub mounts : (o : Object T) (due : Option Event) (deferred : List Event) → object_of o [] ≡ begun alarm → ((l : Life) → Holds see l o [])
+        → option_to_list due ++ deferred ≡ call ∷ (option_to_list h.due ++ h.deferred)
         → (i : ℕ) (c : Cause) → GoesOn see script (in_mode h (held.Down (Some call))) (mounted h o due deferred) (notice.Fresh i alarm c)
     mounts o due deferred begins holds put i c st is =
         let n : Notice = notice.Fresh i alarm c in
@@ -96,6 +98,7 @@ module _ {T : Type 0} (see : T → Paused) (script : Script) where
           incarnation = is.incarnation;
           count = is.count;
           mode = λ d of. ([], sym begins, holds _);
+          gate = λ d of. begun_gated (constructor_of script d) alarm;
           deferred = put ∙ ap (λ (xs : List Event). call ∷ xs) is.deferred;
           stuck = is.stuck;
           delivered_from = is.delivered_from;
@@ -146,6 +149,7 @@ module _ {T : Type 0} (see : T → Paused) (script : Script) where
           incarnation = is.incarnation;
           count = counts_on n h.count st.front.said bodies counts is.count;
           mode = λ d of. refl;
+          gate = λ d of. tt;
           deferred = is.deferred;
           stuck = is.stuck;
           delivered_from = is.delivered_from;

@@ -1,14 +1,7 @@
--- Of which kind an event is, and how the log is cut short where memory was wanting.
-use Rattle.std.specs.Prelude.{◌≡◌, ◌⊎◌, ◌++◌, ℕ, Bool, true, false, List, Option, Some, None}
-use Rattle.do_tree.specs.Tree.{Script}
-use Rattle.timeline.specs.Intake as intake
-use Rattle.timeline.specs.Intake.{Taken}
-use Rattle.timeline.specs.Logs.{fronted}
+-- Of which kind an event is.
+use Rattle.std.specs.Prelude.{ℕ, Bool, true, false, Option, Some, None}
 use Rattle.timeline.specs.declared.event.Event.{Event}
 use Rattle.timeline.specs.declared.event.Event.TheVariants as event
-use Rattle.timeline.specs.declared.front_log.FrontLog.{FrontLog}
-use Rattle.object_front.specs.Standing.{Stood, IsClass, IsTakenBy, IsCutShort, kind_in}
-use Rattle.object_front.specs.Taking.{Led}
 
 abbrev pub is_bind : Event → Bool
 is_bind (event.Bind identity) = true
@@ -22,10 +15,3 @@ is_call e = false
 abbrev pub named_by : Event → Option (ℕ × ℕ)
 named_by (event.Answer incarnation number result at) = Some (incarnation, number)
 named_by e = None
-
--- Nothing was logged of the turn; or its item was, of which the first entries were sent.
-abbrev pub IsCut : Script → FrontLog → FrontLog → Led → Stood → Type 0
-IsCut script old new led st = (fronted new ≡ fronted old) ⊎ ((new.dropped.items ≡ old.dropped.items ++ led.dropped)
-    × ((c : ℕ) (from : intake.Front) (taken : List Taken) → IsClass led.stood.class c
-    → IsTakenBy (kind_in script c) from taken st.front (fronted old)
-    → IsCutShort (kind_in script c) from (taken ++ led.item) (fronted new)))

@@ -2,6 +2,7 @@ pub mod Answering
 pub mod ByCallers
 pub mod Ending
 pub mod Evaluated
+pub mod Gated
 pub mod Kinds
 pub mod Leaving
 pub mod Moving

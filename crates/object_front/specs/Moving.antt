@@ -8,6 +8,7 @@ use Rattle.timeline.specs.Object.{Life, Step}
 use Rattle.timeline.specs.Told.{asking}
 use Rattle.timeline.specs.declared.entry.Body.{Body}
 use Rattle.timeline.specs.declared.entry.Entry.{Entry}
+use Rattle.timeline.specs.declared.front_log.FrontLog.{FrontLog}
 use Rattle.front_turns.specs.Paused.{Paused}
 use Rattle.front_turns.specs.Held.{IsState}
 use Rattle.front_turns.specs.declared.object.State.{State}
@@ -33,10 +34,14 @@ pub record Moves {T : Type 0} (see : T → Paused) (script : Script) (old new : 
       → IsTakenBy (kind_in script c) from taken st.front (fronted old.log)
       → IsTakenBy (kind_in script c) from (taken ++ led.item) led.stood.front (fronted new.log)
 
--- Memory was wanting: nothing was logged of the turn, or its item, of which the first entries were sent.
+-- Nothing was logged of the turn; or its item was, of which the first entries were sent.
+abbrev pub IsCut : Script → (old new : FrontLog) → Led → Stood → Type 0
+IsCut script old new led st = (fronted new ≡ fronted old) ⊎ ((new.dropped.items ≡ old.dropped.items ++ led.dropped)
+    × ((c : ℕ) (from : intake.Front) (taken : List Taken) → IsClass led.stood.class c
+    → IsTakenBy (kind_in script c) from taken st.front (fronted old)
+    → IsCutShort (kind_in script c) from (taken ++ led.item) (fronted new)))
+
+-- Memory was wanting, and the front is stopped.
 pub record Stops {T : Type 0} (script : Script) (old new : Half T) (led : Led) (st : Stood) : Type 0 where
   pub stopped : is_stopped new ≡ true
-  pub cut : (fronted new.log ≡ fronted old.log) ⊎ ((new.log.dropped.items ≡ old.log.dropped.items ++ led.dropped)
-      × ((c : ℕ) (from : intake.Front) (taken : List Taken) → IsClass led.stood.class c
-      → IsTakenBy (kind_in script c) from taken st.front (fronted old.log)
-      → IsCutShort (kind_in script c) from (taken ++ led.item) (fronted new.log)))
+  pub cut : IsCut script old.log new.log led st

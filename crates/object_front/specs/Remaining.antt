@@ -1,5 +1,5 @@
 -- What a front that waits for no answer of its back has left. This project's profile.
-use Rattle.std.specs.Prelude.{ℕ, List, None, unwrap_or}
+use Rattle.std.specs.Prelude.{List, None, unwrap_or}
 use Rattle.do_tree.specs.Tree.{Script}
 use Rattle.timeline.specs.Intake.{Mode, serves, down}
 use Rattle.timeline.specs.Left.{left}

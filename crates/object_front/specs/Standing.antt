@@ -1,6 +1,7 @@
 -- How a front stands to what it has taken: what it holds is where the items lead, what it has logged is what they give, and each
 -- item was one that the input gate lets through.
-use Rattle.std.specs.Prelude.{◌≡◌, ◌≤◌, ℕ, ℤ, Bool, true, false, List, [], ◌++◌, length, map, drop, option_to_list, Option, Some, None, IfSome, unwrap_or}
+use Rattle.std.specs.Prelude.{◌≡◌, ◌≤◌, ℕ, ℤ, Bool, true, false, List, [], ◌++◌, length, map, drop, option_to_list, Option, Some, None, IfSome}
+use Rattle.do_tree.specs.Lookup.{constructor_of}
 use Rattle.do_tree.specs.Tree.{Script}
 use Rattle.timeline.specs.Headline.{IsPrefix}
 use Rattle.timeline.specs.Intake as intake
@@ -10,6 +11,7 @@ use Rattle.timeline.specs.Object.{Life}
 use Rattle.timeline.specs.declared.event.Event.{Event}
 use Rattle.front_turns.specs.Paused.{Paused, HasClass}
 use Rattle.front_turns.specs.Held.{IsState, life_in}
+use Rattle.object_front.specs.Gated.{IsGatedMode}
 use Rattle.object_front.specs.declared.half.Half.{Half}
 use Rattle.object_front.specs.declared.half.Mode.{Mode as HeldMode}
 use Rattle.object_front.specs.declared.half.Mode.TheVariants as held
@@ -57,15 +59,16 @@ IsMode see l (held.Serves s) (serves st) = IsState see l s st
 IsMode see l (held.Down call) (down waits) = call ≡ waits
 IsMode see l mode other = ⊥
 
--- What a front holds, as long as memory wasn't wanting. Where the class isn't known, each class would do. The newest incarnation's
--- part of the log begins within it, or at its end.
+-- What a front holds, as long as memory wasn't wanting. Where the class isn't known, each class would do. Only the newest of its
+-- object's tasks has its block open. The newest incarnation's part of the log begins within it, or at its end.
 pub record IsHalf {T : Type 0} (see : T → Paused) (script : Script) (h : Half T) (st : Stood) : Type 0 where
   pub class : h.class ≡ st.class
   pub known : IfSome st.class (HasClass script)
   pub incarnation : h.incarnation ≡ st.front.incarnation
   pub count : h.count ≡ length st.front.said
   pub mode : (c : ℕ) → IsClass st.class c → IsMode see (life_in script c st.front.incarnation) h.mode st.front.mode
-  pub deferred : option_to_list h.due ++ h.deferred.items ≡ st.deferred
+  pub gate : (c : ℕ) → IsClass st.class c → IsGatedMode (constructor_of script c) st.front.mode
+  pub deferred : option_to_list h.due ++ h.deferred ≡ st.deferred
   pub stuck : h.stuck ≡ st.stuck
   pub delivered_from : h.first_delivered ≤ length h.log.delivered.items
   pub sent_from : h.first_sent ≤ length h.log.sent.items

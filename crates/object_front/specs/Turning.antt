@@ -31,12 +31,16 @@ is_held (held.Serves s) = is_busy s
 is_held (held.Down call) = is_some call
 is_held held.Stopped = true
 
+-- What was got of the inbox and of the notices, and what was sent on the line.
+abbrev pub Lanes : Type 0
+Lanes = List Event × List Notice × List Entry
+
 -- Nothing is taken, and all is as before.
-pub record IsStill {T : Type 0} (old new : Half T) (events_before events : List Event) (notices_before notices : List Notice) (sent_before sent : List Entry) : Type 0 where
+pub record IsStill {T : Type 0} (old new : Half T) (before after : Lanes) : Type 0 where
   pub half : new ≡ old
-  pub no_event : events ≡ events_before
-  pub no_notice : notices ≡ notices_before
-  pub no_entry : sent ≡ sent_before
+  pub no_event : after.0 ≡ before.0
+  pub no_notice : after.1 ≡ before.1
+  pub no_entry : after.2 ≡ before.2
 
 -- No event may be taken: an answer of the back is waited for; or no deferred event may enter, and no other has come.
 abbrev pub IsQuiet : Stood → (taken told : List Event) → Type 0
@@ -70,7 +74,8 @@ abbrev pub IsEntered : Script → Stood → (events_before events : List Event) 
 IsEntered script st events_before events led = TakesDeferred script st events_before events led ⊎ TakesEvent script st events_before events led
 
 -- An event is taken only where no notice has come.
-pub record TakesNone (script : Script) (st : Stood) (events_before events : List Event) (notices_before notices notices_told : List Notice) (led : Led) : Type 0 where
+pub record TakesNone (script : Script) (st : Stood) (events_before events : List Event)
+    (notices_before notices notices_told : List Notice) (led : Led) : Type 0 where
   pub no_notice : notices ≡ notices_before
   pub heard : StartsWith notices_before notices_told
   pub entered : IsEntered script st events_before events led

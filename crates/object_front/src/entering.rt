@@ -8,8 +8,7 @@ ghost use Rattle.timeline.specs.Object as seen;
 ghost use Rattle.timeline.specs.Object.{Life, idle};
 ghost use Rattle.front_turns.specs.Held.{IsState};
 ghost use Rattle.front_turns.specs.declared.object.State.TheVariants as states;
-ghost use Rattle.object_front.specs.Kinds.{IsCut};
-ghost use Rattle.object_front.specs.Moving.{Moves, Stops};
+ghost use Rattle.object_front.specs.Moving.{IsCut, Moves, Stops};
 ghost use Rattle.object_front.specs.Sending.{AreSentToo};
 ghost use Rattle.object_front.specs.Standing.{Stood, IsHalf, IsMode};
 ghost use Rattle.object_front.specs.Taking as taking;
@@ -197,7 +196,7 @@ impl<T: Task + Drop> Half<T> {
         ensures same { OnErr result (fronted self.new.log ≡ fronted self.old.log) }
         ensures sent { self.new.log.sent.items ≡ self.old.log.sent.items }
     {
-        put(&mut self.deferred, event)
+        self.deferred.add(event)
     }
 
     // The event is dropped.

@@ -18,9 +18,16 @@ use script_mean::Answer;
 use std::alloc::Global;
 
 /// A task of the evaluator that waits for an answer.
-#[derive(Drop)]
 pub(crate) struct Evaluated {
     task: script_eval::Task,
+}
+
+// Written out, so that it is one function: a derived one is proved again wherever a task is let go.
+impl Drop for Evaluated {
+    fn drop(self) {
+        let Evaluated { task } = self;
+        drop(task);
+    }
 }
 
 impl Task for Evaluated {
@@ -46,7 +53,8 @@ impl Task for Evaluated {
         fields: Fields,
         now: i64,
     ) -> Mem<Outcome<Evaluated>> {
-        Ok(turned(self.task.resume(alloc, checked, answer, fields, now)?))
+        let Evaluated { task } = self;
+        Ok(turned(task.resume(alloc, checked, answer, fields, now)?))
     }
 
     fn block(&self) -> bool {

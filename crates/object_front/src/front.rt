@@ -20,6 +20,7 @@ use crate::turning::Turned;
 use do_tree::Checked;
 use do_value::Mem;
 use front_turns::{Object, State};
+use input_gate::Deferred;
 use lane::{Inlet, Outlet};
 use std::alloc::Global;
 use storage_map::Alarm;
@@ -27,9 +28,16 @@ use timeline::{Caller, Entry, Event, FrontLog, Notice, Waits};
 
 /// The front half of an object: it is given events and notices, and sends what its script says to them. It is made for one
 /// script.
-#[derive(Drop)]
 pub struct Front {
     pub(crate) half: Half<Evaluated>,
+}
+
+// Written out, so that the crates that hold a front prove nothing of what it holds.
+impl Drop for Front {
+    fn drop(self) {
+        let Front { half } = self;
+        drop(half);
+    }
 }
 
 impl Front {
@@ -50,7 +58,7 @@ impl Front {
                     object: Object::begin(alloc, alarm),
                 }),
                 due: None,
-                deferred: Vec::new(alloc),
+                deferred: Deferred::new(alloc),
                 stuck: false,
                 first_delivered: 0,
                 first_sent: 0,
@@ -78,10 +86,10 @@ impl Front {
     ) -> Mem<Turned>
         requires { CanTurn seen (script_in checked.now) self.old.half }
         ensures stopped { standing.is_stopped self.old.half ≡ true → OnOk result ⊥
-            × IsStill self.old.half self.new.half (I.got inbox.old) (I.got inbox.new) (N.got notices.old) (N.got notices.new) (O.sent line.old) (O.sent line.new) }
+            × IsStill self.old.half self.new.half (I.got inbox.old, N.got notices.old, O.sent line.old) (I.got inbox.new, N.got notices.new, O.sent line.new) }
         ensures stuck { standing.is_stopped self.old.half ≡ false → self.old.half.stuck ≡ true → result ≡ Ok Idle }
         ensures still { result ≡ Ok Idle
-            → IsStill self.old.half self.new.half (I.got inbox.old) (I.got inbox.new) (N.got notices.old) (N.got notices.new) (O.sent line.old) (O.sent line.new) }
+            → IsStill self.old.half self.new.half (I.got inbox.old, N.got notices.old, O.sent line.old) (I.got inbox.new, N.got notices.new, O.sent line.new) }
         ensures idle { result ≡ Ok Idle → (st : Stood) → IsHalf seen (script_in checked.now) self.old.half st → st.stuck ≡ false
             → StartsWith (N.got notices.old) (N.told notices.old) × IsQuiet st (I.got inbox.old) (I.told inbox.old) }
         ensures ran { result ≡ Ok Ran → (st : Stood) → IsHalf seen (script_in checked.now) self.old.half st
@@ -90,6 +98,7 @@ impl Front {
         ensures lost { OnErr result ((st : Stood) → IsHalf seen (script_in checked.now) self.old.half st
             → Halts (script_in checked.now) self.old.half self.new.half st
             (I.got inbox.old) (I.got inbox.new) (N.got notices.old) (N.got notices.new) (N.told notices.old)) }
+        ensures again { CanTurn seen (script_in checked.now) self.new.half }
         ensures too { AreSentToo (O.sent line.old) (O.sent line.new) self.old.half.log.sent.items self.new.half.log.sent.items }
         ensures inbox { (I.inlet inbox.new ≡ I.inlet inbox.old) × (I.told inbox.new ≡ I.told inbox.old) }
         ensures notices { (N.inlet notices.new ≡ N.inlet notices.old) × (N.told notices.new ≡ N.told notices.old) }

@@ -1,5 +1,6 @@
 //! What the front half of an object holds.
 use front_turns::State;
+use input_gate::Deferred;
 use timeline::{Event, FrontLog};
 
 /// How a front stands.
@@ -24,7 +25,7 @@ pub(crate) struct Half<T> {
     pub(crate) mode: Mode<T>,
     // the call that waited for the mounting, which is delivered before those that are deferred
     pub(crate) due: Option<Event>,
-    pub(crate) deferred: Vec<Event>,
+    pub(crate) deferred: Deferred,
     // something was taken that no back and no switch sends
     pub(crate) stuck: bool,
     // where the newest incarnation begins in the log

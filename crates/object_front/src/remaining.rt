@@ -13,6 +13,7 @@ use crate::half::{Half, Mode};
 use crate::leaving::find_left;
 use do_value::{Mem, NoMemory};
 use front_turns::{Object, State, Task};
+use input_gate::Deferred;
 use std::alloc::Global;
 use timeline::{Caller, Event, Waits};
 
@@ -28,17 +29,17 @@ fn add_copy(events: &mut Vec<Event>, event: &Event) -> Mem<()>
 }
 
 // The copies of these events, behind others.
-fn add_copies(events: &mut Vec<Event>, more: &[Event]) -> Mem<()>
+fn add_copies(events: &mut Vec<Event>, more: &Deferred) -> Mem<()>
     ensures { OnOk result (events.new.items ≡ events.old.items ++ more.now) }
 {
-    for event in more {
+    for event in more.iter() {
         add_copy(events, event)?;
     }
     Ok(())
 }
 
 // The call that waited for the mounting, and the deferred events, as copies.
-fn copy_waiting(alloc: Global, due: &Option<Event>, deferred: &[Event]) -> Mem<Vec<Event>>
+fn copy_waiting(alloc: Global, due: &Option<Event>, deferred: &Deferred) -> Mem<Vec<Event>>
     ensures { IfOk result (λ events. events.items ≡ option_to_list due.now ++ deferred.now) }
 {
     let mut events = Vec::new(alloc);
@@ -142,7 +143,7 @@ impl<T: Task + Drop> Half<T> {
         ensures { IfOk result (λ left. (script : Script) (st : Stood) → IsHalf T.seen script self.now st → taking.waits st.front.mode ≡ false
             → left.items ≡ left_at script st) }
     {
-        let deferred = copy_waiting(alloc, &self.due, self.deferred.as_slice())?;
+        let deferred = copy_waiting(alloc, &self.due, &self.deferred)?;
         let left = self.remaining_at(alloc, deferred.as_slice())?;
         Ok(left)
     }

@@ -242,14 +242,14 @@ fn has_block<T: Task + Drop>(object: &Object<T>, number: u64) -> bool
 }
 
 // Whether a block is open.
-fn is_blocked<T: Task + Drop>(object: &Object<T>) -> bool
+pub(crate) fn is_blocked<T: Task + Drop>(object: &Object<T>) -> bool
     ensures { (l : Life) (ts : List OpenTask) → Holds T.seen l object.now ts → result ≡ seen.is_blocked (object_of object.now ts) }
 {
     object.blocks > 0
 }
 
 // Whether no task is open.
-fn is_resting<T: Task + Drop>(object: &Object<T>) -> bool
+pub(crate) fn is_resting<T: Task + Drop>(object: &Object<T>) -> bool
     ensures { (l : Life) (ts : List OpenTask) → Holds T.seen l object.now ts → result ≡ gate.has_no_task ts }
 {
     object.tasks.len() == 0

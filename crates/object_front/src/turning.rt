@@ -53,10 +53,10 @@ impl<T: Task + Drop> Half<T> {
     ) -> Mem<Turned>
         requires { CanTurn T.seen (script_in checked.now) self.old }
         ensures stopped { standing.is_stopped self.old ≡ true → OnOk result ⊥
-            × IsStill self.old self.new (I.got inbox.old) (I.got inbox.new) (N.got notices.old) (N.got notices.new) (O.sent line.old) (O.sent line.new) }
+            × IsStill self.old self.new (I.got inbox.old, N.got notices.old, O.sent line.old) (I.got inbox.new, N.got notices.new, O.sent line.new) }
         ensures stuck { standing.is_stopped self.old ≡ false → self.old.stuck ≡ true → result ≡ Ok Idle }
         ensures still { result ≡ Ok Idle
-            → IsStill self.old self.new (I.got inbox.old) (I.got inbox.new) (N.got notices.old) (N.got notices.new) (O.sent line.old) (O.sent line.new) }
+            → IsStill self.old self.new (I.got inbox.old, N.got notices.old, O.sent line.old) (I.got inbox.new, N.got notices.new, O.sent line.new) }
         ensures idle { result ≡ Ok Idle → (st : Stood) → IsHalf T.seen (script_in checked.now) self.old st → st.stuck ≡ false
             → StartsWith (N.got notices.old) (N.told notices.old) × IsQuiet st (I.got inbox.old) (I.told inbox.old) }
         ensures ran { result ≡ Ok Ran → (st : Stood) → IsHalf T.seen (script_in checked.now) self.old st

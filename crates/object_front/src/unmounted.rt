@@ -13,23 +13,43 @@ use crate::half::{Half, Mode};
 use crate::sending::send_all;
 use do_value::{Mem, NoMemory};
 use front_turns::{Object, State, Task};
+use input_gate::Deferred;
 use lane::Outlet;
 use std::alloc::Global;
 use storage_map::Alarm;
 use timeline::{Body, Entry, Event, Failure, Message, Notice};
 
-// The call stands before those that are deferred.
-fn put_due(due: &mut Option<Event>, deferred: &mut Vec<Event>, call: Event) -> Mem<()>
-    ensures { OnOk result (option_to_list due.new ++ deferred.new.items ≡ call ∷ (option_to_list due.old ++ deferred.old.items)) }
+// One event more is deferred, as a copy.
+fn defer_copy(deferred: &mut Deferred, event: &Event) -> Mem<()>
+    ensures { OnOk result (deferred.new ≡ deferred.old ++ event.now ∷ []) }
 {
-    let Some(earlier) = due.replace(call) else {
-        return Ok(());
-    };
-    match deferred.insert(0, earlier) {
-        Ok(()) => Ok(()),
-        Err(refused) => {
-            drop(refused);
-            Err(NoMemory)
+    let copy = event.copy()?;
+    deferred.add(copy)?;
+    Ok(())
+}
+
+// The event, and the copies of these behind it.
+fn defer_before(alloc: Global, event: Event, others: &Deferred) -> Mem<Deferred>
+    ensures { IfOk result (λ deferred. deferred ≡ event ∷ others.now) }
+{
+    let mut deferred = Deferred::new(alloc);
+    deferred.add(event)?;
+    for other in others.iter() {
+        defer_copy(&mut deferred, other)?;
+    }
+    Ok(deferred)
+}
+
+// The call is due, before one that was due earlier and those that are deferred.
+fn put_due(alloc: Global, due: &mut Option<Event>, deferred: &mut Deferred, call: Event) -> Mem<()>
+    ensures { OnOk result (option_to_list due.new ++ deferred.new ≡ call ∷ (option_to_list due.old ++ deferred.old)) }
+{
+    match due.replace(call) {
+        None => Ok(()),
+        Some(earlier) => {
+            let all = defer_before(alloc, earlier, deferred)?;
+            *deferred = all;
+            Ok(())
         }
     }
 }
@@ -142,7 +162,7 @@ impl<T: Task + Drop> Half<T> {
             → IsStoppedBy T.seen script (in_mode self.old (held.Down (Some call))) self.new (a_notice.Fresh incarnation alarm c)) }
         ensures log { self.new.log ≡ self.old.log }
     {
-        let Ok(()) = put_due(&mut self.due, &mut self.deferred, call) else {
+        let Ok(()) = put_due(alloc, &mut self.due, &mut self.deferred, call) else {
             return Err(NoMemory);
         };
         self.mode = Mode::Serves(State::Idle {

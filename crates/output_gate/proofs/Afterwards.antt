@@ -25,7 +25,7 @@ use Rattle.output_gate.specs.Ended.{newest_as, last_stop, AreInOrder, HasEnded, 
 use Rattle.output_gate.specs.Entering.{late_by, late_held, TakesLate}
 use Rattle.output_gate.specs.Gate.{Place, place_of, Lists, IsGate}
 use Rattle.output_gate.specs.Held.{passed_of, waiting_in, has_halt}
-use Rattle.output_gate.specs.Serving.{HasRoom, IsSafe, IsServing, IsMounted, IsEnded, IsUnmounted, IsBack}
+use Rattle.output_gate.specs.Serving.{HasRoom, IsSafe, IsServing, IsMounted, IsEnded, IsUnmounted, IsBackAs}
 use Rattle.output_gate.specs.Standing.{AreLogs, own_entries, own_flights, older_of}
 use Rattle.output_gate.specs.declared.back.Back.{Back}
 use Rattle.output_gate.specs.declared.back.Ending.{Ending}
@@ -338,8 +338,8 @@ module _ {D : Type 0} (moment_of : D → ℕ) (left_since : D → ℕ → List �
         counts = counts_stay told faults_of u.disk u.disk (backed old.log) (backed log) refl (ap (λ (b : Backed). b.stops) is) (ap (λ (b : Backed). b.downs) is) u.counts;
       }
 
-  pub back_late : (old new : Back D) (e : Entry) → LateFit old e → TakesLate old new e → IsBack moment_of left_since told image faults_of start opening sound old
-      → IsBack moment_of left_since told image faults_of start opening sound new
+  pub back_late : (old new : Back D) (e : Entry) → LateFit old e → TakesLate old new e → IsBackAs moment_of left_since told image faults_of start opening sound old
+      → IsBackAs moment_of left_since told image faults_of start opening sound new
   back_late old new e fits t (inl m) =
       inl (subst (IsMounted moment_of left_since told image faults_of start opening sound) (sym t.same) (mounted_late old new.log new.held e m fits t.log t.holds))
   back_late old new e fits t (inr u) =

@@ -7,9 +7,9 @@ use Rattle.timeline.specs.Logs.{Backed, backed}
 use Rattle.timeline.specs.declared.back_log.BackLog.{BackLog}
 use Rattle.timeline.specs.declared.entry.Entry.{Entry}
 use Rattle.timeline.specs.declared.notice.Notice.{Notice}
-use Rattle.output_gate.specs.Entering.{CanTake, TakesOwn, CanTakeDown, TakesDown, TakesLate, Enters, LosesEntry, logged_as, is_unfit, held_as, late_by}
+use Rattle.output_gate.specs.Entering.{CanTake, TakesOwn, CanTakeDown, TakesDown, TakesLate, Enters, LosesEntry, logged_as, is_unfit, held_as, late_by, mode_after, before_after}
 use Rattle.output_gate.specs.Fits.{comes_behind, last_of}
-use Rattle.output_gate.specs.Serving.{IsMounted, IsUnmounted, IsBack}
+use Rattle.output_gate.specs.Serving.{IsMounted, IsUnmounted, IsBackAs, IsAsBefore}
 use Rattle.output_gate.specs.Taking.{LogSame, LogRoom, may_take, is_wanted, fit_of, most_unflushed}
 use Rattle.output_gate.specs.declared.back.Back.{Back}
 use Rattle.output_gate.specs.declared.fit.Fit.{Fit}
@@ -40,13 +40,28 @@ unfit_enters old e is = record {
   log = ap (λ (x : Fit). logged_as x (backed old.log) e) (sym is);
   stuck = ap is_unfit (sym is);
   held = sym (append-nil old.held.items) ∙ ap (λ (x : Fit). old.held.items ++ held_as x old e) (sym is);
+  mode = ap (λ (x : Fit). mode_after x old.mode e.body) (sym is);
+  before = ap (λ (x : Fit). before_after x old.before e.body) (sym is);
+  durable = refl;
 }
+
+-- the log got room first
+pub before_room : {D : Type 0} (old new : Back D) (log : BackLog) → LogSame old.log log → IsAsBefore (record old { log = log }) new → IsAsBefore old new
+before_room old new log room h = record { log = h.log ∙ room.same; held = h.held; stuck = h.stuck; mode = h.mode; before = h.before; durable = h.durable }
+
+pub room_only : {D : Type 0} (old : Back D) (log : BackLog) → LogSame old.log log → IsAsBefore old (record old { log = log })
+room_only old log room = record { log = room.same; held = refl; stuck = refl; mode = refl; before = refl; durable = refl }
+
+-- Nothing was done of it.
+pub unentered : {D : Type 0} (old new : Back D) (e : Entry) (before after : List Entry) (sent_before sent : List Notice) → IsAsBefore old new → after ≡ before ++ e ∷ [] → sent ≡ sent_before
+    → LosesEntry old new before after sent_before sent
+unentered old new e before after sent_before sent h took same = record { entry = e; took = took; told = same; log = inl h.log; entered = inl h }
 
 -- The notice of it is lost.
 pub loses : {D : Type 0} (old new : Back D) (e : Entry) (before after : List Entry) (sent_before sent : List Notice) → Enters old new e → after ≡ before ++ e ∷ [] → sent ≡ sent_before
     → LosesEntry old new before after sent_before sent
 loses old new e before after sent_before sent enters took same =
-    record { entry = e; took = took; told = same; log = logged_or_not (fit_of old e) (backed old.log) (backed new.log) e enters.log }
+    record { entry = e; took = took; told = same; log = logged_or_not (fit_of old e) (backed old.log) (backed new.log) e enters.log; entered = inr enters }
 
 module _ {D : Type 0} (moment_of : D → ℕ) (left_since : D → ℕ → List ℕ → Type 0) (told : D → Option (List ℕ)) (image : D → List ℕ → Type 0) (faults_of : D → ℕ) where
   pub few_of : (old : Back D) → may_take old ≡ true → old.unflushed < most_unflushed
@@ -57,12 +72,12 @@ module _ {D : Type 0} (moment_of : D → ℕ) (left_since : D → ℕ → List �
       not_true old.stuck (and_both (not old.stuck) (not (is_wanted old.mode)) (and_both (not old.stuck && not (is_wanted old.mode)) (nat_lt old.unflushed most_unflushed) may).0).0
 
   pub own_mounted : (start : List (List Op)) (opening : ℕ) (old : Back D) (log : BackLog) (e : Entry) → LogSame old.log log → fit_of old e ≡ fit.Own
-      → IsBack moment_of left_since told image faults_of start opening true old → IsMounted moment_of left_since told image faults_of start opening true (record old { log = log })
+      → IsBackAs moment_of left_since told image faults_of start opening true old → IsMounted moment_of left_since told image faults_of start opening true (record old { log = log })
   own_mounted start opening old log e same is b =
       mounted_of moment_of left_since told image faults_of start opening true (record old { log = log }) (back_room moment_of left_since told image faults_of start opening old log same b) (own_of old e is).mounted
 
   pub own_can : (start : List (List Op)) (opening : ℕ) (old : Back D) (log : BackLog) (e : Entry) → LogSame old.log log → LogRoom log → may_take old ≡ true → fit_of old e ≡ fit.Own
-      → IsBack moment_of left_since told image faults_of start opening true old → CanTake moment_of left_since told image faults_of (record old { log = log }) e.number e.body
+      → IsBackAs moment_of left_since told image faults_of start opening true old → CanTake moment_of left_since told image faults_of (record old { log = log }) e.number e.body
   own_can start opening old log e same room may is b =
       let f = own_of old e is in
       record {
@@ -86,15 +101,18 @@ module _ {D : Type 0} (moment_of : D → ℕ) (left_since : D → ℕ → List �
             ∙ ap (λ (x : Fit). logged_as x (backed old.log) e) (sym is);
         stuck = t.stuck ∙ free_of old may ∙ ap is_unfit (sym is);
         held = t.holds ∙ ap (λ (x : Fit). old.held.items ++ held_as x old e) (sym is);
+        mode = t.mode ∙ ap (λ (x : Fit). mode_after x old.mode e.body) (sym is);
+        before = t.before ∙ ap (λ (x : Fit). before_after x old.before e.body) (sym is);
+        durable = t.durable;
       }
 
   pub down_unmounted : (start : List (List Op)) (opening : ℕ) (old : Back D) (log : BackLog) (e : Entry) → LogSame old.log log → fit_of old e ≡ fit.Down
-      → IsBack moment_of left_since told image faults_of start opening true old → IsUnmounted moment_of left_since told image faults_of start opening (record old { log = log })
+      → IsBackAs moment_of left_since told image faults_of start opening true old → IsUnmounted moment_of left_since told image faults_of start opening (record old { log = log })
   down_unmounted start opening old log e same is b =
       unmounted_of moment_of left_since told image faults_of start opening true (record old { log = log }) (back_room moment_of left_since told image faults_of start opening old log same b) (down_of old e is).unmounted
 
   pub down_can : (start : List (List Op)) (opening : ℕ) (old : Back D) (log : BackLog) (e : Entry) → LogSame old.log log → LogRoom log → may_take old ≡ true → fit_of old e ≡ fit.Down
-      → IsBack moment_of left_since told image faults_of start opening true old → CanTakeDown moment_of left_since told image faults_of (record old { log = log }) e.number e.body
+      → IsBackAs moment_of left_since told image faults_of start opening true old → CanTakeDown moment_of left_since told image faults_of (record old { log = log }) e.number e.body
   down_can start opening old log e same room may is b =
       let f = down_of old e is in
       let wanted = not_true (is_wanted old.mode) (and_both (not old.stuck) (not (is_wanted old.mode)) (and_both (not old.stuck && not (is_wanted old.mode)) (nat_lt old.unflushed most_unflushed) may).0).1 in
@@ -111,6 +129,9 @@ module _ {D : Type 0} (moment_of : D → ℕ) (left_since : D → ℕ → List �
             ∙ ap (λ (x : Fit). logged_as x (backed old.log) e) (sym is);
         stuck = t.stuck ∙ free_of old may ∙ ap is_unfit (sym is);
         held = t.holds ∙ ap (λ (x : Fit). old.held.items ++ held_as x old e) (sym is);
+        mode = t.mode ∙ ap (λ (x : Fit). mode_after x old.mode e.body) (sym is);
+        before = t.before ∙ ap (λ (x : Fit). before_after x old.before e.body) (sym is);
+        durable = t.durable;
       }
 
   pub late_enters : (old new : Back D) (log : BackLog) (e : Entry) → LogSame old.log log → may_take old ≡ true → fit_of old e ≡ fit.Late
@@ -121,10 +142,13 @@ module _ {D : Type 0} (moment_of : D → ℕ) (left_since : D → ℕ → List �
     held = t.holds
         ∙ ap (λ (x : Backed). old.held.items ++ late_by (slice_get x.stops (length x.stops - 1)) old.settled e.incarnation e.body) same.same
         ∙ ap (λ (x : Fit). old.held.items ++ held_as x old e) (sym is);
+    mode = ap (λ (b : Back D). b.mode) t.same ∙ ap (λ (x : Fit). mode_after x old.mode e.body) (sym is);
+    before = ap (λ (b : Back D). b.before) t.same ∙ ap (λ (x : Fit). before_after x old.before e.body) (sym is);
+    durable = ap (λ (b : Back D). b.durable) t.same;
   }
 
   pub late_back : (start : List (List Op)) (opening : ℕ) (old new : Back D) (log : BackLog) (e : Entry) → LogSame old.log log → fit_of old e ≡ fit.Late → TakesLate (record old { log = log }) new e
-      → IsBack moment_of left_since told image faults_of start opening true old → IsBack moment_of left_since told image faults_of start opening true new
+      → IsBackAs moment_of left_since told image faults_of start opening true old → IsBackAs moment_of left_since told image faults_of start opening true new
   late_back start opening old new log e same is t b =
       let f = late_of old e is in
       back_late moment_of left_since told image faults_of start opening true (record old { log = log }) new e

@@ -1,17 +1,19 @@
 -- What each entry does to a back that serves, in one step.
-use Rattle.std.proofs.Common.{◌≡◌, ◌∙◌, ap, sym, refl, subst, inl, inr, ℕ, ◌+◌, ◌-◌, List, [], ◌∷◌, ◌++◌, Option, Some, None, length, append-nil}
+use Rattle.std.proofs.Common.{◌≡◌, ◌∙◌, ap, sym, refl, subst, inl, inr, ℕ, ◌+◌, ◌-◌, List, [], ◌∷◌, ◌++◌, Option, Some, None, length, append-nil, Global}
+use Rattle.std.specs.declared.collections.VecDeque.{VecDeque}
 use Rattle.std.specs.Prelude.{Result, Ok, Err, OnErr, true, false, not, is_some}
 use Rattle.storage_map.specs.Contents.{Contents, apply}
 use Rattle.storage_map.specs.Limits.{Object}
 use Rattle.storage_map.specs.declared.op.Op.{Op}
 use Rattle.timeline.specs.Logs.{backed}
 use Rattle.timeline.specs.Passed.{is_mend}
+use Rattle.timeline.specs.declared.back_log.BackLog.{BackLog}
 use Rattle.timeline.specs.Told.{said_by, batches_of}
 use Rattle.timeline.specs.declared.entry.Body.{Body}
 use Rattle.timeline.specs.declared.entry.Body.TheVariants as body
 use Rattle.timeline.specs.declared.entry.Entry.{Entry}
 use Rattle.timeline.specs.declared.message.Message.{Message}
-use Rattle.output_gate.specs.Entering.{TakesOwn, FailsOwn, TakesDown, FailsDown, held_by}
+use Rattle.output_gate.specs.Entering.{TakesOwn, FailsOwn, TakesDown, FailsDown, held_by, before_by, asked}
 use Rattle.output_gate.specs.Storing.{Stages}
 use Rattle.output_gate.specs.declared.back.Ending.{Ending}
 use Rattle.output_gate.specs.declared.back.Mode.{Mode}
@@ -26,13 +28,25 @@ use Rattle.output_gate.specs.Fits.{is_halt, comes_behind, last_of}
 use Rattle.output_gate.specs.Held.{passed_by, is_held_halt, halts_well}
 use Rattle.output_gate.proofs.Helds.{true_false}
 use Rattle.output_gate.specs.Passing.{IsSilent}
-use Rattle.output_gate.specs.Serving.{IsMounted, IsUnmounted, IsAtEnd}
+use Rattle.output_gate.specs.Serving.{IsMounted, IsUnmounted, IsAtEnd, IsAsBefore}
 use Rattle.output_gate.specs.Taking.{LogTook}
 use Rattle.output_gate.specs.declared.back.Back.{Back}
 use Rattle.output_gate.specs.declared.held.Held.{Held}
 use Rattle.output_gate.specs.declared.held.HeldBody.{HeldBody}
 use Rattle.output_gate.specs.declared.held.HeldBody.TheVariants as held_body
 use Rattle.output_gate.proofs.Takings.{HoldsMore, mounted_silent, mounted_message, mounted_bind, mounted_batch, mounted_same, kept_fails, same_log}
+
+-- all that changed are the store, the cache and the room of the lists
+pub as_before : {D : Type 0} (old new : Back D) (store : Store D) (cache : Contents) (held : VecDeque Held Global) (log : BackLog)
+    → new ≡ record old { store = store; cache = cache; held = held; log = log } → backed log ≡ backed old.log → held.items ≡ old.held.items → IsAsBefore old new
+as_before old new store cache held log is logs items = record {
+  log = ap (λ (b : Back _). backed b.log) is ∙ logs;
+  held = ap (λ (b : Back _). b.held.items) is ∙ items;
+  stuck = ap (λ (b : Back _). b.stuck) is;
+  mode = ap (λ (b : Back _). b.mode) is;
+  before = ap (λ (b : Back _). b.before) is;
+  durable = ap (λ (b : Back _). b.durable) is;
+}
 
 -- a fact, where an error is
 pub on_err : {X E : Type 0} (r : Result X E) (P : Type 0) → P → OnErr r P
@@ -42,13 +56,13 @@ on_err (Err e) P fact = fact
 module _ {D : Type 0} (moment_of : D → ℕ) (left_since : D → ℕ → List ℕ → Type 0) (told : D → Option (List ℕ)) (image : D → List ℕ → Type 0) (faults_of : D → ℕ) where
   pub failed_hold : (old new : Back D) → new.held.items ≡ old.held.items → new ≡ record old { held = new.held } → FailsOwn moment_of left_since told image faults_of old new
   failed_hold old new items same = record {
-    log = ap (λ (b : Back D). backed b.log) same;
+    same = as_before old new old.store old.cache new.held old.log same refl items;
     back = λ start opening m. kept_fails moment_of left_since told image faults_of start opening true old new old.cache new.held old.log same (same_log moment_of left_since told image faults_of start opening true old.log) items m;
   }
 
   pub failed_same : (old : Back D) → FailsOwn moment_of left_since told image faults_of old old
   failed_same old = record {
-    log = refl;
+    same = as_before old old old.store old.cache old.held old.log refl refl refl;
     back = λ start opening m. kept_fails moment_of left_since told image faults_of start opening true old old old.cache old.held old.log refl (same_log moment_of left_since told image faults_of start opening true old.log) refl m;
   }
 
@@ -73,8 +87,8 @@ module _ {D : Type 0} (moment_of : D → ℕ) (left_since : D → ℕ → List �
   pub took_silent : (old mid new : Back D) (number : ℕ) (b : Body) (h : HeldBody) → comes_behind (last_of old.log.taken.items) (entry_of old number b) ≡ true
       → is_mend b ≡ false → IsSilent b → batches_of (said_by b) ≡ [] → ((n s : ℕ) → passed_by h n s ≡ []) → (is_held_halt h ≡ true → halts_well h ≡ true) → is_held_halt h ≡ is_halt b
       → mid.held.items ≡ old.held.items ++ held_now old h ∷ [] → mid ≡ record old { held = mid.held } → LogTook mid.log new.log (entry_of mid number b) → new ≡ record mid { log = new.log }
-      → held_now old h ∷ [] ≡ held_by old.before old.number number b → TakesOwn moment_of left_since told image faults_of old new number b
-  took_silent old mid new number b h comes other silent nothing says well halts items first log then so =
+      → held_now old h ∷ [] ≡ held_by old.before old.number number b → old.before ≡ before_by b old.before → TakesOwn moment_of left_since told image faults_of old new number b
+  took_silent old mid new number b h comes other silent nothing says well halts items first log then so even =
       let took = log_behind old mid new number b first log in
       let same = same_behind old mid new first then in
       let held : new.held.items ≡ old.held.items ++ held_now old h ∷ [] = ap (λ (x : Back D). x.held.items) then ∙ items in
@@ -82,6 +96,9 @@ module _ {D : Type 0} (moment_of : D → ℕ) (left_since : D → ℕ → List �
         log = took.taken;
         stuck = ap (λ (x : Back D). x.stuck) same;
         holds = held ∙ ap (λ more. old.held.items ++ more) so;
+        mode = ap (λ (x : Back D). x.mode) same;
+        before = ap (λ (x : Back D). x.before) same ∙ even;
+        durable = ap (λ (x : Back D). x.durable) same;
         back = λ start opening m. subst (IsMounted moment_of left_since told image faults_of start opening true) (sym same)
             (mounted_silent moment_of left_since told image faults_of start opening true old new.log new.held (entry_of old number b) m took refl comes other silent nothing
             (HoldsMore.one_more (held_now old h) held (sym (says old.before old.number)) (λ yes. (refl, well yes)) halts));
@@ -99,6 +116,9 @@ module _ {D : Type 0} (moment_of : D → ℕ) (left_since : D → ℕ → List �
         log = took.taken;
         stuck = ap (λ (x : Back D). x.stuck) same;
         holds = held;
+        mode = ap (λ (x : Back D). x.mode) same;
+        before = ap (λ (x : Back D). x.before) same;
+        durable = ap (λ (x : Back D). x.durable) same;
         back = λ start opening m. subst (IsMounted moment_of left_since told image faults_of start opening true) (sym same)
             (mounted_message moment_of left_since told image faults_of start opening true old new.log new.held (entry_of old number (body.Message sent)) sent m took refl comes refl
             (HoldsMore.one_more (held_now old (held_body.Message sent)) held refl (λ yes. absurd (true_false (sym yes))) refl));
@@ -107,11 +127,14 @@ module _ {D : Type 0} (moment_of : D → ℕ) (left_since : D → ℕ → List �
   -- nothing more is held
   pub took_only : (old new : Back D) (number : ℕ) (b : Body) → comes_behind (last_of old.log.taken.items) (entry_of old number b) ≡ true
       → is_mend b ≡ false → IsSilent b → batches_of (said_by b) ≡ [] → is_halt b ≡ false → LogTook old.log new.log (entry_of old number b) → new ≡ record old { log = new.log }
-      → [] ≡ held_by old.before old.number number b → TakesOwn moment_of left_since told image faults_of old new number b
-  took_only old new number b comes other silent nothing halts took same so = record {
+      → [] ≡ held_by old.before old.number number b → old.before ≡ before_by b old.before → TakesOwn moment_of left_since told image faults_of old new number b
+  took_only old new number b comes other silent nothing halts took same so even = record {
     log = took.taken;
     stuck = ap (λ (x : Back D). x.stuck) same;
     holds = ap (λ (x : Back D). x.held.items) same ∙ sym (append-nil old.held.items) ∙ ap (λ more. old.held.items ++ more) so;
+    mode = ap (λ (x : Back D). x.mode) same;
+    before = ap (λ (x : Back D). x.before) same ∙ even;
+    durable = ap (λ (x : Back D). x.durable) same;
     back = λ start opening m. subst (IsMounted moment_of left_since told image faults_of start opening true) (sym same)
         (mounted_silent moment_of left_since told image faults_of start opening true old new.log old.held (entry_of old number b) m took refl comes other silent nothing
         (HoldsMore.nothing_more refl refl halts));
@@ -128,6 +151,9 @@ module _ {D : Type 0} (moment_of : D → ℕ) (left_since : D → ℕ → List �
     log = took.taken;
     stuck = ap (λ (x : Back D). x.stuck) same;
     holds = ap (λ (x : Back D). x.held.items) same ∙ sym (append-nil old.held.items);
+    mode = ap (λ (x : Back D). x.mode) same;
+    before = ap (λ (x : Back D). x.before) same;
+    durable = ap (λ (x : Back D). x.durable) same;
     back = λ start opening m. subst (IsMounted moment_of left_since told image faults_of start opening true) (ap (λ o. record old { identity = Some o; log = new.log }) (sym equal) ∙ sym same)
         (mounted_bind moment_of left_since told image faults_of start opening true old new.log number object m took (is_nobody old.identity known) comes);
   }
@@ -139,7 +165,7 @@ module _ {D : Type 0} (moment_of : D → ℕ) (left_since : D → ℕ → List �
 
   pub failed_cache : (old : Back D) (cache : Contents) → FailsOwn moment_of left_since told image faults_of old (record old { cache = cache })
   failed_cache old cache = record {
-    log = refl;
+    same = as_before old (record old { cache = cache }) old.store cache old.held old.log refl refl refl;
     back = λ start opening m. kept_fails moment_of left_since told image faults_of start opening true old (record old { cache = cache }) cache old.held old.log refl
         (same_log moment_of left_since told image faults_of start opening true old.log) refl m;
   }
@@ -148,7 +174,7 @@ module _ {D : Type 0} (moment_of : D → ℕ) (left_since : D → ℕ → List �
       → ((journal : Journal D) → old.store ≡ store.Journal journal → Stages told image journal new.store object ops (Err e))
       → new ≡ record old { cache = cache; store = new.store } → FailsOwn moment_of left_since told image faults_of old new
   failed_stage old new cache object ops e stages same = record {
-    log = ap (λ (b : Back D). backed b.log) same;
+    same = as_before old new new.store cache old.held old.log same refl refl;
     back = λ start opening m.
         let st = stages m.journal m.safe.store in
         subst (IsMounted moment_of left_since told image faults_of start opening false)
@@ -175,6 +201,9 @@ module _ {D : Type 0} (moment_of : D → ℕ) (left_since : D → ℕ → List �
         log = took.taken;
         stuck = ap (λ (x : Back D). x.stuck) same;
         holds = ap (λ (x : Back D). x.held.items) same ∙ sym (append-nil old.held.items);
+        mode = ap (λ (x : Back D). x.mode) same;
+        before = ap (λ (x : Back D). x.before + 1) same;
+        durable = ap (λ (x : Back D). x.durable) same;
         back = λ start opening m.
             let st = stages m.journal m.safe.store in
             subst (IsMounted moment_of left_since told image faults_of start opening true)
@@ -186,7 +215,7 @@ module _ {D : Type 0} (moment_of : D → ℕ) (left_since : D → ℕ → List �
   -- of an incarnation that isn't mounted
   pub failed_down : (old new : Back D) → new.held.items ≡ old.held.items → new ≡ record old { held = new.held } → FailsDown moment_of left_since told image faults_of old new
   failed_down old new items same = record {
-    log = ap (λ (b : Back D). backed b.log) same;
+    same = as_before old new old.store old.cache new.held old.log same refl items;
     back = λ start opening u. subst (IsUnmounted moment_of left_since told image faults_of start opening) (sym same) (unmounted_held moment_of left_since told image faults_of start opening old new.held u items);
   }
 
@@ -218,6 +247,9 @@ module _ {D : Type 0} (moment_of : D → ℕ) (left_since : D → ℕ → List �
         log = took.taken;
         stuck = ap (λ (x : Back D). x.stuck) same;
         holds = ap (λ (x : Back D). x.held.items) same ∙ sym (append-nil old.held.items);
+        mode = ap (λ (x : Back D). x.mode) same ∙ sym (ap asked down);
+        before = ap (λ (x : Back D). x.before) same;
+        durable = ap (λ (x : Back D). x.durable) same;
         back = λ start opening u. subst (IsUnmounted moment_of left_since told image faults_of start opening)
             (ap (λ (e : Ending). record old { mode = Wanted e; log = new.log }) (same_ending u.ending ending old.mode u.safe.mode down) ∙ sym same)
             (unmounted_mend moment_of left_since told image faults_of start opening old new.log (entry_of old number body.Mend) u took refl refl);
@@ -235,6 +267,9 @@ module _ {D : Type 0} (moment_of : D → ℕ) (left_since : D → ℕ → List �
         log = took.taken;
         stuck = ap (λ (x : Back D). x.stuck) same;
         holds = held;
+        mode = ap (λ (x : Back D). x.mode) same;
+        before = ap (λ (x : Back D). x.before) same;
+        durable = ap (λ (x : Back D). x.durable) same;
         back = λ start opening u. subst (IsUnmounted moment_of left_since told image faults_of start opening) (sym same)
             (unmounted_message moment_of left_since told image faults_of start opening old new.log new.held (entry_of old number (body.Message sent)) sent u took refl refl
             (down ∙ ap Down (sym (same_ending u.ending ending old.mode u.safe.mode down))) held);

@@ -9,7 +9,7 @@ use Rattle.timeline.specs.declared.entry.Body.{Body}
 use Rattle.timeline.specs.declared.entry.Body.TheVariants as body
 use Rattle.timeline.specs.declared.entry.Entry.{Entry}
 use Rattle.output_gate.specs.Fits.{comes_behind, fits_mounted, fits_down, last_of}
-use Rattle.output_gate.specs.Serving.{IsMounted, IsUnmounted, IsBack, IsAtEnd}
+use Rattle.output_gate.specs.Serving.{IsMounted, IsUnmounted, IsBackAs, IsAtEnd}
 use Rattle.output_gate.specs.Taking.{is_wanted, is_mounted_mode, fit_as, fits_so, fit_of}
 use Rattle.output_gate.specs.declared.back.Back.{Back}
 use Rattle.output_gate.specs.declared.back.Ending.{Ending}
@@ -99,16 +99,16 @@ down_mode Mounted is wanted = absurd (true_false is)
 down_mode (Wanted ending) is wanted = absurd (true_false wanted)
 down_mode (Down ending) is wanted = (ending, refl)
 
-never_mounted : (ending : Ending) (mode : Mode) → IsAtEnd ending mode → is_mounted_mode mode ≡ true → ⊥
+pub never_mounted : (ending : Ending) (mode : Mode) → IsAtEnd ending mode → is_mounted_mode mode ≡ true → ⊥
 never_mounted ending mode (inl wanted) is = true_false (sym is ∙ ap is_mounted_mode wanted)
 never_mounted ending mode (inr down) is = true_false (sym is ∙ ap is_mounted_mode down)
 
 module _ {D : Type 0} (moment_of : D → ℕ) (left_since : D → ℕ → List ℕ → Type 0) (told : D → Option (List ℕ)) (image : D → List ℕ → Type 0) (faults_of : D → ℕ) (start : List (List Op)) (opening : ℕ) (sound : Bool) where
-  pub mounted_of : (back : Back D) → IsBack moment_of left_since told image faults_of start opening sound back → is_mounted_mode back.mode ≡ true → IsMounted moment_of left_since told image faults_of start opening sound back
+  pub mounted_of : (back : Back D) → IsBackAs moment_of left_since told image faults_of start opening sound back → is_mounted_mode back.mode ≡ true → IsMounted moment_of left_since told image faults_of start opening sound back
   mounted_of back (inl m) is = m
   mounted_of back (inr u) is = absurd (never_mounted u.ending back.mode u.safe.mode is)
 
-  pub unmounted_of : (back : Back D) → IsBack moment_of left_since told image faults_of start opening sound back → is_mounted_mode back.mode ≡ false → IsUnmounted moment_of left_since told image faults_of start opening back
+  pub unmounted_of : (back : Back D) → IsBackAs moment_of left_since told image faults_of start opening sound back → is_mounted_mode back.mode ≡ false → IsUnmounted moment_of left_since told image faults_of start opening back
   unmounted_of back (inl m) is = absurd (true_false (sym (ap is_mounted_mode m.safe.mode) ∙ is))
   unmounted_of back (inr u) is = u
 

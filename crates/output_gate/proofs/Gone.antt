@@ -12,7 +12,7 @@ use Rattle.timeline.specs.declared.message.Message.{Message as Sent}
 use Rattle.timeline.specs.declared.notice.Notice.{Notice}
 use Rattle.output_gate.specs.Held.{passed_by, passed_of, is_held_halt, has_halt}
 use Rattle.output_gate.specs.Releasing.{release_at, released_log, released_notices, released_messages, Releases, StaysPut, Goes, LogReleases, LogHalts}
-use Rattle.output_gate.specs.Serving.{IsMounted, IsUnmounted, IsBack}
+use Rattle.output_gate.specs.Serving.{IsMounted, IsUnmounted, IsBackAs}
 use Rattle.output_gate.specs.Storing.{IsDiskOf}
 use Rattle.output_gate.specs.Taking.{LogSame}
 use Rattle.output_gate.specs.declared.back.Back.{Back}
@@ -29,28 +29,28 @@ use Rattle.output_gate.proofs.Unmounting.{unmounted_same, unmounted_release}
 module _ {D : Type 0} (moment_of : D → ℕ) (left_since : D → ℕ → List ℕ → Type 0) (told : D → Option (List ℕ)) (image : D → List ℕ → Type 0) (faults_of : D → ℕ)
     (start : List (List Op)) (opening : ℕ) where
   -- the log got room
-  pub back_room : (old : Back D) (log : BackLog) → LogSame old.log log → IsBack moment_of left_since told image faults_of start opening true old
-      → IsBack moment_of left_since told image faults_of start opening true (record old { log = log })
+  pub back_room : (old : Back D) (log : BackLog) → LogSame old.log log → IsBackAs moment_of left_since told image faults_of start opening true old
+      → IsBackAs moment_of left_since told image faults_of start opening true (record old { log = log })
   back_room old log same (inl m) =
       inl (subst (λ (s : Store D). IsMounted moment_of left_since told image faults_of start opening true (record old { store = s; log = log })) (sym m.safe.store)
       (mounted_same moment_of left_since told image faults_of start opening true true old log old.held m.journal old.cache old.stuck m same refl (λ object batches staged. staged) (λ frames rest. rest) refl (λ yes. (refl, refl))))
   back_room old log same (inr u) = inr (unmounted_same moment_of left_since told image faults_of start opening old log old.held old.stuck u same.same refl)
 
   -- something was taken that no front sends
-  pub back_stuck : (old : Back D) → IsBack moment_of left_since told image faults_of start opening true old → IsBack moment_of left_since told image faults_of start opening true (record old { stuck = true })
+  pub back_stuck : (old : Back D) → IsBackAs moment_of left_since told image faults_of start opening true old → IsBackAs moment_of left_since told image faults_of start opening true (record old { stuck = true })
   back_stuck old (inl m) =
       inl (subst (λ (s : Store D). IsMounted moment_of left_since told image faults_of start opening true (record old { store = s; stuck = true })) (sym m.safe.store)
       (mounted_same moment_of left_since told image faults_of start opening true true old old.log old.held m.journal old.cache true m (same_log moment_of left_since told image faults_of start opening true old.log) refl
       (λ object batches staged. staged) (λ frames rest. rest) refl (λ yes. (refl, refl))))
   back_stuck old (inr u) = inr (unmounted_same moment_of left_since told image faults_of start opening old old.log old.held true u refl refl)
 
-  pub back_stopped : (old : Back D) → IsBack moment_of left_since told image faults_of start opening true old → IsBack moment_of left_since told image faults_of start opening false old
+  pub back_stopped : (old : Back D) → IsBackAs moment_of left_since told image faults_of start opening true old → IsBackAs moment_of left_since told image faults_of start opening false old
   back_stopped old (inl m) =
       inl (kept_fails moment_of left_since told image faults_of start opening true old old old.cache old.held old.log refl (same_log moment_of left_since told image faults_of start opening true old.log) refl m)
   back_stopped old (inr u) = inr u
 
-  pub back_held : (old new : Back D) → new.held.items ≡ old.held.items → new ≡ record old { held = new.held } → IsBack moment_of left_since told image faults_of start opening true old
-      → IsBack moment_of left_since told image faults_of start opening false new
+  pub back_held : (old new : Back D) → new.held.items ≡ old.held.items → new ≡ record old { held = new.held } → IsBackAs moment_of left_since told image faults_of start opening true old
+      → IsBackAs moment_of left_since told image faults_of start opening false new
   back_held old new items same (inl m) =
       inl (kept_fails moment_of left_since told image faults_of start opening true old new old.cache new.held old.log same (same_log moment_of left_since told image faults_of start opening true old.log) items m)
   back_held old new items same (inr u) =
@@ -62,14 +62,15 @@ module _ {D : Type 0} (moment_of : D → ℕ) (left_since : D → ℕ → List �
   pub stays_put : (old : Back D) (log : BackLog) (s0 s : List Notice) (o0 o : List Sent) → LogSame old.log log → s ≡ s0 → o ≡ o0
       → StaysPut moment_of left_since told image faults_of old (record old { log = log }) s0 s o0 o
   stays_put old log s0 s o0 o same told_so left_so = record {
-    stays = record { told = told_so; left = left_so; log = same.same; held = refl };
+    stays = record { told = told_so; left = left_so; log = same.same; held = refl; mode = refl; before = refl; durable = refl };
     back = λ start opening b. back_stopped moment_of left_since told image faults_of start opening (record old { log = log }) (back_room moment_of left_since told image faults_of start opening old log same b);
   }
 
   releases_as : (old new : Back D) (first : Held) (rest : List Held) (b : HeldBody) → old.held.items ≡ first ∷ rest → new.held.items ≡ rest → first.body ≡ b
       → (s0 s : List Notice) (o0 o : List Sent) → s ≡ s0 ++ released_notices old b → o ≡ o0 ++ released_messages b
-      → ((disk : D) → IsDiskOf old.store disk → backed new.log ≡ released_log old (moment_of disk) first b) → Releases moment_of old new s0 s o0 o
-  releases_as old new first rest b held others body s0 s o0 o told_so left_so log = record {
+      → ((disk : D) → IsDiskOf old.store disk → backed new.log ≡ released_log old (moment_of disk) first b)
+      → new.mode ≡ old.mode → new.before ≡ old.before → new.durable ≡ old.durable → Releases moment_of old new s0 s o0 o
+  releases_as old new first rest b held others body s0 s o0 o told_so left_so log mode before durable = record {
     first = first;
     rest = rest;
     held = held;
@@ -77,6 +78,9 @@ module _ {D : Type 0} (moment_of : D → ℕ) (left_since : D → ℕ → List �
     told = told_so ∙ ap (λ x. s0 ++ released_notices old x) (sym body);
     left = left_so ∙ ap (λ x. o0 ++ released_messages x) (sym body);
     log = λ disk at. log disk at ∙ ap (released_log old (moment_of disk) first) (sym body);
+    mode = mode;
+    before = before;
+    durable = durable;
   }
 
   disk_at : (start : List (List Op)) (opening : ℕ) (old : Back D) (m : IsMounted moment_of left_since told image faults_of start opening true old) → IsDiskOf old.store (disk_in m.journal)
@@ -85,7 +89,7 @@ module _ {D : Type 0} (moment_of : D → ℕ) (left_since : D → ℕ → List �
   back_release : (start : List (List Op)) (opening : ℕ) (old : Back D) (log : BackLog) (held : VecDeque Held Global) (h : Held) → old.held.items ≡ h ∷ held.items → h.needs ≤ old.durable
       → ((disk : D) → IsDiskOf old.store disk → LogReleased old.log log (old.log.released.items ++ map (release_at (moment_of disk)) (passed_of h)))
       → log.flights ≡ old.log.flights → log.stops ≡ old.log.stops
-      → IsBack moment_of left_since told image faults_of start opening true old → IsBack moment_of left_since told image faults_of start opening true (record old { held = held; log = log })
+      → IsBackAs moment_of left_since told image faults_of start opening true old → IsBackAs moment_of left_since told image faults_of start opening true (record old { held = held; log = log })
   back_release start opening old log held h first ready is flights stops (inl m) =
       inl (mounted_release moment_of left_since told image faults_of only_now start opening true old log held h m first ready (is (disk_in m.journal) (disk_at start opening old m)) flights stops)
   back_release start opening old log held h first ready is flights stops (inr u) =
@@ -104,7 +108,7 @@ module _ {D : Type 0} (moment_of : D → ℕ) (left_since : D → ℕ → List �
       record {
         releases = releases_as old (record old { held = held; log = log }) first held.items (Message sent) items refl body s s o0 o (sym (append-nil s)) left_so
             (λ disk where_is. done.log ∙ ap (λ (x : Backed). record x { released = x.released ++ one moment ∷ [] }) same.same
-            ∙ ap (λ (t : ℕ). record (backed old.log) { released = old.log.released.items ++ one t ∷ [] }) (at disk where_is));
+            ∙ ap (λ (t : ℕ). record (backed old.log) { released = old.log.released.items ++ one t ∷ [] }) (at disk where_is)) refl refl refl;
         back = λ start opening b. back_release start opening (record old { log = mid }) log held first items ready
             (λ disk where_is. done.log ∙ ap (λ (t : ℕ). record (backed mid) { released = mid.released.items ++ one t ∷ [] }) (at disk where_is)
             ∙ ap (λ ps. record (backed mid) { released = mid.released.items ++ map (release_at (moment_of disk)) ps }) (sym passes))
@@ -118,7 +122,7 @@ module _ {D : Type 0} (moment_of : D → ℕ) (left_since : D → ℕ → List �
   sync_goes old held first number items body ready s0 s o told_so =
       let none : passed_of first ≡ [] = ap (λ (b : HeldBody). passed_by b first.needs first.since) body in
       record {
-        releases = releases_as old (record old { held = held }) first held.items (Sync number) items refl body s0 s o o told_so (sym (append-nil o)) (λ disk where_is. refl);
+        releases = releases_as old (record old { held = held }) first held.items (Sync number) items refl body s0 s o o told_so (sym (append-nil o)) (λ disk where_is. refl) refl refl refl;
         back = λ start opening b. back_release start opening old old.log held first items ready
             (λ disk where_is. ap (λ rs. record (backed old.log) { released = rs }) (sym (append-nil old.log.released.items))
             ∙ ap (λ ps. record (backed old.log) { released = old.log.released.items ++ map (release_at (moment_of disk)) ps }) (sym none)) refl refl b;
@@ -126,7 +130,7 @@ module _ {D : Type 0} (moment_of : D → ℕ) (left_since : D → ℕ → List �
 
   -- a halt
   halts_back : (start : List (List Op)) (opening : ℕ) (old : Back D) (log : BackLog) (held : VecDeque Held Global) (first : Held) (c : Cause) → old.held.items ≡ first ∷ held.items → first.body ≡ Halt c → first.needs ≤ old.durable
-      → LogRestarts old log c → IsBack moment_of left_since told image faults_of start opening true old → IsBack moment_of left_since told image faults_of start opening true (restarted old log held)
+      → LogRestarts old log c → IsBackAs moment_of left_since told image faults_of start opening true old → IsBackAs moment_of left_since told image faults_of start opening true (restarted old log held)
   halts_back start opening old log held first c items body ready is (inl m) =
       inl (mounted_restart moment_of left_since told image faults_of start opening true old log held first c m (record { first = items; body = body; ready = ready }) is)
   halts_back start opening old log held first c items body ready is (inr u) =
@@ -141,6 +145,6 @@ module _ {D : Type 0} (moment_of : D → ℕ) (left_since : D → ℕ → List �
         (λ disk where_is. done ∙ ap (λ (x : Backed). record x {
           stops = x.stops ++ record { cause = c; flights = length x.flights; batches = old.own; read = false } ∷ [];
           ends = x.ends ++ record { kept = old.own; cause = c } ∷ [];
-        }) same.same);
+        }) same.same) refl refl refl;
     back = λ start opening b. halts_back start opening (record old { log = mid }) log held first c items body ready done (back_room moment_of left_since told image faults_of start opening old mid same b);
   }

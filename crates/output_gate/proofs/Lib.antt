@@ -25,9 +25,11 @@ pub mod Unmounting
 pub mod Restarts
 pub mod Entered
 pub mod Gone
+pub mod Noted
 pub mod Falls
 pub mod Fitting
 pub mod Afterwards
 pub mod Enter
 pub mod Remounts
 pub mod Telling
+pub mod Orderly

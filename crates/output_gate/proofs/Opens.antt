@@ -81,6 +81,7 @@ fresh mounted limit cache held log = record {
   held = held;
   mode = IsMountedMode;
   stuck = false;
+  stopped = false;
   before = 0;
   durable = 0;
   own = 0;

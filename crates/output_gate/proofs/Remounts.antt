@@ -18,7 +18,7 @@ use Rattle.output_gate.specs.Mending.{Begins, Misses, IsFound, is_own_object, Re
 use Rattle.batch_journal.specs.Rest.{disk_in, end_of}
 use Rattle.output_gate.proofs.Fitting.{unmounted_of}
 use Rattle.output_gate.proofs.Gone.{back_room}
-use Rattle.output_gate.specs.Serving.{IsMounted, IsSafeEnded, IsEnded, IsUnmounted, IsAtEnd, IsBack, CanServe}
+use Rattle.output_gate.specs.Serving.{IsMounted, IsSafeEnded, IsEnded, IsUnmounted, IsAtEnd, IsBackAs, CanServeAs}
 use Rattle.output_gate.specs.Storing.{IsDiskOf}
 use Rattle.output_gate.specs.declared.back.Back.{Back}
 use Rattle.output_gate.specs.declared.back.Ending.{Ending}
@@ -160,11 +160,11 @@ remounts_from faults_of old new log ending notice same (inr m) = inr (record {
 
 module _ {D : Type 0} (moment_of : D → ℕ) (left_since : D → ℕ → List ℕ → Type 0) (told : D → Option (List ℕ)) (image : D → List ℕ → Type 0) (faults_of : D → ℕ) where
   pub unmounted_room : (start : List (List Op)) (opening : ℕ) (old : Back D) (log : BackLog) (ending : Ending) → LogSame old.log log → old.mode ≡ Wanted ending
-      → IsBack moment_of left_since told image faults_of start opening true old → IsUnmounted moment_of left_since told image faults_of start opening (record old { log = log })
+      → IsBackAs moment_of left_since told image faults_of start opening true old → IsUnmounted moment_of left_since told image faults_of start opening (record old { log = log })
   unmounted_room start opening old log ending same wanted b =
       unmounted_of moment_of left_since told image faults_of start opening true (record old { log = log }) (back_room moment_of left_since told image faults_of start opening old log same b) (ap is_mounted_mode wanted)
 
   pub mend_can : (old : Back D) (log : BackLog) (ending : Ending) → LogSame old.log log → MendRoom log → old.mode ≡ Wanted ending
-      → CanServe moment_of left_since told image faults_of true old → CanMend moment_of left_since told image faults_of (record old { log = log }) ending
+      → CanServeAs moment_of left_since told image faults_of true old → CanMend moment_of left_since told image faults_of (record old { log = log }) ending
   mend_can old log ending same room wanted b =
       record { start = b.0; opening = b.1; back = unmounted_room b.0 b.1 old log ending same wanted b.2; wanted = wanted; room = room }

@@ -21,7 +21,7 @@ use Rattle.timeline.specs.declared.caller.Cause.TheVariants as cause
 use Rattle.output_gate.specs.Counted.{stop_counts, AreCounted}
 use Rattle.output_gate.specs.Ended.{IsLogged, IsLoggedDown}
 use Rattle.output_gate.specs.Held.{has_halt}
-use Rattle.output_gate.specs.Serving.{HasRoom, IsSafe, IsMounted, IsSafeEnded, IsUnmounted, IsBack, Lands, CanLand, Stops, CanStop, ending_of, stop_of}
+use Rattle.output_gate.specs.Serving.{HasRoom, IsSafe, IsMounted, IsSafeEnded, IsUnmounted, IsBackAs, Lands, CanLand, Stops, CanStop, ending_of, stop_of}
 use Rattle.output_gate.specs.Standing.{AreLogs, own_entries}
 use Rattle.output_gate.specs.Storing.{Appends, IsCauseOf, IsDiskOf}
 use Rattle.output_gate.specs.declared.back.Back.{Back}
@@ -207,12 +207,12 @@ module _ {D : Type 0} (moment_of : D → ℕ) (left_since : D → ℕ → List �
 
 -- a store that has a disk
 pub has_disk : {D : Type 0} (moment_of : D → ℕ) (left_since : D → ℕ → List ℕ → Type 0) (told : D → Option (List ℕ)) (image : D → List ℕ → Type 0) (faults_of : D → ℕ) (start : List (List Op)) (opening : ℕ) (sound : Bool)
-    (back : Back D) → IsBack moment_of left_since told image faults_of start opening sound back → (disk : D) × IsDiskOf back.store disk
+    (back : Back D) → IsBackAs moment_of left_since told image faults_of start opening sound back → (disk : D) × IsDiskOf back.store disk
 has_disk {D} moment_of left_since told image faults_of start opening sound back (inl m) = (disk_in m.journal, subst (λ (s : Store D). IsDiskOf s (disk_in m.journal)) (sym m.safe.store) refl)
 has_disk moment_of left_since told image faults_of start opening sound back (inr u) = (u.disk, u.safe.store)
 
 -- What has something to flush is mounted.
 pub flushed_back : {D : Type 0} (moment_of : D → ℕ) (left_since : D → ℕ → List ℕ → Type 0) (told : D → Option (List ℕ)) (image : D → List ℕ → Type 0) (faults_of : D → ℕ) (start : List (List Op)) (opening : ℕ) (sound : Bool)
-    (back : Back D) → back.before ≢ back.durable → IsBack moment_of left_since told image faults_of start opening sound back → IsMounted moment_of left_since told image faults_of start opening sound back
+    (back : Back D) → back.before ≢ back.durable → IsBackAs moment_of left_since told image faults_of start opening sound back → IsMounted moment_of left_since told image faults_of start opening sound back
 flushed_back moment_of left_since told image faults_of start opening sound back more (inl m) = m
 flushed_back moment_of left_since told image faults_of start opening sound back more (inr u) = absurd (more u.safe.even)

@@ -25,7 +25,7 @@ use Rattle.output_gate.specs.Down.{place_down}
 use Rattle.output_gate.specs.Gate.{place_of, history_at}
 use Rattle.output_gate.specs.Held.{waiting_in}
 use Rattle.output_gate.specs.Kept.{RecoversToLine, HasLeft, HaveLeft}
-use Rattle.output_gate.specs.Serving.{IsMounted, IsUnmounted, IsBack}
+use Rattle.output_gate.specs.Serving.{IsMounted, IsUnmounted, IsBackAs}
 use Rattle.output_gate.specs.Standing.{own_entries, older_of}
 use Rattle.output_gate.specs.Storing.{IsDiskOf}
 use Rattle.output_gate.specs.Taking.{is_mounted_mode, notice_of}
@@ -110,7 +110,7 @@ module _ {D : Type 0} (moment_of : D → ℕ) (left_since : D → ℕ → List �
         rose = u.counts.rose tells;
       }
 
-  pub tells_all : (back : Back D) (disk : D) → IsDiskOf back.store disk → IsTold (told disk) → IsBack moment_of left_since told image faults_of start opening sound back → (front : Fronted)
+  pub tells_all : (back : Back D) (disk : D) → IsDiskOf back.store disk → IsTold (told disk) → IsBackAs moment_of left_since told image faults_of start opening sound back → (front : Fronted)
       → HasTold moment_of left_since faults_of back.identity start opening front disk (backed back.log)
   tells_all back disk at tells (inl m) front =
       let same = same_disk back.store (disk_in m.journal) disk (subst (λ (s : Store D). IsDiskOf s (disk_in m.journal)) (sym m.safe.store) refl) at in
@@ -189,7 +189,7 @@ module _ {D : Type 0} (moment_of : D → ℕ) (left_since : D → ℕ → List �
       ∙ ap (λ m. apply m (flat_map (λ ops. ops) own)) (ap (apply nothing) (flat_map-append (λ ops. ops) start kept) ∙ apply-append nothing (flat_map (λ ops. ops) start) (flat_map (λ ops. ops) kept))
       ∙ sym (all_written (start_after (opened_map start) (older_of front (backed back.log))) (own_entries (backed back.log)))
 
-  pub map_is : (back : Back D) (disk : D) → IsDiskOf back.store disk → IsTold (told disk) → IsBack moment_of left_since told image faults_of start opening true back → back.mode ≡ Mounted
+  pub map_is : (back : Back D) (disk : D) → IsDiskOf back.store disk → IsTold (told disk) → IsBackAs moment_of left_since told image faults_of start opening true back → back.mode ≡ Mounted
       → (front : Fronted) (i : Incarnation) (older : History) → history front (backed back.log) ≡ i ∷ older → back.cache ≡ written (start_after (opened_map start) older) (said_in i.taken)
   map_is back disk at tells b mode front i older is =
       let m = mounted_of moment_of left_since told image faults_of start opening true back b (ap is_mounted_mode mode) in

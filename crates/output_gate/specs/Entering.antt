@@ -1,5 +1,5 @@
 -- What a take does, as its caller sees it.
-use Rattle.std.specs.Prelude.{◌≡◌, ◌⊎◌, ℕ, ◌<◌, Bool, true, false, List, [], ◌∷◌, ◌++◌, option_to_list, ◌-◌, length, slice_get, Option, Some, None, is_some, Result, Ok, Err}
+use Rattle.std.specs.Prelude.{◌≡◌, ◌⊎◌, ℕ, ◌+◌, ◌<◌, Bool, true, false, List, [], ◌∷◌, ◌++◌, option_to_list, ◌-◌, length, slice_get, Option, Some, None, is_some, Result, Ok, Err}
 use Rattle.do_value.specs.declared.fault.NoMemory.{NoMemory}
 use Rattle.storage_map.specs.Contents.{Contents}
 use Rattle.storage_map.specs.declared.op.Op.{Op}
@@ -17,8 +17,9 @@ use Rattle.timeline.specs.declared.notice.Stepped.{Stepped}
 use Rattle.timeline.specs.declared.notice.Stepped.TheVariants.{Nothing}
 use Rattle.output_gate.specs.Fits.{comes_behind, fits_mounted, fits_down, last_of}
 use Rattle.output_gate.specs.declared.back.Ending.{Ending}
-use Rattle.output_gate.specs.declared.back.Mode.TheVariants.{Down}
-use Rattle.output_gate.specs.Serving.{IsMounted, IsUnmounted}
+use Rattle.output_gate.specs.declared.back.Mode.{Mode}
+use Rattle.output_gate.specs.declared.back.Mode.TheVariants.{Wanted, Down}
+use Rattle.output_gate.specs.Serving.{IsMounted, IsUnmounted, IsAsBefore}
 use Rattle.output_gate.specs.Taking.{notice_of, fit_of, LogRoom, most_unflushed}
 use Rattle.output_gate.specs.declared.back.Back.{Back}
 use Rattle.output_gate.specs.declared.fit.Fit.{Fit}
@@ -64,11 +65,36 @@ held_as fit.Own back e = held_by back.before back.number e.number e.body
 held_as fit.Down back e = held_by back.before (back.number - 1) e.number e.body
 held_as fit.Late back e = late_held back e
 
+-- A `Mend` of an incarnation that is down asks for a mounting; nothing else that is taken changes how a back stands.
+abbrev pub asked : Mode → Mode
+asked (Down ending) = Wanted ending
+asked mode = mode
+
+abbrev pub mode_by : Body → Mode → Mode
+mode_by body.Mend mode = asked mode
+mode_by _ mode = mode
+
+abbrev pub mode_after : Fit → Mode → Body → Mode
+mode_after fit.Down mode b = mode_by b mode
+mode_after _ mode b = mode
+
+-- A batch of the newest incarnation is one more before the next message.
+abbrev pub before_by : Body → ℕ → ℕ
+before_by (body.Batch ops tail) before = before + 1
+before_by _ before = before
+
+abbrev pub before_after : Fit → ℕ → Body → ℕ
+before_after fit.Own before b = before_by b before
+before_after _ before b = before
+
 -- An entry goes into the log, with what is held of it, or leaves the back stuck.
 pub record Enters {D : Type 0} (old new : Back D) (e : Entry) : Type 0 where
   pub log : backed new.log ≡ logged_as (fit_of old e) (backed old.log) e
   pub stuck : new.stuck ≡ is_unfit (fit_of old e)
   pub held : new.held.items ≡ old.held.items ++ held_as (fit_of old e) old e
+  pub mode : new.mode ≡ mode_after (fit_of old e) old.mode e.body
+  pub before : new.before ≡ before_after (fit_of old e) old.before e.body
+  pub durable : new.durable ≡ old.durable
 
 -- Nothing is done, and all is as before.
 pub record IsIdle {D A B : Type 0} (old new : Back D) (taken_before taken : List A) (sent_before sent : List B) (result : Result Stepped NoMemory) : Type 0 where
@@ -84,12 +110,14 @@ pub record Takes {D : Type 0} (old new : Back D) (got_before got : List Entry) (
   pub told : sent ≡ sent_before ++ option_to_list (notice_at old entry)
   pub enters : Enters old new entry
 
--- Memory was wanting: an entry is gone from the line, and the front wasn't told of it; the log may have it.
+-- Memory was wanting: an entry is gone from the line, and the front wasn't told of it. Nothing was done of it, or it was entered
+-- and its notice is lost.
 pub record LosesEntry {D : Type 0} (old new : Back D) (got_before got : List Entry) (sent_before sent : List Notice) : Type 0 where
   pub entry : Entry
   pub took : got ≡ got_before ++ entry ∷ []
   pub told : sent ≡ sent_before
   pub log : (backed new.log ≡ backed old.log) ⊎ (backed new.log ≡ record (backed old.log) { taken = old.log.taken.items ++ entry ∷ [] })
+  pub entered : IsAsBefore old new ⊎ Enters old new entry
 
 -- What taking an entry of the newest incarnation needs while it is mounted, and does.
 pub record CanTake {D : Type 0} (moment_of : D → ℕ) (left_since : D → ℕ → List ℕ → Type 0) (told : D → Option (List ℕ)) (image : D → List ℕ → Type 0) (faults_of : D → ℕ)
@@ -107,12 +135,15 @@ pub record TakesOwn {D : Type 0} (moment_of : D → ℕ) (left_since : D → ℕ
   pub log : backed new.log ≡ record (backed old.log) { taken = old.log.taken.items ++ record { incarnation = old.number; number = number; body = b } ∷ [] }
   pub stuck : new.stuck ≡ old.stuck
   pub holds : new.held.items ≡ old.held.items ++ held_by old.before old.number number b
+  pub mode : new.mode ≡ old.mode
+  pub before : new.before ≡ before_by b old.before
+  pub durable : new.durable ≡ old.durable
   pub back : (start : List (List Op)) (opening : ℕ) → IsMounted moment_of left_since told image faults_of start opening true old
       → IsMounted moment_of left_since told image faults_of start opening true new
 
 pub record FailsOwn {D : Type 0} (moment_of : D → ℕ) (left_since : D → ℕ → List ℕ → Type 0) (told : D → Option (List ℕ)) (image : D → List ℕ → Type 0) (faults_of : D → ℕ)
     (old new : Back D) : Type 0 where
-  pub log : backed new.log ≡ backed old.log
+  pub same : IsAsBefore old new
   pub back : (start : List (List Op)) (opening : ℕ) → IsMounted moment_of left_since told image faults_of start opening true old
       → IsMounted moment_of left_since told image faults_of start opening false new
 
@@ -132,12 +163,15 @@ pub record TakesDown {D : Type 0} (moment_of : D → ℕ) (left_since : D → �
   pub log : backed new.log ≡ record (backed old.log) { taken = old.log.taken.items ++ record { incarnation = old.number; number = number; body = b } ∷ [] }
   pub stuck : new.stuck ≡ old.stuck
   pub holds : new.held.items ≡ old.held.items ++ held_by old.before (old.number - 1) number b
+  pub mode : new.mode ≡ mode_by b old.mode
+  pub before : new.before ≡ old.before
+  pub durable : new.durable ≡ old.durable
   pub back : (start : List (List Op)) (opening : ℕ) → IsUnmounted moment_of left_since told image faults_of start opening old
       → IsUnmounted moment_of left_since told image faults_of start opening new
 
 pub record FailsDown {D : Type 0} (moment_of : D → ℕ) (left_since : D → ℕ → List ℕ → Type 0) (told : D → Option (List ℕ)) (image : D → List ℕ → Type 0) (faults_of : D → ℕ)
     (old new : Back D) : Type 0 where
-  pub log : backed new.log ≡ backed old.log
+  pub same : IsAsBefore old new
   pub back : (start : List (List Op)) (opening : ℕ) → IsUnmounted moment_of left_since told image faults_of start opening old
       → IsUnmounted moment_of left_since told image faults_of start opening new
 

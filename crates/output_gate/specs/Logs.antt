@@ -2,6 +2,7 @@
 use Rattle.std.specs.Prelude.{◌≡◌, false, []}
 use Rattle.batch_journal.specs.declared.mount.Mounted.{Mounted}
 use Rattle.timeline.specs.Logs.{Backed, backed}
+use Rattle.output_gate.specs.Serving.{is_stopped}
 use Rattle.output_gate.specs.declared.back.Back.{Back}
 use Rattle.output_gate.specs.declared.store.Store.TheVariants as store
 
@@ -17,3 +18,4 @@ pub record IsFresh {D : Type 0} (mounted : Mounted D) (back : Back D) : Type 0 w
   pub identity : back.identity ≡ mounted.identity
   pub map : back.cache ≡ mounted.map
   pub stuck : back.stuck ≡ false
+  pub stopped : is_stopped back ≡ false

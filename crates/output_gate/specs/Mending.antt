@@ -12,7 +12,7 @@ use Rattle.timeline.specs.declared.notice.Notice.{Notice}
 use Rattle.timeline.specs.declared.notice.Notice.TheVariants as notice
 use Rattle.timeline.specs.declared.notice.Stepped.{Stepped}
 use Rattle.timeline.specs.declared.notice.Stepped.TheVariants.{Nothing}
-use Rattle.output_gate.specs.Serving.{IsUnmounted}
+use Rattle.output_gate.specs.Serving.{IsUnmounted, IsAsBefore}
 use Rattle.output_gate.specs.Storing.{IsDiskOf}
 use Rattle.output_gate.specs.Taking.{is_wanted}
 use Rattle.output_gate.specs.declared.mending.Found.{Found}
@@ -136,7 +136,8 @@ pub record Mends {D : Type 0} (faults_of : D → ℕ) (old new : Back D) (sent_b
   pub remounts : Remounts faults_of old new ending notice
   pub told : sent ≡ sent_before ++ notice ∷ []
 
--- Memory was wanting: the front isn't told, and the log is as before, or the notice of a mounting is lost.
+-- Memory was wanting: the front isn't told, and the log, what is held, how the back stands and what it counts are as before, or the
+-- notice of a mounting is lost, after which the back is as that left it, but for the note that memory was wanting.
 pub record LosesMend {D : Type 0} (faults_of : D → ℕ) (old new : Back D) (sent_before sent : List Notice) : Type 0 where
   pub told : sent ≡ sent_before
-  pub log : (backed new.log ≡ backed old.log) ⊎ ((ending : Ending) × (notice : Notice) × Remounts faults_of old new ending notice)
+  pub log : IsAsBefore old new ⊎ ((ending : Ending) × (notice : Notice) × Remounts faults_of old (record new { stopped = old.stopped }) ending notice)

@@ -13,7 +13,7 @@ use Rattle.timeline.specs.declared.notice.Notice.{Notice}
 use Rattle.timeline.specs.declared.notice.Notice.TheVariants as notice
 use Rattle.timeline.specs.declared.notice.Stepped.{Stepped}
 use Rattle.timeline.specs.declared.notice.Stepped.TheVariants.{Nothing}
-use Rattle.output_gate.specs.Serving.{stop_of, IsBack}
+use Rattle.output_gate.specs.Serving.{stop_of, IsBackAs}
 use Rattle.output_gate.specs.Storing.{IsDiskOf}
 use Rattle.output_gate.specs.declared.back.Back.{Back}
 use Rattle.output_gate.specs.declared.held.Held.{Held}
@@ -48,7 +48,7 @@ abbrev pub released_messages : HeldBody → List Sent
 released_messages (Message sent) = sent ∷ []
 released_messages _ = []
 
--- The first of what is held goes.
+-- The first of what is held goes; the back stands and counts as before.
 pub record Releases {D : Type 0} (moment_of : D → ℕ) (old new : Back D) (sent_before sent : List Notice) (out_before out : List Sent) : Type 0 where
   pub first : Held
   pub rest : List Held
@@ -57,6 +57,9 @@ pub record Releases {D : Type 0} (moment_of : D → ℕ) (old new : Back D) (sen
   pub told : sent ≡ sent_before ++ released_notices old first.body
   pub left : out ≡ out_before ++ released_messages first.body
   pub log : (disk : D) → IsDiskOf old.store disk → backed new.log ≡ released_log old (moment_of disk) first first.body
+  pub mode : new.mode ≡ old.mode
+  pub before : new.before ≡ old.before
+  pub durable : new.durable ≡ old.durable
 
 -- Nothing is done, and all is as before.
 pub record IsIdleRelease {D : Type 0} (old new : Back D) (sent_before sent : List Notice) (out_before out : List Sent) (result : Result Stepped NoMemory) : Type 0 where
@@ -65,19 +68,22 @@ pub record IsIdleRelease {D : Type 0} (old new : Back D) (sent_before sent : Lis
   pub told : sent ≡ sent_before
   pub left : out ≡ out_before
 
--- Memory was wanting: nothing is told, nothing leaves, and the log and what is held are as before.
+-- Memory was wanting: nothing is told, nothing leaves, and the log, what is held, how the back stands and what it counts are as before.
 pub record Stays {D : Type 0} (old new : Back D) (sent_before sent : List Notice) (out_before out : List Sent) : Type 0 where
   pub told : sent ≡ sent_before
   pub left : out ≡ out_before
   pub log : backed new.log ≡ backed old.log
   pub held : new.held ≡ old.held
+  pub mode : new.mode ≡ old.mode
+  pub before : new.before ≡ old.before
+  pub durable : new.durable ≡ old.durable
 
 -- What letting this go needs, and does.
 pub record CanGo {D : Type 0} (moment_of : D → ℕ) (left_since : D → ℕ → List ℕ → Type 0) (told : D → Option (List ℕ)) (image : D → List ℕ → Type 0) (faults_of : D → ℕ)
     (old : Back D) (b : HeldBody) : Type 0 where
   pub start : List (List Op)
   pub opening : ℕ
-  pub back : IsBack moment_of left_since told image faults_of start opening true old
+  pub back : IsBackAs moment_of left_since told image faults_of start opening true old
   pub first : Held
   pub rest : List Held
   pub held : old.held.items ≡ first ∷ rest
@@ -87,12 +93,12 @@ pub record CanGo {D : Type 0} (moment_of : D → ℕ) (left_since : D → ℕ �
 pub record Goes {D : Type 0} (moment_of : D → ℕ) (left_since : D → ℕ → List ℕ → Type 0) (told : D → Option (List ℕ)) (image : D → List ℕ → Type 0) (faults_of : D → ℕ)
     (old new : Back D) (sent_before sent : List Notice) (out_before out : List Sent) : Type 0 where
   pub releases : Releases moment_of old new sent_before sent out_before out
-  pub back : (start : List (List Op)) (opening : ℕ) → IsBack moment_of left_since told image faults_of start opening true old → IsBack moment_of left_since told image faults_of start opening true new
+  pub back : (start : List (List Op)) (opening : ℕ) → IsBackAs moment_of left_since told image faults_of start opening true old → IsBackAs moment_of left_since told image faults_of start opening true new
 
 pub record StaysPut {D : Type 0} (moment_of : D → ℕ) (left_since : D → ℕ → List ℕ → Type 0) (told : D → Option (List ℕ)) (image : D → List ℕ → Type 0) (faults_of : D → ℕ)
     (old new : Back D) (sent_before sent : List Notice) (out_before out : List Sent) : Type 0 where
   pub stays : Stays old new sent_before sent out_before out
-  pub back : (start : List (List Op)) (opening : ℕ) → IsBack moment_of left_since told image faults_of start opening true old → IsBack moment_of left_since told image faults_of start opening false new
+  pub back : (start : List (List Op)) (opening : ℕ) → IsBackAs moment_of left_since told image faults_of start opening true old → IsBackAs moment_of left_since told image faults_of start opening false new
 
 -- One more message has left.
 pub record LogReleases (old new : BackLog) (release : Release) : Type 0 where

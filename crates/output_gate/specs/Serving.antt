@@ -1,5 +1,5 @@
 -- A back that serves, and one whose incarnation has ended at an append.
-use Rattle.std.specs.Prelude.{◌≡◌, ◌≢◌, ◌⊎◌, ℕ, suc, ◌+◌, ◌-◌, ◌≤◌, Bool, true, false, List, [], ◌∷◌, ◌++◌, length, Option, Some, None, vec_len}
+use Rattle.std.specs.Prelude.{◌≡◌, ◌≢◌, ◌⊎◌, ℕ, suc, ◌+◌, ◌-◌, ◌≤◌, Bool, true, false, not, List, [], ◌∷◌, ◌++◌, length, Option, Some, None, Result, OnOk, OnErr, vec_len}
 use Rattle.std.specs.List.{flat_map}
 use Rattle.std.specs.Vec.{vec_capacity}
 use Rattle.batch_journal.specs.Frames.{Frame, journal_bytes, batches_in}
@@ -7,6 +7,7 @@ use Rattle.batch_journal.specs.Moments.{IsTold}
 use Rattle.batch_journal.specs.Recovery.{Recovers}
 use Rattle.batch_journal.specs.Rest.{IsAtRest, IsStaged, RecoversToOneOf, disk_in}
 use Rattle.batch_journal.specs.declared.journal.Journal.{Journal}
+use Rattle.do_value.specs.declared.fault.NoMemory.{NoMemory}
 use Rattle.timeline.specs.declared.caller.Cause.TheVariants as causes
 use Rattle.timeline.specs.declared.entry.Entry.{Entry}
 use Rattle.storage_map.specs.Contents.{nothing, apply}
@@ -150,18 +151,47 @@ pub record IsUnmounted {D : Type 0} (moment_of : D → ℕ) (left_since : D → 
   pub logged : IsLoggedDown (IsTold (told disk)) (backed back.log) ending back.settled back.durable
   pub counts : AreCounted (IsTold (told disk)) (backed back.log) (faults_of disk)
 
--- What holds of a back after each of its steps. After want of memory it isn't sound.
-abbrev pub IsBack : {D : Type 0} → (D → ℕ) → (D → ℕ → List ℕ → Type 0) → (D → Option (List ℕ)) → (D → List ℕ → Type 0) → (D → ℕ) → List (List Op) → ℕ → (sound : Bool) → Back D → Type 0
-IsBack moment_of left_since told image faults_of start opening sound back =
+-- What holds of a back whose cache is sound, or needn't be; and a step from such a back to such.
+abbrev pub IsBackAs : {D : Type 0} → (D → ℕ) → (D → ℕ → List ℕ → Type 0) → (D → Option (List ℕ)) → (D → List ℕ → Type 0) → (D → ℕ) → List (List Op) → ℕ → (sound : Bool) → Back D → Type 0
+IsBackAs moment_of left_since told image faults_of start opening sound back =
     IsMounted moment_of left_since told image faults_of start opening sound back ⊎ IsUnmounted moment_of left_since told image faults_of start opening back
 
--- A step keeps this.
-abbrev pub KeepsBack : {D : Type 0} → (D → ℕ) → (D → ℕ → List ℕ → Type 0) → (D → Option (List ℕ)) → (D → List ℕ → Type 0) → (D → ℕ) → (sound later : Bool) → (old new : Back D) → Type 0
-KeepsBack moment_of left_since told image faults_of sound later old new = (start : List (List Op)) (opening : ℕ)
-    → IsBack moment_of left_since told image faults_of start opening sound old → IsBack moment_of left_since told image faults_of start opening later new
+abbrev pub KeepsBackAs : {D : Type 0} → (D → ℕ) → (D → ℕ → List ℕ → Type 0) → (D → Option (List ℕ)) → (D → List ℕ → Type 0) → (D → ℕ) → (sound later : Bool) → (old new : Back D) → Type 0
+KeepsBackAs moment_of left_since told image faults_of sound later old new = (start : List (List Op)) (opening : ℕ)
+    → IsBackAs moment_of left_since told image faults_of start opening sound old → IsBackAs moment_of left_since told image faults_of start opening later new
 
-abbrev pub CanServe : {D : Type 0} → (D → ℕ) → (D → ℕ → List ℕ → Type 0) → (D → Option (List ℕ)) → (D → List ℕ → Type 0) → (D → ℕ) → (sound : Bool) → Back D → Type 0
-CanServe moment_of left_since told image faults_of sound back = (start : List (List Op)) × (opening : ℕ) × IsBack moment_of left_since told image faults_of start opening sound back
+abbrev pub CanServeAs : {D : Type 0} → (D → ℕ) → (D → ℕ → List ℕ → Type 0) → (D → Option (List ℕ)) → (D → List ℕ → Type 0) → (D → ℕ) → (sound : Bool) → Back D → Type 0
+CanServeAs moment_of left_since told image faults_of sound back = (start : List (List Op)) × (opening : ℕ) × IsBackAs moment_of left_since told image faults_of start opening sound back
+
+-- Nothing was done that a later step sees, but to the cache and the store: the log, what is held, how the back stands and what it
+-- counts are as before.
+pub record IsAsBefore {D : Type 0} (old new : Back D) : Type 0 where
+  pub log : backed new.log ≡ backed old.log
+  pub held : new.held.items ≡ old.held.items
+  pub stuck : new.stuck ≡ old.stuck
+  pub mode : new.mode ≡ old.mode
+  pub before : new.before ≡ old.before
+  pub durable : new.durable ≡ old.durable
+
+-- Memory was wanting at a step of this back.
+abbrev pub is_stopped : {D : Type 0} → Back D → Bool
+is_stopped back = back.stopped
+
+-- Memory was wanting at a step, and the back is stopped; or it wasn't, and the back isn't.
+pub record StopsBy {D A : Type 0} (result : Result A NoMemory) (new : Back D) : Type 0 where
+  pub good : OnOk result (is_stopped new ≡ false)
+  pub wanting : OnErr result (is_stopped new ≡ true)
+
+-- What holds of a back after each of its steps: it is sound where it isn't stopped. A step keeps this.
+abbrev pub IsBack : {D : Type 0} → (D → ℕ) → (D → ℕ → List ℕ → Type 0) → (D → Option (List ℕ)) → (D → List ℕ → Type 0) → (D → ℕ) → List (List Op) → ℕ → Back D → Type 0
+IsBack moment_of left_since told image faults_of start opening back = IsBackAs moment_of left_since told image faults_of start opening (not (is_stopped back)) back
+
+abbrev pub KeepsBack : {D : Type 0} → (D → ℕ) → (D → ℕ → List ℕ → Type 0) → (D → Option (List ℕ)) → (D → List ℕ → Type 0) → (D → ℕ) → (old new : Back D) → Type 0
+KeepsBack moment_of left_since told image faults_of old new = (start : List (List Op)) (opening : ℕ)
+    → IsBack moment_of left_since told image faults_of start opening old → IsBack moment_of left_since told image faults_of start opening new
+
+abbrev pub CanServe : {D : Type 0} → (D → ℕ) → (D → ℕ → List ℕ → Type 0) → (D → Option (List ℕ)) → (D → List ℕ → Type 0) → (D → ℕ) → Back D → Type 0
+CanServe moment_of left_since told image faults_of back = (start : List (List Op)) × (opening : ℕ) × IsBack moment_of left_since told image faults_of start opening back
 
 -- What the two ends of a flush need of the back, and what they do to it.
 pub record CanLand {D : Type 0} (back : Back D) : Type 0 where

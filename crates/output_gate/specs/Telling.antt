@@ -1,12 +1,12 @@
 -- What a back tells whoever reads its log, over a disk that tells its content and whatever its front has logged.
-use Rattle.std.specs.Prelude.{◌≡◌, ℕ, Bool, true, List, [], ◌∷◌, map, Option, Some}
+use Rattle.std.specs.Prelude.{◌≡◌, ◌≢◌, ℕ, suc, ◌<◌, ◌≤◌, false, List, [], ◌∷◌, length, map, Option, Some}
 use Rattle.std.specs.List.{All, flat_map}
 use Rattle.batch_journal.specs.Moments.{IsTold}
 use Rattle.storage_map.specs.Contents.{Contents, nothing, apply}
 use Rattle.storage_map.specs.Limits.{Object}
 use Rattle.storage_map.specs.declared.op.Op.{Op}
 use Rattle.timeline.specs.Headline.{IsPrefix, KeepBy, release_of, pass_of}
-use Rattle.timeline.specs.History.{Incarnation, History, history, said_in, start_after}
+use Rattle.timeline.specs.History.{Incarnation, History, batches_in, history, said_in, start_after}
 use Rattle.timeline.specs.Intake.{answer_in}
 use Rattle.timeline.specs.Logs.{Fronted, Backed, backed}
 use Rattle.timeline.specs.Passed.{Passed, passed}
@@ -16,8 +16,8 @@ use Rattle.timeline.specs.declared.notice.Notice.{Notice}
 use Rattle.output_gate.specs.Counted.{counts_in, AreRising, HasRisenIn}
 use Rattle.output_gate.specs.Ended.{stop_causes, end_causes}
 use Rattle.output_gate.specs.Kept.{RecoversToLine, HaveLeft}
-use Rattle.output_gate.specs.Serving.{IsBack}
-use Rattle.output_gate.specs.Standing.{AreLogs}
+use Rattle.output_gate.specs.Serving.{IsBack, is_stopped}
+use Rattle.output_gate.specs.Standing.{AreLogs, own_entries, older_of}
 use Rattle.output_gate.specs.Storing.{IsDiskOf}
 use Rattle.output_gate.specs.Taking.{notice_of}
 use Rattle.output_gate.specs.declared.back.Back.{Back}
@@ -41,8 +41,8 @@ pub record HasTold {D : Type 0} (moment_of : D → ℕ) (left_since : D → ℕ 
   pub rose : All HasRisenIn (counts_in back)
 
 abbrev pub BackTells : {D : Type 0} → (D → ℕ) → (D → ℕ → List ℕ → Type 0) → (D → Option (List ℕ)) → (D → List ℕ → Type 0) → (D → ℕ) → Back D → Type 0
-BackTells {D} moment_of left_since told image faults_of back = (start : List (List Op)) (opening : ℕ) (sound : Bool) (disk : D) → IsDiskOf back.store disk → IsTold (told disk)
-    → IsBack moment_of left_since told image faults_of start opening sound back → (front : Fronted)
+BackTells {D} moment_of left_since told image faults_of back = (start : List (List Op)) (opening : ℕ) (disk : D) → IsDiskOf back.store disk → IsTold (told disk)
+    → IsBack moment_of left_since told image faults_of start opening back → (front : Fronted)
     → HasTold moment_of left_since faults_of back.identity start opening front disk (backed back.log)
 
 -- the map at the opening
@@ -57,5 +57,26 @@ NoticesAnswer = (number : ℕ) (m : Contents) (b : Body) (n : Notice) → notice
 -- map with which it started.
 abbrev pub MapIsWritten : {D : Type 0} → (D → ℕ) → (D → ℕ → List ℕ → Type 0) → (D → Option (List ℕ)) → (D → List ℕ → Type 0) → (D → ℕ) → Back D → Type 0
 MapIsWritten {D} moment_of left_since told image faults_of back = (start : List (List Op)) (opening : ℕ) (disk : D) → IsDiskOf back.store disk → IsTold (told disk)
-    → IsBack moment_of left_since told image faults_of start opening true back → back.mode ≡ Mounted → (front : Fronted) (i : Incarnation) (older : History)
+    → IsBack moment_of left_since told image faults_of start opening back → is_stopped back ≡ false → back.mode ≡ Mounted → (front : Fronted) (i : Incarnation) (older : History)
     → history front (backed back.log) ≡ i ∷ older → back.cache ≡ written (start_after (opened_map start) older) (said_in i.taken)
+
+-- The newest of these kept no more batches than were taken of it.
+abbrev pub KeepsWithin : History → Type 0
+KeepsWithin [] = Unit {0}
+KeepsWithin (i ∷ older) = (count : ℕ) → i.kept ≡ Some count → count ≤ length (batches_in i.taken)
+
+-- How the log and the counters of a back stand to one another, over any disk. While the newest incarnation is mounted each that has
+-- ended was followed; else the last one wasn't yet. Each mounting that failed is of an incarnation that had begun. Where batches wait
+-- for a flush the newest incarnation has some.
+pub record IsOrdered {D : Type 0} (back : Back D) : Type 0 where
+  pub logs : AreLogs (backed back.log)
+  pub followed : back.mode ≡ Mounted → length back.log.ends.items ≡ length back.log.stops.items
+  pub unfollowed : back.mode ≢ Mounted → length back.log.stops.items ≡ suc (length back.log.ends.items)
+  pub missed : All (λ m. m.incarnation ≤ suc (length back.log.stops.items)) back.log.downs.items
+  pub more : back.durable ≤ back.before
+  pub unflown : back.durable < back.before → batches_in (own_entries (backed back.log)) ≢ []
+  pub kept : (front : Fronted) → KeepsWithin (older_of front (backed back.log))
+
+abbrev pub BackIsOrdered : {D : Type 0} → (D → ℕ) → (D → ℕ → List ℕ → Type 0) → (D → Option (List ℕ)) → (D → List ℕ → Type 0) → (D → ℕ) → Back D → Type 0
+BackIsOrdered moment_of left_since told image faults_of back = (start : List (List Op)) (opening : ℕ)
+    → IsBack moment_of left_since told image faults_of start opening back → IsOrdered back

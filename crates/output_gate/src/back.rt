@@ -1,5 +1,5 @@
 //! The back half of an object.
-ghost use Rattle.std.specs.Prelude.{◌≡◌, Bool, true, List, [], ℕ};
+ghost use Rattle.std.specs.Prelude.{◌≡◌, []};
 ghost use Rattle.batch_journal.specs.Frames.{batches_in};
 ghost use Rattle.batch_journal.specs.Mounting.{IsMountOf};
 ghost use Rattle.batch_journal.specs.Rest.{IsStaged};
@@ -56,6 +56,8 @@ pub struct Back<D> {
     pub(crate) mode: Mode,
     // something was taken that no front sends
     pub(crate) stuck: bool,
+    // memory was wanting at a step: only a flush still serves
+    pub(crate) stopped: bool,
     // the batches before the next message and those that are durable, from the opening; and those of the newest incarnation
     pub(crate) before: u64,
     pub(crate) durable: u64,
@@ -84,7 +86,7 @@ impl<D: Disk> Back<D> {
         requires { (object : Object) → IsStaged mounted.journal object [] }
         ensures fresh { IsFresh mounted result }
         ensures back { (disk : D) (is : IsMountOf D.told D.image D.moment_of D.left_since disk mounted)
-            → IsBack D.moment_of D.left_since D.told D.image D.faults_of (batches_in is.frames) (next_count (D.moment_of disk)) true result }
+            → IsBack D.moment_of D.left_since D.told D.image D.faults_of (batches_in is.frames) (next_count (D.moment_of disk)) result }
     {
         let Mounted {
             journal,
@@ -100,6 +102,7 @@ impl<D: Disk> Back<D> {
             held: VecDeque::new(alloc),
             mode: Mode::Mounted,
             stuck: false,
+            stopped: false,
             before: 0,
             durable: 0,
             own: 0,
@@ -126,7 +129,7 @@ impl<D: Disk> Back<D> {
 
     /// The disk, the object and the history. It takes no memory.
     pub fn into_parts(self) -> BackParts<D>
-        requires { (sound : Bool) × CanServe D.moment_of D.left_since D.told D.image D.faults_of sound self }
+        requires { CanServe D.moment_of D.left_since D.told D.image D.faults_of self }
         ensures disk { IsDiskOf self.store result.disk }
         ensures identity { result.identity ≡ self.identity }
         ensures log { backed result.log ≡ backed self.log }
@@ -139,6 +142,7 @@ impl<D: Disk> Back<D> {
             held: _,
             mode: _,
             stuck: _,
+            stopped: _,
             before: _,
             durable: _,
             own: _,

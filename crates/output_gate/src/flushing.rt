@@ -1,8 +1,7 @@
 //! Appending what was taken.
-ghost use Rattle.std.specs.Prelude.{◌≡◌, ◌≢◌, Bool, List, ℕ};
-ghost use Rattle.storage_map.specs.declared.op.Op.{Op};
+ghost use Rattle.std.specs.Prelude.{◌≡◌, ◌≢◌};
 ghost use Rattle.timeline.specs.declared.notice.Stepped.TheVariants.{Did, Nothing};
-ghost use Rattle.output_gate.specs.Serving.{CanServe, IsBack, CanLand, Lands, CanStop, Stops};
+ghost use Rattle.output_gate.specs.Serving.{CanServe, KeepsBack, is_stopped, CanLand, Lands, CanStop, Stops};
 ghost use Rattle.output_gate.specs.Flushing.{Flushes};
 
 use crate::back::{Back, Ending, Mode};
@@ -13,14 +12,13 @@ use timeline::{Stepped, Stop};
 
 impl<D: Disk> Back<D> {
     /// Appends all batches that were taken since the last append as one flight. Where the append fails or is full, the
-    /// incarnation ends. It takes no memory.
+    /// incarnation ends. It takes no memory, and serves on where the back is stopped.
     pub fn flush(&mut self) -> Stepped
-        requires { (sound : Bool) × CanServe D.moment_of D.left_since D.told D.image D.faults_of sound self.old }
+        requires { CanServe D.moment_of D.left_since D.told D.image D.faults_of self.old }
         ensures nothing { self.old.before ≡ self.old.durable → (result ≡ Nothing) × (self.new ≡ self.old) }
         ensures flushed { self.old.before ≢ self.old.durable → (result ≡ Did) × Flushes D.faults_of self.old self.new }
-        ensures back { (start : List (List Op)) (opening : ℕ) (sound : Bool)
-            → IsBack D.moment_of D.left_since D.told D.image D.faults_of start opening sound self.old
-            → IsBack D.moment_of D.left_since D.told D.image D.faults_of start opening sound self.new }
+        ensures stopped { is_stopped self.new ≡ is_stopped self.old }
+        ensures back { KeepsBack D.moment_of D.left_since D.told D.image D.faults_of self.old self.new }
     {
         if self.before == self.durable {
             return Stepped::Nothing;

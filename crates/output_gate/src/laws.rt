@@ -1,6 +1,6 @@
 //! Laws of backs, for whoever holds one. A call costs nothing and tells its caller the law.
 ghost use Rattle.output_gate.specs.Laws.{HistorySteps};
-ghost use Rattle.output_gate.specs.Telling.{BackTells, MapIsWritten, NoticesAnswer};
+ghost use Rattle.output_gate.specs.Telling.{BackTells, BackIsOrdered, MapIsWritten, NoticesAnswer};
 
 use crate::back::Back;
 use do_disk::Disk;
@@ -18,6 +18,13 @@ pub fn notices_answer()
 /// What has left, what a crash leaves and what was kept, of any back over a disk that tells its content.
 pub fn back_tells<D: Disk>(back: &Back<D>)
     ensures { BackTells D.moment_of D.left_since D.told D.image D.faults_of back.now }
+{
+    let _ = back;
+}
+
+/// How the log and the counters of any back stand to one another, over any disk.
+pub fn back_is_ordered<D: Disk>(back: &Back<D>)
+    ensures { BackIsOrdered D.moment_of D.left_since D.told D.image D.faults_of back.now }
 {
     let _ = back;
 }

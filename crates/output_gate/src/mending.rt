@@ -1,14 +1,13 @@
 //! Mounting again.
-ghost use Rattle.std.specs.Prelude.{◌≡◌, ◌⊎◌, ◌+◌, ◌≤◌, ◌++◌, [], ◌∷◌, true, false, Ok, List, ℕ, IfOk, OnOk, OnErr, vec_len};
+ghost use Rattle.std.specs.Prelude.{◌≡◌, ◌+◌, ◌≤◌, true, false, Ok, List, ℕ, IfOk, OnOk, OnErr, vec_len};
 ghost use Rattle.std.specs.Vec.{vec_capacity};
 ghost use Rattle.batch_journal.specs.Rest.{disk_in};
 ghost use Rattle.storage_map.specs.declared.op.Op.{Op};
-ghost use Rattle.timeline.specs.Logs.{backed};
 ghost use Rattle.timeline.specs.declared.notice.Notice.TheVariants as notice;
 ghost use Rattle.output_gate.specs.Mending.{IsFound, CountsFound, is_own_object, Begins, Misses, CanBegin, CanMend, Remounts, may_mend, MendRoom, IsIdleMend, Mends, LosesMend, IsRefusedFor, FallsByFault};
 ghost use Rattle.output_gate.specs.Taking.{LogSame};
 ghost use Rattle.timeline.specs.declared.notice.Stepped.TheVariants.{Did, Nothing};
-ghost use Rattle.output_gate.specs.Serving.{IsUnmounted, IsBack, CanServe, KeepsBack};
+ghost use Rattle.output_gate.specs.Serving.{IsUnmounted, IsBackAs, CanServe, CanServeAs, KeepsBack, KeepsBackAs, StopsBy, is_stopped, IsAsBefore};
 
 use crate::back::{Back, Ending, Mode};
 use crate::releasing::send;
@@ -33,17 +32,40 @@ pub(crate) enum Found<D> {
 
 impl<D: Disk> Back<D> {
     /// Mounts the journal again where an append has ended the incarnation. Where that succeeds the next incarnation begins with
-    /// what is found; where it fails the object is down until a `Mend` is taken. After `NoMemory` the back is stopped.
+    /// what is found; where it fails the object is down until a `Mend` is taken. After `NoMemory` the back is stopped: each further
+    /// step but `flush` answers `NoMemory` and does nothing.
     pub fn mend<N: Outlet<Notice>>(&mut self, alloc: Global, notices: &mut N) -> Mem<Stepped>
-        requires { CanServe D.moment_of D.left_since D.told D.image D.faults_of true self.old }
+        requires { CanServe D.moment_of D.left_since D.told D.image D.faults_of self.old }
+        ensures stopped { is_stopped self.old ≡ true → OnOk result ⊥ × (self.new ≡ self.old) × (N.sent notices.new ≡ N.sent notices.old) }
+        ensures barred { is_stopped self.old ≡ false → may_mend self.old ≡ false
+            → IsIdleMend self.old self.new (N.sent notices.old) (N.sent notices.new) result }
+        ensures nothing { result ≡ Ok Nothing → may_mend self.old ≡ false }
+        ensures mended { result ≡ Ok Did → Mends D.faults_of self.old self.new (N.sent notices.old) (N.sent notices.new) }
+        ensures falls { is_stopped self.old ≡ false → may_mend self.old ≡ true → FallsByFault D.faults_of D.told self.old self.new }
+        ensures lost { OnErr result (LosesMend D.faults_of self.old self.new (N.sent notices.old) (N.sent notices.new)) }
+        ensures stops { StopsBy result self.new }
+        ensures outlet { (N.outlet notices.new ≡ N.outlet notices.old) × (N.left notices.new ≡ N.left notices.old) }
+        ensures back { KeepsBack D.moment_of D.left_since D.told D.image D.faults_of self.old self.new }
+    {
+        if self.stopped {
+            return Err(NoMemory);
+        }
+        let stepped = self.mend_next(alloc, notices);
+        self.stopped = stepped.is_err();
+        stepped
+    }
+
+    // The same of a back that isn't stopped, but for the note that memory was wanting.
+    fn mend_next<N: Outlet<Notice>>(&mut self, alloc: Global, notices: &mut N) -> Mem<Stepped>
+        requires { CanServeAs D.moment_of D.left_since D.told D.image D.faults_of true self.old }
         ensures barred { may_mend self.old ≡ false → IsIdleMend self.old self.new (N.sent notices.old) (N.sent notices.new) result }
         ensures nothing { result ≡ Ok Nothing → may_mend self.old ≡ false }
         ensures mended { result ≡ Ok Did → Mends D.faults_of self.old self.new (N.sent notices.old) (N.sent notices.new) }
         ensures falls { may_mend self.old ≡ true → FallsByFault D.faults_of D.told self.old self.new }
         ensures lost { OnErr result (LosesMend D.faults_of self.old self.new (N.sent notices.old) (N.sent notices.new)) }
         ensures outlet { (N.outlet notices.new ≡ N.outlet notices.old) × (N.left notices.new ≡ N.left notices.old) }
-        ensures back { OnOk result (KeepsBack D.moment_of D.left_since D.told D.image D.faults_of true true self.old self.new) }
-        ensures stopped { OnErr result (KeepsBack D.moment_of D.left_since D.told D.image D.faults_of true false self.old self.new) }
+        ensures back { OnOk result (KeepsBackAs D.moment_of D.left_since D.told D.image D.faults_of true true self.old self.new) }
+        ensures stopped { OnErr result (KeepsBackAs D.moment_of D.left_since D.told D.image D.faults_of true false self.old self.new) }
     {
         let Mode::Wanted(ending) = self.mode else {
             return Ok(Stepped::Nothing);
@@ -62,10 +84,10 @@ impl<D: Disk> Back<D> {
         requires { CanMend D.moment_of D.left_since D.told D.image D.faults_of self.old ending }
         ensures remounts { IfOk result (λ notice. Remounts D.faults_of self.old self.new ending notice) }
         ensures falls { FallsByFault D.faults_of D.told self.old self.new }
-        ensures kept { OnErr result (backed self.new.log ≡ backed self.old.log) }
+        ensures kept { OnErr result (IsAsBefore self.old self.new) }
         ensures back { OnOk result ((start : List (List Op)) (opening : ℕ)
             → IsUnmounted D.moment_of D.left_since D.told D.image D.faults_of start opening self.old
-            → IsBack D.moment_of D.left_since D.told D.image D.faults_of start opening true self.new) }
+            → IsBackAs D.moment_of D.left_since D.told D.image D.faults_of start opening true self.new) }
         ensures stopped { OnErr result ((start : List (List Op)) (opening : ℕ)
             → IsUnmounted D.moment_of D.left_since D.told D.image D.faults_of start opening self.old
             → IsUnmounted D.moment_of D.left_since D.told D.image D.faults_of start opening self.new) }

@@ -1,13 +1,11 @@
 //! Letting go what is held.
-ghost use Rattle.std.specs.Prelude.{◌≡◌, ◌+◌, ◌≤◌, ◌++◌, [], ◌∷◌, true, false, Ok, List, ℕ, IfOk, OnOk, OnErr, length, vec_len};
+ghost use Rattle.std.specs.Prelude.{◌≡◌, ◌+◌, ◌≤◌, ◌++◌, [], ◌∷◌, true, false, Ok, List, IfOk, OnOk, OnErr, vec_len};
 ghost use Rattle.std.specs.Vec.{vec_capacity};
 ghost use Rattle.output_gate.specs.Taking.{LogSame};
-ghost use Rattle.storage_map.specs.declared.op.Op.{Op};
-ghost use Rattle.timeline.specs.Logs.{backed};
 ghost use Rattle.timeline.specs.declared.notice.Stepped.TheVariants.{Did, Nothing};
 ghost use Rattle.output_gate.specs.Releasing as releasing;
 ghost use Rattle.output_gate.specs.Releasing.{IsIdleRelease, Releases, Stays, CanGo, Goes, StaysPut, LogReleases, HaltRoom, LogHalts};
-ghost use Rattle.output_gate.specs.Serving.{CanServe, KeepsBack};
+ghost use Rattle.output_gate.specs.Serving.{CanServe, CanServeAs, KeepsBack, KeepsBackAs, StopsBy, is_stopped};
 ghost use Rattle.output_gate.specs.declared.held.HeldBody.TheVariants as held_body;
 
 use crate::back::Back;
@@ -22,13 +20,42 @@ use timeline::{BackLog, Cause, End, Message, Notice, Release, Stepped, Stop};
 
 impl<D: Disk> Back<D> {
     /// Lets the first go of what is held, where all batches before it are durable: a message leaves, the front is told of a
-    /// sync, or the incarnation ends by a halt and the next one begins. After `NoMemory` the back is stopped.
+    /// sync, or the incarnation ends by a halt and the next one begins. After `NoMemory` the back is stopped: each further step
+    /// but `flush` answers `NoMemory` and does nothing.
     pub fn release<N: Outlet<Notice>, O: Outlet<Message>>(
         &mut self,
         notices: &mut N,
         out: &mut O,
     ) -> Mem<Stepped>
-        requires { CanServe D.moment_of D.left_since D.told D.image D.faults_of true self.old }
+        requires { CanServe D.moment_of D.left_since D.told D.image D.faults_of self.old }
+        ensures stopped { is_stopped self.old ≡ true → OnOk result ⊥
+            × (self.new ≡ self.old) × (N.sent notices.new ≡ N.sent notices.old) × (O.sent out.new ≡ O.sent out.old) }
+        ensures barred { is_stopped self.old ≡ false → releasing.may_release self.old ≡ false
+            → IsIdleRelease self.old self.new (N.sent notices.old) (N.sent notices.new) (O.sent out.old) (O.sent out.new) result }
+        ensures nothing { result ≡ Ok Nothing → releasing.may_release self.old ≡ false }
+        ensures released { result ≡ Ok Did
+            → Releases D.moment_of self.old self.new (N.sent notices.old) (N.sent notices.new) (O.sent out.old) (O.sent out.new) }
+        ensures stays { OnErr result (Stays self.old self.new (N.sent notices.old) (N.sent notices.new) (O.sent out.old) (O.sent out.new)) }
+        ensures stops { StopsBy result self.new }
+        ensures outlet { (N.outlet notices.new ≡ N.outlet notices.old) × (N.left notices.new ≡ N.left notices.old) }
+        ensures out { (O.outlet out.new ≡ O.outlet out.old) × (O.left out.new ≡ O.left out.old) }
+        ensures back { KeepsBack D.moment_of D.left_since D.told D.image D.faults_of self.old self.new }
+    {
+        if self.stopped {
+            return Err(NoMemory);
+        }
+        let stepped = self.release_next(notices, out);
+        self.stopped = stepped.is_err();
+        stepped
+    }
+
+    // The same of a back that isn't stopped, but for the note that memory was wanting.
+    fn release_next<N: Outlet<Notice>, O: Outlet<Message>>(
+        &mut self,
+        notices: &mut N,
+        out: &mut O,
+    ) -> Mem<Stepped>
+        requires { CanServeAs D.moment_of D.left_since D.told D.image D.faults_of true self.old }
         ensures barred { releasing.may_release self.old ≡ false
             → IsIdleRelease self.old self.new (N.sent notices.old) (N.sent notices.new) (O.sent out.old) (O.sent out.new) result }
         ensures nothing { result ≡ Ok Nothing → releasing.may_release self.old ≡ false }
@@ -37,8 +64,8 @@ impl<D: Disk> Back<D> {
         ensures stays { OnErr result (Stays self.old self.new (N.sent notices.old) (N.sent notices.new) (O.sent out.old) (O.sent out.new)) }
         ensures outlet { (N.outlet notices.new ≡ N.outlet notices.old) × (N.left notices.new ≡ N.left notices.old) }
         ensures out { (O.outlet out.new ≡ O.outlet out.old) × (O.left out.new ≡ O.left out.old) }
-        ensures back { OnOk result (KeepsBack D.moment_of D.left_since D.told D.image D.faults_of true true self.old self.new) }
-        ensures stopped { OnErr result (KeepsBack D.moment_of D.left_since D.told D.image D.faults_of true false self.old self.new) }
+        ensures back { OnOk result (KeepsBackAs D.moment_of D.left_since D.told D.image D.faults_of true true self.old self.new) }
+        ensures stopped { OnErr result (KeepsBackAs D.moment_of D.left_since D.told D.image D.faults_of true false self.old self.new) }
     {
         if self.stuck {
             return Ok(Stepped::Nothing);

@@ -1,6 +1,6 @@
 //! What a back keeps of its disk.
-ghost use Rattle.std.specs.Prelude.{◌≡◌, List, ℕ, Some};
-ghost use Rattle.batch_journal.specs.Rest.{CanStage, CanAppend, disk_in};
+ghost use Rattle.std.specs.Prelude.{◌≡◌};
+ghost use Rattle.batch_journal.specs.Rest.{CanStage, CanAppend};
 ghost use Rattle.batch_journal.specs.declared.journal.Journal.{Journal};
 ghost use Rattle.output_gate.specs.Storing.{Appends, Stages, IsDiskOf};
 

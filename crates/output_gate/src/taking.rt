@@ -1,16 +1,13 @@
 //! Taking what the object says.
-ghost use Rattle.std.specs.Prelude.{◌≡◌, ◌≢◌, ◌⊎◌, ◌+◌, ◌≤◌, ◌<◌, ◌++◌, [], ◌∷◌, true, false, Ok, Some, None, List, ℕ, option_to_list, IfOk, OnOk, OnErr, length, vec_len};
-ghost use Rattle.std.specs.Vec.{vec_capacity};
+ghost use Rattle.std.specs.Prelude.{◌≡◌, ◌++◌, [], ◌∷◌, true, false, Ok, Some, option_to_list, IfOk, OnOk, OnErr, length};
 ghost use Rattle.lane.specs.Lanes.{StartsWith};
 ghost use Rattle.storage_map.specs.Ops.{batch_bytes, IsBatch};
 ghost use Rattle.storage_map.specs.Limits.{Object, IsObject};
-ghost use Rattle.storage_map.specs.declared.op.Op.{Op};
 ghost use Rattle.batch_journal.specs.Rest.{CanStage};
 ghost use Rattle.batch_journal.specs.declared.journal.Journal.{Journal};
-ghost use Rattle.timeline.specs.Logs.{backed};
 ghost use Rattle.timeline.specs.declared.notice.Stepped.TheVariants.{Did, Nothing};
 ghost use Rattle.output_gate.specs.Entering.{Enters, IsIdle, Takes, LosesEntry, CanTake, TakesOwn, FailsOwn, CanTakeDown, TakesDown, FailsDown, TakesLate, late_held, notice_at};
-ghost use Rattle.output_gate.specs.Serving.{CanServe, KeepsBack};
+ghost use Rattle.output_gate.specs.Serving.{CanServe, CanServeAs, KeepsBack, KeepsBackAs, StopsBy, is_stopped, IsAsBefore};
 ghost use Rattle.output_gate.specs.Storing.{Stages};
 ghost use Rattle.output_gate.specs.Taking as taking;
 ghost use Rattle.output_gate.specs.Taking.{LogRoom, LogTook, LogSame, notice_of};
@@ -28,13 +25,43 @@ use timeline::{BackLog, Body, Cause, Entry, Failure, Message, Notice, Stepped};
 
 impl<D: Disk> Back<D> {
     /// Takes the next entry of the line. A batch is staged and its writes are seen from here on, an ask is answered, and
-    /// messages, syncs and halts are held. After `NoMemory` the back is stopped.
+    /// messages, syncs and halts are held. After `NoMemory` the back is stopped: each further step but `flush` answers `NoMemory`
+    /// and does nothing.
     pub fn take<L: Inlet<Entry>, N: Outlet<Notice>>(
         &mut self,
         line: &mut L,
         notices: &mut N,
     ) -> Mem<Stepped>
-        requires { CanServe D.moment_of D.left_since D.told D.image D.faults_of true self.old }
+        requires { CanServe D.moment_of D.left_since D.told D.image D.faults_of self.old }
+        ensures stopped { is_stopped self.old ≡ true → OnOk result ⊥
+            × (self.new ≡ self.old) × (L.got line.new ≡ L.got line.old) × (N.sent notices.new ≡ N.sent notices.old) }
+        ensures barred { is_stopped self.old ≡ false → taking.may_take self.old ≡ false
+            → IsIdle self.old self.new (L.got line.old) (L.got line.new) (N.sent notices.old) (N.sent notices.new) result }
+        ensures nothing { result ≡ Ok Nothing → IsIdle self.old self.new (L.got line.old) (L.got line.new) (N.sent notices.old) (N.sent notices.new) result }
+        ensures empty { result ≡ Ok Nothing → taking.may_take self.old ≡ true → StartsWith (L.got line.old) (L.told line.old) }
+        ensures took { result ≡ Ok Did → Takes self.old self.new (L.got line.old) (L.got line.new) (N.sent notices.old) (N.sent notices.new) }
+        ensures lost { is_stopped self.old ≡ false
+            → OnErr result (LosesEntry self.old self.new (L.got line.old) (L.got line.new) (N.sent notices.old) (N.sent notices.new)) }
+        ensures stops { StopsBy result self.new }
+        ensures inlet { (L.inlet line.new ≡ L.inlet line.old) × (L.told line.new ≡ L.told line.old) }
+        ensures outlet { (N.outlet notices.new ≡ N.outlet notices.old) × (N.left notices.new ≡ N.left notices.old) }
+        ensures back { KeepsBack D.moment_of D.left_since D.told D.image D.faults_of self.old self.new }
+    {
+        if self.stopped {
+            return Err(NoMemory);
+        }
+        let stepped = self.take_next(line, notices);
+        self.stopped = stepped.is_err();
+        stepped
+    }
+
+    // The same of a back that isn't stopped, but for the note that memory was wanting.
+    fn take_next<L: Inlet<Entry>, N: Outlet<Notice>>(
+        &mut self,
+        line: &mut L,
+        notices: &mut N,
+    ) -> Mem<Stepped>
+        requires { CanServeAs D.moment_of D.left_since D.told D.image D.faults_of true self.old }
         ensures barred { taking.may_take self.old ≡ false
             → IsIdle self.old self.new (L.got line.old) (L.got line.new) (N.sent notices.old) (N.sent notices.new) result }
         ensures nothing { result ≡ Ok Nothing → IsIdle self.old self.new (L.got line.old) (L.got line.new) (N.sent notices.old) (N.sent notices.new) result }
@@ -43,8 +70,8 @@ impl<D: Disk> Back<D> {
         ensures lost { OnErr result (LosesEntry self.old self.new (L.got line.old) (L.got line.new) (N.sent notices.old) (N.sent notices.new)) }
         ensures inlet { (L.inlet line.new ≡ L.inlet line.old) × (L.told line.new ≡ L.told line.old) }
         ensures outlet { (N.outlet notices.new ≡ N.outlet notices.old) × (N.left notices.new ≡ N.left notices.old) }
-        ensures back { OnOk result (KeepsBack D.moment_of D.left_since D.told D.image D.faults_of true true self.old self.new) }
-        ensures stopped { OnErr result (KeepsBack D.moment_of D.left_since D.told D.image D.faults_of true false self.old self.new) }
+        ensures back { OnOk result (KeepsBackAs D.moment_of D.left_since D.told D.image D.faults_of true true self.old self.new) }
+        ensures stopped { OnErr result (KeepsBackAs D.moment_of D.left_since D.told D.image D.faults_of true false self.old self.new) }
     {
         if !self.may_take() {
             return Ok(Stepped::Nothing);
@@ -96,13 +123,13 @@ impl<D: Disk> Back<D> {
 
     // Takes an entry. A notice is there where the front waits for one that can be given at once.
     fn take_entry(&mut self, entry: Entry) -> Mem<Option<Notice>>
-        requires back { CanServe D.moment_of D.left_since D.told D.image D.faults_of true self.old }
+        requires back { CanServeAs D.moment_of D.left_since D.told D.image D.faults_of true self.old }
         requires may { taking.may_take self.old ≡ true }
         ensures notice { IfOk result (λ notice. notice ≡ notice_at self.old entry) }
         ensures enters { OnOk result (Enters self.old self.new entry) }
-        ensures kept { OnErr result (backed self.new.log ≡ backed self.old.log) }
-        ensures back { OnOk result (KeepsBack D.moment_of D.left_since D.told D.image D.faults_of true true self.old self.new) }
-        ensures stopped { OnErr result (KeepsBack D.moment_of D.left_since D.told D.image D.faults_of true false self.old self.new) }
+        ensures kept { OnErr result (IsAsBefore self.old self.new) }
+        ensures back { OnOk result (KeepsBackAs D.moment_of D.left_since D.told D.image D.faults_of true true self.old self.new) }
+        ensures stopped { OnErr result (KeepsBackAs D.moment_of D.left_since D.told D.image D.faults_of true false self.old self.new) }
     {
         match self.fit_of(&entry) {
             Fit::Unfit => {
@@ -117,14 +144,14 @@ impl<D: Disk> Back<D> {
 
     // An entry of the newest incarnation, which is mounted.
     fn enter_own(&mut self, entry: Entry) -> Mem<Option<Notice>>
-        requires back { CanServe D.moment_of D.left_since D.told D.image D.faults_of true self.old }
+        requires back { CanServeAs D.moment_of D.left_since D.told D.image D.faults_of true self.old }
         requires may { taking.may_take self.old ≡ true }
         requires fit { taking.fit_of self.old entry ≡ Fit.Own }
         ensures notice { IfOk result (λ notice. notice ≡ notice_at self.old entry) }
         ensures enters { OnOk result (Enters self.old self.new entry) }
-        ensures kept { OnErr result (backed self.new.log ≡ backed self.old.log) }
-        ensures back { OnOk result (KeepsBack D.moment_of D.left_since D.told D.image D.faults_of true true self.old self.new) }
-        ensures stopped { OnErr result (KeepsBack D.moment_of D.left_since D.told D.image D.faults_of true false self.old self.new) }
+        ensures kept { OnErr result (IsAsBefore self.old self.new) }
+        ensures back { OnOk result (KeepsBackAs D.moment_of D.left_since D.told D.image D.faults_of true true self.old self.new) }
+        ensures stopped { OnErr result (KeepsBackAs D.moment_of D.left_since D.told D.image D.faults_of true false self.old self.new) }
     {
         make_room(&mut self.log)?;
         let Entry {
@@ -137,14 +164,14 @@ impl<D: Disk> Back<D> {
 
     // An entry of the newest incarnation, which isn't mounted.
     fn enter_down(&mut self, entry: Entry) -> Mem<Option<Notice>>
-        requires back { CanServe D.moment_of D.left_since D.told D.image D.faults_of true self.old }
+        requires back { CanServeAs D.moment_of D.left_since D.told D.image D.faults_of true self.old }
         requires may { taking.may_take self.old ≡ true }
         requires fit { taking.fit_of self.old entry ≡ Fit.Down }
         ensures notice { IfOk result (λ notice. notice ≡ notice_at self.old entry) }
         ensures enters { OnOk result (Enters self.old self.new entry) }
-        ensures kept { OnErr result (backed self.new.log ≡ backed self.old.log) }
-        ensures back { OnOk result (KeepsBack D.moment_of D.left_since D.told D.image D.faults_of true true self.old self.new) }
-        ensures stopped { OnErr result (KeepsBack D.moment_of D.left_since D.told D.image D.faults_of true false self.old self.new) }
+        ensures kept { OnErr result (IsAsBefore self.old self.new) }
+        ensures back { OnOk result (KeepsBackAs D.moment_of D.left_since D.told D.image D.faults_of true true self.old self.new) }
+        ensures stopped { OnErr result (KeepsBackAs D.moment_of D.left_since D.told D.image D.faults_of true false self.old self.new) }
     {
         make_room(&mut self.log)?;
         let Entry {
@@ -158,14 +185,14 @@ impl<D: Disk> Back<D> {
 
     // An entry of an incarnation that has ended.
     fn enter_late(&mut self, entry: Entry) -> Mem<Option<Notice>>
-        requires back { CanServe D.moment_of D.left_since D.told D.image D.faults_of true self.old }
+        requires back { CanServeAs D.moment_of D.left_since D.told D.image D.faults_of true self.old }
         requires may { taking.may_take self.old ≡ true }
         requires fit { taking.fit_of self.old entry ≡ Fit.Late }
         ensures notice { IfOk result (λ notice. notice ≡ notice_at self.old entry) }
         ensures enters { OnOk result (Enters self.old self.new entry) }
-        ensures kept { OnErr result (backed self.new.log ≡ backed self.old.log) }
-        ensures back { OnOk result (KeepsBack D.moment_of D.left_since D.told D.image D.faults_of true true self.old self.new) }
-        ensures stopped { OnErr result (KeepsBack D.moment_of D.left_since D.told D.image D.faults_of true false self.old self.new) }
+        ensures kept { OnErr result (IsAsBefore self.old self.new) }
+        ensures back { OnOk result (KeepsBackAs D.moment_of D.left_since D.told D.image D.faults_of true true self.old self.new) }
+        ensures stopped { OnErr result (KeepsBackAs D.moment_of D.left_since D.told D.image D.faults_of true false self.old self.new) }
     {
         make_room(&mut self.log)?;
         self.take_late(entry)?;

@@ -3,7 +3,8 @@ use Rattle.do_tree.specs.Checked.{tree_of}
 use Rattle.timeline.specs.Eligible.{is_fit}
 use Rattle.front_turns.specs.Held.{life_in}
 use Rattle.object_front.specs.Taking.{at_mode}
-use Rattle.object_front.proofs.Judging.{fit_doing, some_class, unfit_doing}
+use Rattle.object_front.proofs.Held.{some_class}
+use Rattle.object_front.proofs.Judging.{fit_doing, unfit_doing}
 use Rattle.object_front.proofs.testing.decide.Goals as goal
 
 pub returns-then-is_fit : goal.returns-then-is_fit

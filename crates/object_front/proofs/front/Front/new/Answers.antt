@@ -1,6 +1,9 @@
 use Rattle.std.proofs.Common.{sym, refl, ap, ℕ, List, [], map, arith}
+use Rattle.do_tree.specs.Checked.{tree_of as script_in}
+use Rattle.do_tree.specs.Lookup.{constructor_of}
 use Rattle.timeline.specs.declared.entry.Entry.{Entry}
 use Rattle.timeline.specs.declared.event.Event.{Event}
+use Rattle.object_front.proofs.Blocks.{begun_gated}
 use Rattle.object_front.proofs.front.Front.new.Goals as goal
 
 pub returns-clause-stands : goal.returns-clause-stands
@@ -10,7 +13,8 @@ returns-clause-stands c = record {
   incarnation = refl;
   count = refl;
   mode = λ class is. ([], sym c.begin.ensures.object, c.begin.ensures.holds _);
-  deferred = c.new.ensures.items;
+  gate = λ class is. begun_gated (constructor_of (script_in c.args.checked.now) class) c.args.alarm;
+  deferred = c.new.ensures;
   stuck = refl;
   delivered_from = omega arith;
   sent_from = omega arith;

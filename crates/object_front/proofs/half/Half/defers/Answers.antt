@@ -7,9 +7,9 @@ use Rattle.object_front.proofs.half.Half.defers.Goals as goal
 pub returns-clause-moves : goal.returns-clause-moves
 returns-clause-moves g c =
     let h : Half g.row.T.Denot = c.args.self.now in
-    let new : Half g.row.T.Denot = record h { deferred = c.put.new.events } in
-    on_ok_weaker c.put.result
-    (λ (p : c.put.new.events.items ≡ h.deferred.items ++ c.args.event ∷ []). λ script st half.
+    let new : Half g.row.T.Denot = record h { deferred = c.add.new.self } in
+    on_ok_weaker c.add.result
+    (λ (p : c.add.new.self ≡ h.deferred ++ c.args.event ∷ []). λ script st half.
     kept_moves g.T.Task.seen script h new st (st.deferred ++ c.args.event ∷ []) st.stuck []
     (record {
       class = refl;
@@ -22,10 +22,10 @@ returns-clause-moves g c =
       sent = refl;
       downed = refl;
       ends = refl;
-    }) (behind h.due h.deferred.items st.deferred c.put.new.events.items c.args.event half.deferred p) half.stuck (sym (append-nil h.log.dropped.items)) half)
-    c.put.ensures.put
+    }) (behind h.due h.deferred st.deferred c.add.new.self c.args.event half.deferred p) half.stuck (sym (append-nil h.log.dropped.items)) half)
+    c.add.ensures.added
 
 pub returns-clause-same : goal.returns-clause-same
 returns-clause-same g c =
     let h : Half g.row.T.Denot = c.args.self.now in
-    on_err_weaker c.put.result (λ (p : c.put.new.events.items ≡ h.deferred.items). refl) c.put.ensures.same
+    on_err_weaker c.add.result (λ (p : c.add.new.self ≡ h.deferred). refl) c.add.ensures.same

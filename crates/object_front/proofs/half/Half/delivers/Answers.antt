@@ -9,7 +9,8 @@ use Rattle.object_front.specs.Taking.{class_after}
 use Rattle.object_front.specs.declared.half.Half.{Half}
 use Rattle.object_front.specs.declared.half.Mode.{Mode as HeldMode}
 use Rattle.object_front.specs.declared.half.Mode.TheVariants as held
-use Rattle.object_front.proofs.Entered.{class_there, delivers_cut, delivers_moves, delivery_of, idle_at, idles_in, is_known, will_be_known}
+use Rattle.object_front.proofs.Decided.{delivery_of}
+use Rattle.object_front.proofs.Entered.{class_there, delivers_cut, delivers_moves, idle_at, idles_in, is_known, will_be_known}
 use Rattle.object_front.proofs.Fitted.{at_moment, of_method}
 use Rattle.object_front.proofs.half.Half.delivers.Goals as goal
 

@@ -5,7 +5,7 @@ use Rattle.timeline.specs.Steps.{answers}
 use Rattle.front_turns.specs.Held.{life_in, object_of}
 use Rattle.front_turns.specs.declared.object.State.TheVariants.{Waiting}
 use Rattle.object_front.specs.declared.half.Mode.TheVariants.{Serves}
-use Rattle.object_front.proofs.Noticed.{Waits, waits_here, answer_leads, moves_on, stops_on}
+use Rattle.object_front.proofs.Noticed.{Waits, waits_here, answer_gated, answer_leads, moves_on, stops_on}
 use Rattle.object_front.proofs.half.Half.go_on_in.Goals as goal
 
 pub answer_turn-requires-clause-held : goal.answer_turn-requires-clause-held
@@ -35,3 +35,4 @@ returns-clause-moves g c = λ a n is st half.
     (answers l (object_of c.args.object w.tasks) w.goes c.args.answer) c.answer_turn.new.sent c.in-Ok.state c.in-Ok.count half c.requires.class
     (answer_leads g.T.Task.seen script c.args.self.now c.args.class c.args.object c.args.running c.args.task a n c.args.answer st half is w)
     (c.in-Ok.ensures.speaks w.tasks w.goes w.held w.paused)
+    (answer_gated g.T.Task.seen script c.args.self.now c.args.class c.args.object c.args.running c.args.task a c.args.answer st half c.requires.class w)

@@ -1,10 +1,10 @@
-use Rattle.std.proofs.Common.{◌∙◌, sym, refl, ap, List, take, slice_get, Option}
-use Rattle.std.specs.List.{list_any}
-use Rattle.std.proofs.lemmas.Option.{none-some}
+use Rattle.std.proofs.Common.{◌∙◌, sym, refl, ap, List, Option}
+use Rattle.std.proofs.lemmas.Option.{IfSome_then, none-some}
 use Rattle.timeline.specs.declared.event.Event.{Event}
+use Rattle.input_gate.specs.Deferring.{TakesFirst}
 use Rattle.object_front.specs.Taking.{may_enter}
 use Rattle.object_front.specs.declared.half.Half.{Half}
-use Rattle.object_front.proofs.First.{behind_due, due_taken, first_taken, if_none, if_some, mode_for, none_taken, same_due}
+use Rattle.object_front.proofs.First.{due_taken, first_behind, first_taken, gate_for, if_none, if_none_then, if_some, mode_for, none_taken, same_due}
 use Rattle.object_front.proofs.half.Half.take_deferred.Goals as goal
 
 pub returns-then-is_due-clause-some : goal.returns-then-is_due-clause-some
@@ -36,15 +36,14 @@ pub returns-then-is_due-clause-same : goal.returns-then-is_due-clause-same
 returns-then-is_due-clause-same g c = if_none c.take.result (λ is.
     ap (λ (o : Option Event). record c.args.self.now { due = o }) (c.take.ensures.after ∙ sym is ∙ c.take.ensures.value))
 
-pub returns-in-Some-clause-some : goal.returns-in-Some-clause-some
-returns-in-Some-clause-some g c = λ script st half.
+pub returns-clause-some : goal.returns-clause-some
+returns-clause-some g c = IfSome_then c.take_entering.result c.take_entering.ensures.some (λ e takes script st half.
     let h : Half g.row.T.Denot = c.args.self.now in
     let m = mode_for g.T.Task.seen script h st half in
-    let behind = behind_due (may_enter st.front.mode) h.due h.deferred.items c.take_place.new.events.items c.take_place.result c.in-Some.place
-    (c.is_due.ensures.no c.if-is_due.false m.0 st.front.mode m.1) c.take_place.ensures.there
-    (ap (λ (ds : List Event). list_any (may_enter st.front.mode) (take c.in-Some.place ds)) (sym c.deref.ensures.value) ∙ c.in-Some.ensures.before m.0 st.front.mode m.1)
-    c.take_place.ensures.rest in
-    first_taken g.T.Task.seen script h (record h { deferred = c.take_place.new.events }) st c.take_place.result _ half
+    let gate = gate_for g.T.Task.seen script h st half in
+    let first : TakesFirst (may_enter st.front.mode) h.deferred c.take_entering.new.deferred e = takes m.0 st.front.mode gate.0 m.1 gate.1 in
+    let behind = first_behind (may_enter st.front.mode) h.due h.deferred c.take_entering.new.deferred e (c.is_due.ensures.no c.if-is_due.false m.0 st.front.mode m.1) first in
+    first_taken g.T.Task.seen script h (record h { deferred = c.take_entering.new.deferred }) st e _ half
     (record {
       class = refl;
       incarnation = refl;
@@ -56,12 +55,15 @@ returns-in-Some-clause-some g c = λ script st half.
       sent = refl;
       downed = refl;
       ends = refl;
-    }) refl (c.in-Some.ensures.may m.0 st.front.mode c.take_place.result m.1
-    (ap (λ (ds : List Event). slice_get ds c.in-Some.place) c.deref.ensures.value ∙ c.take_place.ensures.there)) behind behind.rest
+    }) refl first.may_enter behind behind.rest)
 
-pub returns-in-None-clause-none : goal.returns-in-None-clause-none
-returns-in-None-clause-none g c = λ script st half.
+pub returns-clause-none : goal.returns-clause-none
+returns-clause-none g c = if_none_then c.take_entering.result c.take_entering.ensures.none (λ none script st half.
     let h : Half g.row.T.Denot = c.args.self.now in
     let m = mode_for g.T.Task.seen script h st half in
-    none_taken g.T.Task.seen script h st half (c.is_due.ensures.no c.if-is_due.false m.0 st.front.mode m.1)
-    (ap (list_any (may_enter st.front.mode)) (sym c.deref.ensures.value) ∙ c.in-None.ensures.none m.0 st.front.mode m.1)
+    let gate = gate_for g.T.Task.seen script h st half in
+    none_taken g.T.Task.seen script h st half (c.is_due.ensures.no c.if-is_due.false m.0 st.front.mode m.1) (none m.0 st.front.mode gate.0 m.1 gate.1))
+
+pub returns-clause-same : goal.returns-clause-same
+returns-clause-same g c = if_none_then c.take_entering.result c.take_entering.ensures.same (λ same.
+    ap (λ (ds : List Event). record c.args.self.now { deferred = ds }) same)

@@ -1,9 +1,9 @@
 use Rattle.std.proofs.Common.{ap, sym, inr, List, ℕ, true, false}
 use Rattle.storage_map.specs.declared.op.Op.{Op}
 use Rattle.output_gate.specs.Entering.{notice_as}
-use Rattle.output_gate.specs.Serving.{IsBack}
+use Rattle.output_gate.specs.Serving.{IsBackAs}
 use Rattle.output_gate.specs.declared.fit.Fit.{Fit}
-use Rattle.output_gate.proofs.Enter.{down_unmounted, down_can, down_enters}
+use Rattle.output_gate.proofs.Enter.{before_room, room_only, down_unmounted, down_can, down_enters}
 use Rattle.output_gate.proofs.Entered.{on_err}
 use Rattle.output_gate.proofs.Gone.{back_room, back_stopped}
 use Rattle.output_gate.proofs.back.Back.enter_down.Goals as goal
@@ -15,7 +15,7 @@ take_down-requires g c =
 
 pub returns-in_err-make_room-clause-stopped : goal.returns-in_err-make_room-clause-stopped
 returns-in_err-make_room-clause-stopped g c =
-    let f : (start : List (List Op)) (opening : ℕ) → IsBack g.D.Disk.moment_of g.D.Disk.left_since g.D.Disk.told g.D.Disk.image g.D.Disk.faults_of start opening true c.args.self.now → IsBack g.D.Disk.moment_of g.D.Disk.left_since g.D.Disk.told g.D.Disk.image g.D.Disk.faults_of start opening false (record c.args.self.now { log = c.make_room.new.log }) =
+    let f : (start : List (List Op)) (opening : ℕ) → IsBackAs g.D.Disk.moment_of g.D.Disk.left_since g.D.Disk.told g.D.Disk.image g.D.Disk.faults_of start opening true c.args.self.now → IsBackAs g.D.Disk.moment_of g.D.Disk.left_since g.D.Disk.told g.D.Disk.image g.D.Disk.faults_of start opening false (record c.args.self.now { log = c.make_room.new.log }) =
     λ start opening b. back_stopped g.D.Disk.moment_of g.D.Disk.left_since g.D.Disk.told g.D.Disk.image g.D.Disk.faults_of start opening (record c.args.self.now { log = c.make_room.new.log }) (back_room g.D.Disk.moment_of g.D.Disk.left_since g.D.Disk.told g.D.Disk.image g.D.Disk.faults_of start opening c.args.self.now c.make_room.new.log c.make_room.ensures.same b) in
     on_err _ _ f
 
@@ -32,6 +32,12 @@ returns-clause-back g c start opening b =
 
 pub returns-in_err-take_down-clause-stopped : goal.returns-in_err-take_down-clause-stopped
 returns-in_err-take_down-clause-stopped g c =
-    let f : (start : List (List Op)) (opening : ℕ) → IsBack g.D.Disk.moment_of g.D.Disk.left_since g.D.Disk.told g.D.Disk.image g.D.Disk.faults_of start opening true c.args.self.now → IsBack g.D.Disk.moment_of g.D.Disk.left_since g.D.Disk.told g.D.Disk.image g.D.Disk.faults_of start opening false c.take_down.new.self =
+    let f : (start : List (List Op)) (opening : ℕ) → IsBackAs g.D.Disk.moment_of g.D.Disk.left_since g.D.Disk.told g.D.Disk.image g.D.Disk.faults_of start opening true c.args.self.now → IsBackAs g.D.Disk.moment_of g.D.Disk.left_since g.D.Disk.told g.D.Disk.image g.D.Disk.faults_of start opening false c.take_down.new.self =
     λ start opening b. inr (c.in_err-take_down.ensures.failed.back start opening (down_unmounted g.D.Disk.moment_of g.D.Disk.left_since g.D.Disk.told g.D.Disk.image g.D.Disk.faults_of start opening c.args.self.now c.make_room.new.log c.args.entry c.make_room.ensures.same c.requires.fit b)) in
     on_err _ _ f
+
+pub returns-in_err-make_room-clause-kept : goal.returns-in_err-make_room-clause-kept
+returns-in_err-make_room-clause-kept g c = on_err _ _ (room_only c.args.self.now c.make_room.new.log c.make_room.ensures.same)
+
+pub returns-in_err-take_down-clause-kept : goal.returns-in_err-take_down-clause-kept
+returns-in_err-take_down-clause-kept g c = on_err _ _ (before_room c.args.self.now c.take_down.new.self c.make_room.new.log c.make_room.ensures.same c.in_err-take_down.ensures.failed.same)

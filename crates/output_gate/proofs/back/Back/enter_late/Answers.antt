@@ -1,16 +1,16 @@
 use Rattle.std.proofs.Common.{ap, sym, List, ℕ, true, false}
 use Rattle.storage_map.specs.declared.op.Op.{Op}
 use Rattle.output_gate.specs.Entering.{notice_as}
-use Rattle.output_gate.specs.Serving.{IsBack}
+use Rattle.output_gate.specs.Serving.{IsBackAs}
 use Rattle.output_gate.specs.declared.fit.Fit.{Fit}
-use Rattle.output_gate.proofs.Enter.{late_enters, late_back}
-use Rattle.output_gate.proofs.Entered.{on_err}
+use Rattle.output_gate.proofs.Enter.{room_only, late_enters, late_back}
+use Rattle.output_gate.proofs.Entered.{on_err, as_before}
 use Rattle.output_gate.proofs.Gone.{back_room, back_stopped, back_held}
 use Rattle.output_gate.proofs.back.Back.enter_late.Goals as goal
 
 pub returns-in_err-make_room-clause-stopped : goal.returns-in_err-make_room-clause-stopped
 returns-in_err-make_room-clause-stopped g c =
-    let f : (start : List (List Op)) (opening : ℕ) → IsBack g.D.Disk.moment_of g.D.Disk.left_since g.D.Disk.told g.D.Disk.image g.D.Disk.faults_of start opening true c.args.self.now → IsBack g.D.Disk.moment_of g.D.Disk.left_since g.D.Disk.told g.D.Disk.image g.D.Disk.faults_of start opening false (record c.args.self.now { log = c.make_room.new.log }) =
+    let f : (start : List (List Op)) (opening : ℕ) → IsBackAs g.D.Disk.moment_of g.D.Disk.left_since g.D.Disk.told g.D.Disk.image g.D.Disk.faults_of start opening true c.args.self.now → IsBackAs g.D.Disk.moment_of g.D.Disk.left_since g.D.Disk.told g.D.Disk.image g.D.Disk.faults_of start opening false (record c.args.self.now { log = c.make_room.new.log }) =
     λ start opening b. back_stopped g.D.Disk.moment_of g.D.Disk.left_since g.D.Disk.told g.D.Disk.image g.D.Disk.faults_of start opening (record c.args.self.now { log = c.make_room.new.log }) (back_room g.D.Disk.moment_of g.D.Disk.left_since g.D.Disk.told g.D.Disk.image g.D.Disk.faults_of start opening c.args.self.now c.make_room.new.log c.make_room.ensures.same b) in
     on_err _ _ f
 
@@ -23,7 +23,7 @@ returns-clause-enters g c =
 
 pub returns-in_err-take_late-clause-stopped : goal.returns-in_err-take_late-clause-stopped
 returns-in_err-take_late-clause-stopped g c =
-    let f : (start : List (List Op)) (opening : ℕ) → IsBack g.D.Disk.moment_of g.D.Disk.left_since g.D.Disk.told g.D.Disk.image g.D.Disk.faults_of start opening true c.args.self.now → IsBack g.D.Disk.moment_of g.D.Disk.left_since g.D.Disk.told g.D.Disk.image g.D.Disk.faults_of start opening false c.take_late.new.self =
+    let f : (start : List (List Op)) (opening : ℕ) → IsBackAs g.D.Disk.moment_of g.D.Disk.left_since g.D.Disk.told g.D.Disk.image g.D.Disk.faults_of start opening true c.args.self.now → IsBackAs g.D.Disk.moment_of g.D.Disk.left_since g.D.Disk.told g.D.Disk.image g.D.Disk.faults_of start opening false c.take_late.new.self =
     λ start opening b. back_held g.D.Disk.moment_of g.D.Disk.left_since g.D.Disk.told g.D.Disk.image g.D.Disk.faults_of start opening (record c.args.self.now { log = c.make_room.new.log }) c.take_late.new.self c.in_err-take_late.ensures.kept.0 c.in_err-take_late.ensures.kept.1
     (back_room g.D.Disk.moment_of g.D.Disk.left_since g.D.Disk.told g.D.Disk.image g.D.Disk.faults_of start opening c.args.self.now c.make_room.new.log c.make_room.ensures.same b) in
     on_err _ _ f
@@ -31,3 +31,11 @@ returns-in_err-take_late-clause-stopped g c =
 pub returns-clause-back : goal.returns-clause-back
 returns-clause-back g c start opening b =
     late_back g.D.Disk.moment_of g.D.Disk.left_since g.D.Disk.told g.D.Disk.image g.D.Disk.faults_of start opening c.args.self.now c.take_late.new.self c.make_room.new.log c.args.entry c.make_room.ensures.same c.requires.fit c.in_ok-take_late.ensures.took b
+
+pub returns-in_err-make_room-clause-kept : goal.returns-in_err-make_room-clause-kept
+returns-in_err-make_room-clause-kept g c = on_err _ _ (room_only c.args.self.now c.make_room.new.log c.make_room.ensures.same)
+
+pub returns-in_err-take_late-clause-kept : goal.returns-in_err-take_late-clause-kept
+returns-in_err-take_late-clause-kept g c =
+    let k = c.in_err-take_late.ensures.kept in
+    on_err _ _ (as_before c.args.self.now c.take_late.new.self c.args.self.now.store c.args.self.now.cache c.take_late.new.self.held c.make_room.new.log k.1 c.make_room.ensures.same.same k.0)

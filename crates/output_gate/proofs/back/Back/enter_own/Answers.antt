@@ -2,9 +2,9 @@ use Rattle.std.proofs.Common.{◌∙◌, ap, sym, inl, List, ℕ, true, false}
 use Rattle.std.proofs.lemmas.Result.{IfOk-weaker, on_ok_weaker}
 use Rattle.storage_map.specs.declared.op.Op.{Op}
 use Rattle.output_gate.specs.Entering.{notice_as}
-use Rattle.output_gate.specs.Serving.{IsBack}
+use Rattle.output_gate.specs.Serving.{IsBackAs}
 use Rattle.output_gate.specs.declared.fit.Fit.{Fit}
-use Rattle.output_gate.proofs.Enter.{err_weaker, own_mounted, own_can, own_enters}
+use Rattle.output_gate.proofs.Enter.{err_weaker, before_room, room_only, own_mounted, own_can, own_enters}
 use Rattle.output_gate.proofs.Entered.{on_err}
 use Rattle.output_gate.proofs.Gone.{back_room, back_stopped}
 use Rattle.output_gate.proofs.back.Back.enter_own.Goals as goal
@@ -16,7 +16,7 @@ take_own-requires g c =
 
 pub returns-in_err-make_room-clause-stopped : goal.returns-in_err-make_room-clause-stopped
 returns-in_err-make_room-clause-stopped g c =
-    let f : (start : List (List Op)) (opening : ℕ) → IsBack g.D.Disk.moment_of g.D.Disk.left_since g.D.Disk.told g.D.Disk.image g.D.Disk.faults_of start opening true c.args.self.now → IsBack g.D.Disk.moment_of g.D.Disk.left_since g.D.Disk.told g.D.Disk.image g.D.Disk.faults_of start opening false (record c.args.self.now { log = c.make_room.new.log }) =
+    let f : (start : List (List Op)) (opening : ℕ) → IsBackAs g.D.Disk.moment_of g.D.Disk.left_since g.D.Disk.told g.D.Disk.image g.D.Disk.faults_of start opening true c.args.self.now → IsBackAs g.D.Disk.moment_of g.D.Disk.left_since g.D.Disk.told g.D.Disk.image g.D.Disk.faults_of start opening false (record c.args.self.now { log = c.make_room.new.log }) =
     λ start opening b. back_stopped g.D.Disk.moment_of g.D.Disk.left_since g.D.Disk.told g.D.Disk.image g.D.Disk.faults_of start opening (record c.args.self.now { log = c.make_room.new.log }) (back_room g.D.Disk.moment_of g.D.Disk.left_since g.D.Disk.told g.D.Disk.image g.D.Disk.faults_of start opening c.args.self.now c.make_room.new.log c.make_room.ensures.same b) in
     on_err _ _ f
 
@@ -38,3 +38,10 @@ pub returns-clause-stopped : goal.returns-clause-stopped
 returns-clause-stopped g c =
     err_weaker c.take_own.result _ _ (λ t start opening b. inl (t.back start opening
     (own_mounted g.D.Disk.moment_of g.D.Disk.left_since g.D.Disk.told g.D.Disk.image g.D.Disk.faults_of start opening c.args.self.now c.make_room.new.log c.args.entry c.make_room.ensures.same c.requires.fit b))) c.take_own.ensures.failed
+
+pub returns-in_err-make_room-clause-kept : goal.returns-in_err-make_room-clause-kept
+returns-in_err-make_room-clause-kept g c = on_err _ _ (room_only c.args.self.now c.make_room.new.log c.make_room.ensures.same)
+
+pub returns-clause-kept : goal.returns-clause-kept
+returns-clause-kept g c =
+    err_weaker c.take_own.result _ _ (λ t. before_room c.args.self.now c.take_own.new.self c.make_room.new.log c.make_room.ensures.same t.same) c.take_own.ensures.failed

@@ -1,42 +1,56 @@
-use Rattle.std.proofs.Common.{◌∙◌, refl, ap, inl, inr, List, ℕ}
+use Rattle.std.proofs.Common.{◌∙◌, refl, ap, inl, inr, List, ℕ, not}
 use Rattle.timeline.specs.Logs.{backed}
 use Rattle.timeline.specs.declared.back_log.Stop.{Stop}
 use Rattle.output_gate.specs.declared.back.Back.{Back}
+use Rattle.output_gate.specs.Serving.{is_stopped, ending_of}
+use Rattle.output_gate.proofs.Noted.{keeps_note}
 use Rattle.output_gate.proofs.Steps.{flushed_back, can_append, can_land, can_stop, mounted_lands, mounted_ends}
 use Rattle.output_gate.proofs.back.Back.flush.Goals as goal
 
 pub append-requires : goal.append-requires
 append-requires g c =
     let r = c.requires in
-    let m = flushed_back g.D.Disk.moment_of g.D.Disk.left_since g.D.Disk.told g.D.Disk.image g.D.Disk.faults_of r.1.0 r.1.1 r.0 c.args.self.now c.if-self.false r.1.2 in
+    let m = flushed_back g.D.Disk.moment_of g.D.Disk.left_since g.D.Disk.told g.D.Disk.image g.D.Disk.faults_of r.0 r.1 (not (is_stopped c.args.self.now)) c.args.self.now c.if-self.false r.2 in
     (m.journal, m.safe.store, can_append g.D.Disk.told g.D.Disk.image m.journal c.args.self.now m.safe c.if-self.false)
 
 pub land-requires : goal.land-requires
 land-requires g c =
     let r = c.requires in
-    let m = flushed_back g.D.Disk.moment_of g.D.Disk.left_since g.D.Disk.told g.D.Disk.image g.D.Disk.faults_of r.1.0 r.1.1 r.0 c.args.self.now c.if-self.false r.1.2 in
+    let m = flushed_back g.D.Disk.moment_of g.D.Disk.left_since g.D.Disk.told g.D.Disk.image g.D.Disk.faults_of r.0 r.1 (not (is_stopped c.args.self.now)) c.args.self.now c.if-self.false r.2 in
     can_land g.D.Disk.told g.D.Disk.image m.journal c.args.self.now c.append.new.self m.safe c.if-self.false
 
 pub stop-requires : goal.stop-requires
 stop-requires g c =
     let r = c.requires in
-    let m = flushed_back g.D.Disk.moment_of g.D.Disk.left_since g.D.Disk.told g.D.Disk.image g.D.Disk.faults_of r.1.0 r.1.1 r.0 c.args.self.now c.if-self.false r.1.2 in
+    let m = flushed_back g.D.Disk.moment_of g.D.Disk.left_since g.D.Disk.told g.D.Disk.image g.D.Disk.faults_of r.0 r.1 (not (is_stopped c.args.self.now)) c.args.self.now c.if-self.false r.2 in
     can_stop g.D.Disk.told g.D.Disk.image m.journal c.args.self.now c.append.new.self m.safe c.if-self.false
 
 pub returns-in-Ok : goal.returns-in-Ok
 returns-in-Ok g c = record {
   nothing = λ even. absurd (c.if-self.false even);
-  flushed = λ other. (refl, inl (ap backed c.land.ensures.log ∙ ap (λ (fs : List ℕ). record (backed c.args.self.now.log) { flights = fs }) c.land.ensures.flights));
-  back = λ start opening sound b.
-      let m = flushed_back g.D.Disk.moment_of g.D.Disk.left_since g.D.Disk.told g.D.Disk.image g.D.Disk.faults_of start opening sound c.args.self.now c.if-self.false b in
-      inl (mounted_lands g.D.Disk.moment_of g.D.Disk.left_since g.D.Disk.told g.D.Disk.image g.D.Disk.faults_of g.met.D.Disk.counts_now start opening sound c.args.self.now c.land.new.self c.append.new.self m
-      c.if-self.false (c.in-Ok.ensures m.journal m.safe.store) c.land.ensures);
+  flushed = λ other. (
+    refl,
+    inl (record {
+      log = ap backed c.land.ensures.log ∙ ap (λ (fs : List ℕ). record (backed c.args.self.now.log) { flights = fs }) c.land.ensures.flights;
+      mode = ap (λ (b : Back g.row.D.Denot). b.mode) c.land.ensures.same;
+      held = ap (λ (b : Back g.row.D.Denot). b.held) c.land.ensures.same;
+      before = ap (λ (b : Back g.row.D.Denot). b.before) c.land.ensures.same;
+      durable = ap (λ (b : Back g.row.D.Denot). b.durable) c.land.ensures.same;
+    }),
+  );
+  stopped = ap is_stopped c.land.ensures.same;
+  back = λ start opening b.
+      let was = not (is_stopped c.args.self.now) in
+      let m = flushed_back g.D.Disk.moment_of g.D.Disk.left_since g.D.Disk.told g.D.Disk.image g.D.Disk.faults_of start opening was c.args.self.now c.if-self.false b in
+      keeps_note g.D.Disk.moment_of g.D.Disk.left_since g.D.Disk.told g.D.Disk.image g.D.Disk.faults_of start opening c.args.self.now c.land.new.self (ap is_stopped c.land.ensures.same)
+      (inl (mounted_lands g.D.Disk.moment_of g.D.Disk.left_since g.D.Disk.told g.D.Disk.image g.D.Disk.faults_of g.met.D.Disk.counts_now start opening was c.args.self.now c.land.new.self c.append.new.self m
+      c.if-self.false (c.in-Ok.ensures m.journal m.safe.store) c.land.ensures));
 }
 
 pub returns-in-Err : goal.returns-in-Err
 returns-in-Err g c =
     let r = c.requires in
-    let m = flushed_back g.D.Disk.moment_of g.D.Disk.left_since g.D.Disk.told g.D.Disk.image g.D.Disk.faults_of r.1.0 r.1.1 r.0 c.args.self.now c.if-self.false r.1.2 in
+    let m = flushed_back g.D.Disk.moment_of g.D.Disk.left_since g.D.Disk.told g.D.Disk.image g.D.Disk.faults_of r.0 r.1 (not (is_stopped c.args.self.now)) c.args.self.now c.if-self.false r.2 in
     let a = c.in-Err.ensures m.journal m.safe.store in
     record {
       nothing = λ even. absurd (c.if-self.false even);
@@ -50,10 +64,17 @@ returns-in-Err g c =
           into = ap (λ (b : Back g.row.D.Denot). b.store) c.stop.ensures.same ∙ a.is;
           by_cause = a.ended.cause;
           log = ap backed c.stop.ensures.log ∙ ap (λ (ss : List Stop). record (backed c.args.self.now.log) { stops = ss }) c.stop.ensures.stops;
+          mode = (ending_of c.args.self.now c.in-Err.fault, refl, ap (λ (b : Back g.row.D.Denot). b.mode) c.stop.ensures.same);
+          held = c.stop.ensures.held;
+          before = ap (λ (b : Back g.row.D.Denot). b.before) c.stop.ensures.same;
+          durable = ap (λ (b : Back g.row.D.Denot). b.durable) c.stop.ensures.same;
         }),
       );
-      back = λ start opening sound b.
-          let n = flushed_back g.D.Disk.moment_of g.D.Disk.left_since g.D.Disk.told g.D.Disk.image g.D.Disk.faults_of start opening sound c.args.self.now c.if-self.false b in
-          inr (mounted_ends g.D.Disk.moment_of g.D.Disk.left_since g.D.Disk.told g.D.Disk.image g.D.Disk.faults_of g.met.D.Disk.counts_now start opening sound c.args.self.now c.stop.new.self c.append.new.self
-          c.in-Err.fault n c.if-self.false (c.in-Err.ensures n.journal n.safe.store) c.stop.ensures);
+      stopped = ap is_stopped c.stop.ensures.same;
+      back = λ start opening b.
+          let was = not (is_stopped c.args.self.now) in
+          let n = flushed_back g.D.Disk.moment_of g.D.Disk.left_since g.D.Disk.told g.D.Disk.image g.D.Disk.faults_of start opening was c.args.self.now c.if-self.false b in
+          keeps_note g.D.Disk.moment_of g.D.Disk.left_since g.D.Disk.told g.D.Disk.image g.D.Disk.faults_of start opening c.args.self.now c.stop.new.self (ap is_stopped c.stop.ensures.same)
+          (inr (mounted_ends g.D.Disk.moment_of g.D.Disk.left_since g.D.Disk.told g.D.Disk.image g.D.Disk.faults_of g.met.D.Disk.counts_now start opening was c.args.self.now c.stop.new.self c.append.new.self
+          c.in-Err.fault n c.if-self.false (c.in-Err.ensures n.journal n.safe.store) c.stop.ensures));
     }

@@ -13,6 +13,7 @@ returns g c = record {
     identity = refl;
     map = c.new.ensures;
     stuck = refl;
+    stopped = refl;
   };
   back = λ disk is. inl (record {
     journal = c.args.mounted.journal;

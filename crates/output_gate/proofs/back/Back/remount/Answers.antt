@@ -3,6 +3,7 @@ use Rattle.batch_journal.specs.Moments.{LeavesOnly, TellsAsBefore}
 use Rattle.batch_journal.specs.Mounting.{ImageOrHeader}
 use Rattle.timeline.specs.declared.notice.Notice.TheVariants as notice
 use Rattle.output_gate.specs.Mending.{Misses}
+use Rattle.output_gate.proofs.Entered.{as_before}
 use Rattle.output_gate.proofs.Remounts.{remount_begins, remount_misses, remount_fails}
 use Rattle.output_gate.proofs.Falls.{begun_falls, wanted_falls, refused_rises, refused_falls, other_rises, other_falls}
 use Rattle.output_gate.proofs.back.Back.remount.Goals as goal
@@ -71,3 +72,7 @@ returns-in-Refused-clause-falls g c =
 
 pub returns-in-NoMemory-clause-falls : goal.returns-in-NoMemory-clause-falls
 returns-in-NoMemory-clause-falls g c = wanted_falls g.D.Disk.faults_of g.D.Disk.told c.args.self.now (record c.args.self.now { store = c.fill.new.self }) c.args.ending c.requires.wanted
+
+pub returns-in-NoMemory-clause-kept : goal.returns-in-NoMemory-clause-kept
+returns-in-NoMemory-clause-kept g c =
+    as_before c.args.self.now (record c.args.self.now { store = c.fill.new.self }) c.fill.new.self c.args.self.now.cache c.args.self.now.held c.args.self.now.log refl refl refl

@@ -1,0 +1,194 @@
+-- An entry that a back takes is a step of which the history speaks.
+use Rattle.std.proofs.Common.{◌≡◌, ◌∙◌, ap, sym, refl, subst, inl, inr, true≢false, eqb-true, eq-eqb, ℕ, suc, ◌+◌, ◌-◌, ◌≤◌, ◌==◌, List, [], ◌∷◌, ◌++◌, append-nil, length, arith, Option, Some, None}
+use Rattle.std.proofs.lemmas.Bool.{ltb-true, ltb-false}
+use Rattle.std.proofs.lemmas.Grind.{flat_map-append}
+use Rattle.std.specs.Prelude.{Bool, true, false, not, ◌&&◌, nat_lt, if◌then◌else◌, is_some, option_to_list}
+use Rattle.std.specs.List.{flat_map}
+use Rattle.storage_map.specs.declared.op.Op.{Op}
+use Rattle.timeline.specs.Logs.{backed}
+use Rattle.timeline.specs.declared.back_log.Stop.{Stop}
+use Rattle.timeline.specs.declared.entry.Body.{Body}
+use Rattle.timeline.specs.declared.entry.Body.TheVariants as body
+use Rattle.timeline.specs.declared.entry.Entry.{Entry}
+use Rattle.timeline.specs.declared.message.Message.TheVariants as message
+use Rattle.output_gate.specs.Ended.{AreInOrder, newest_as}
+use Rattle.output_gate.specs.Entering.{Enters, is_unfit, logged_as, notice_as, notice_at, held_by, late_by, held_as, mode_by, mode_after, before_by, before_after}
+use Rattle.output_gate.specs.Fits.{is_halt, comes_behind, fits_down, last_of}
+use Rattle.output_gate.specs.Serving.{IsBackAs}
+use Rattle.output_gate.specs.Taking.{fit_as, fits_so, fit_of, is_mounted_mode, is_wanted, may_take, most_unflushed}
+use Rattle.output_gate.specs.declared.back.Back.{Back}
+use Rattle.output_gate.specs.declared.back.Ending.{Ending}
+use Rattle.output_gate.specs.declared.back.Mode.{Mode}
+use Rattle.output_gate.specs.declared.back.Mode.TheVariants.{Mounted, Wanted, Down}
+use Rattle.object_history.proofs.GateStepping.{numbered_so}
+use Rattle.object_history.proofs.Seeing.{steps_to}
+use Rattle.object_history.specs.Pair.{Held, mounted}
+use Rattle.object_history.specs.Seen.{held_of, stand_of, rear_of}
+use Rattle.object_history.specs.Stepping.{BackSteps, takes_own, takes_down, takes_late, holds, before_next, stands_after}
+
+all_three : (a b c : Bool) → (a && b && c) ≡ true → (a ≡ true) × (b ≡ true) × (c ≡ true)
+all_three true true true is = (refl, refl, refl)
+all_three true true false is = absurd (true≢false (sym is))
+all_three true false c is = absurd (true≢false (sym is))
+all_three false b c is = absurd (true≢false (sym is))
+
+not_true : (a : Bool) → not a ≡ true → a ≡ false
+not_true true is = absurd (true≢false (sym is))
+not_true false is = refl
+
+same_eqb : (a b : ℕ) → a ≡ b → (a == b) ≡ true
+same_eqb a b is = eq-eqb a b is
+
+never_between : (a c : Bool) → (a && false && c) ≡ true → ⊥
+never_between true c is = true≢false (sym is)
+never_between false c is = true≢false (sym is)
+
+-- what is held of an entry, as the front's side sees it
+own_seen : (needs since number : ℕ) (b : Body) → flat_map held_of (held_by needs since number b) ≡ holds number needs b
+own_seen needs since number (body.Batch ops tail) = refl
+own_seen needs since number (body.Ask ask) = refl
+own_seen needs since number (body.Bind identity) = refl
+own_seen needs since number body.Sync = refl
+own_seen needs since number (body.Message sent) = refl
+own_seen needs since number (body.Halt cause) = refl
+own_seen needs since number body.Mend = refl
+
+down_seen : (needs since number : ℕ) (b : Body) → fits_down b ≡ true → flat_map held_of (held_by needs since number b) ≡ []
+down_seen needs since number (body.Batch ops tail) is = refl
+down_seen needs since number (body.Ask ask) is = refl
+down_seen needs since number (body.Bind identity) is = refl
+down_seen needs since number body.Sync is = absurd (true≢false (sym is))
+down_seen needs since number (body.Message sent) is = refl
+down_seen needs since number (body.Halt cause) is = absurd (true≢false (sym is))
+down_seen needs since number body.Mend is = refl
+
+late_seen : (stop : Option Stop) (settled incarnation : ℕ) (b : Body) → flat_map held_of (late_by stop settled incarnation b) ≡ []
+late_seen None settled incarnation b = refl
+late_seen (Some stop) settled incarnation (body.Message (message.Reply to result)) = refl
+late_seen (Some stop) settled incarnation (body.Message (message.Call i n to method args depth)) = refl
+late_seen (Some stop) settled incarnation (body.Message (message.Fetch i n value)) = refl
+late_seen (Some stop) settled incarnation (body.Batch ops tail) = refl
+late_seen (Some stop) settled incarnation (body.Ask ask) = refl
+late_seen (Some stop) settled incarnation (body.Bind identity) = refl
+late_seen (Some stop) settled incarnation body.Sync = refl
+late_seen (Some stop) settled incarnation (body.Halt cause) = refl
+late_seen (Some stop) settled incarnation body.Mend = refl
+
+before_seen : (n : ℕ) (b : Body) → before_by b n ≡ before_next n b
+before_seen n (body.Batch ops tail) = omega (arith)
+before_seen n (body.Ask ask) = refl
+before_seen n (body.Bind identity) = refl
+before_seen n body.Sync = refl
+before_seen n (body.Message sent) = refl
+before_seen n (body.Halt cause) = refl
+before_seen n body.Mend = refl
+
+stand_seen : (ending : Ending) (b : Body) → stand_of (mode_by b (Down ending)) ≡ stands_after ending.cause b
+stand_seen ending (body.Batch ops tail) = refl
+stand_seen ending (body.Ask ask) = refl
+stand_seen ending (body.Bind identity) = refl
+stand_seen ending body.Sync = refl
+stand_seen ending (body.Message sent) = refl
+stand_seen ending (body.Halt cause) = refl
+stand_seen ending body.Mend = refl
+
+-- An entry stands behind the last one: it isn't of a lower incarnation.
+behind_as : (last e : Entry) (same : Bool) → (last.incarnation == e.incarnation) ≡ same
+    → (if same then not (is_halt last.body) else nat_lt last.incarnation e.incarnation) ≡ true → last.incarnation ≤ e.incarnation
+behind_as last e true is comes = omega (arith, eqb-true last.incarnation e.incarnation is)
+behind_as last e false is comes = omega (arith, ltb-true last.incarnation e.incarnation comes)
+
+above : (last : Option Entry) (e : Entry) → comes_behind last e ≡ true → newest_as last ≤ e.incarnation
+above None e comes = omega (arith)
+above (Some last) e comes = behind_as last e (last.incarnation == e.incarnation) refl comes
+
+mounted_as : (mode : Mode) → is_mounted_mode mode ≡ true → stand_of mode ≡ mounted
+mounted_as Mounted is = refl
+mounted_as (Wanted ending) is = absurd (true≢false (sym is))
+mounted_as (Down ending) is = absurd (true≢false (sym is))
+
+module _ {D : Type 0} (moment_of : D → ℕ) (left_since : D → ℕ → List ℕ → Type 0) (told : D → Option (List ℕ)) (image : D → List ℕ → Type 0) (faults_of : D → ℕ)
+    (start : List (List Op)) (opening : ℕ) (sound : Bool) (back later : Back D)
+    (known : IsBackAs moment_of left_since told image faults_of start opening sound back) (may : may_take back ≡ true) (e : Entry) (enters : Enters back later e) where
+  in_order : IsBackAs moment_of left_since told image faults_of start opening sound back → AreInOrder back.log.taken.items back.log.stops.items
+  in_order (inl m) = m.logged.ordered
+  in_order (inr u) = u.logged.ordered
+
+  abbrev Steps : (x own on : Bool) → Type 0
+  Steps x own on = BackSteps (rear_of back) (rear_of later) (e ∷ []) (option_to_list (notice_as (fit_as x own on) e back.cache))
+
+  logs_as : (x own on : Bool) → fit_of back e ≡ fit_as x own on → backed later.log ≡ logged_as (fit_as x own on) (backed back.log) e
+  logs_as x own on is = enters.log ∙ ap (λ y. logged_as y (backed back.log) e) is
+
+  held_seen : (x own on : Bool) → fit_of back e ≡ fit_as x own on → flat_map held_of later.held.items ≡ flat_map held_of back.held.items ++ flat_map held_of (held_as (fit_as x own on) back e)
+  held_seen x own on is = ap (flat_map held_of) (enters.held ∙ ap (λ y. back.held.items ++ held_as y back e) is)
+      ∙ flat_map-append held_of back.held.items (held_as (fit_as x own on) back e)
+
+  stands_as : (x own on : Bool) → fit_of back e ≡ fit_as x own on → stand_of later.mode ≡ stand_of (mode_after (fit_as x own on) back.mode e.body)
+  stands_as x own on is = ap stand_of (enters.mode ∙ ap (λ y. mode_after y back.mode e.body) is)
+
+  counts_as : (x own on : Bool) → fit_of back e ≡ fit_as x own on → later.before ≡ before_after (fit_as x own on) back.before e.body
+  counts_as x own on is = enters.before ∙ ap (λ y. before_after y back.before e.body) is
+
+  own_steps : fit_of back e ≡ fit_as true true true → (e.incarnation == back.number) ≡ true → is_mounted_mode back.mode ≡ true → Steps true true true
+  own_steps is own on =
+      let incarnation : e.incarnation ≡ suc (length back.log.stops.items) =
+      eqb-true e.incarnation back.number own ∙ numbered_so moment_of left_since told image faults_of start opening sound back known in
+      steps_to (rear_of back) later (e ∷ []) _ _ (stand_of back.mode) (flat_map held_of back.held.items ++ holds e.number back.before e.body) (before_next back.before e.body) back.durable
+      (takes_own e later.cache (mounted_as back.mode on) incarnation) (logs_as true true true is) (stands_as true true true is)
+      (held_seen true true true is ∙ ap (λ (h : List Held). flat_map held_of back.held.items ++ h) (own_seen back.before back.number e.number e.body))
+      (counts_as true true true is ∙ before_seen back.before e.body) enters.durable
+
+  down_steps : (mode : Mode) → back.mode ≡ mode → fit_of back e ≡ fit_as true true false → (e.incarnation == back.number) ≡ true → is_mounted_mode mode ≡ false
+      → fits_down e.body ≡ true → Steps true true false
+  down_steps Mounted at is own off fits = absurd (true≢false off)
+  down_steps (Wanted ending) at is own off fits = absurd (never_between (not back.stuck) (nat_lt back.unflushed most_unflushed)
+      (subst (λ (m : Mode). (not back.stuck && not (is_wanted m) && nat_lt back.unflushed most_unflushed) ≡ true) at may))
+  down_steps (Down ending) at is own off fits =
+      let incarnation : e.incarnation ≡ suc (length back.log.stops.items) =
+      eqb-true e.incarnation back.number own ∙ numbered_so moment_of left_since told image faults_of start opening sound back known in
+      steps_to (rear_of back) later (e ∷ []) [] _ (stands_after ending.cause e.body) (flat_map held_of back.held.items) back.before back.durable
+      (takes_down e ending.cause later.cache (ap stand_of at) incarnation fits) (logs_as true true false is)
+      (stands_as true true false is ∙ ap (λ (m : Mode). stand_of (mode_by e.body m)) at ∙ stand_seen ending e.body)
+      (held_seen true true false is ∙ ap (λ (h : List Held). flat_map held_of back.held.items ++ h) (down_seen back.before (back.number - 1) e.number e.body fits) ∙ append-nil _)
+      (counts_as true true false is) enters.durable
+
+  late_steps : (on : Bool) → fit_of back e ≡ fit_as true false on → comes_behind (last_of back.log.taken.items) e ≡ true → not (nat_lt back.number e.incarnation) ≡ true
+      → (e.incarnation == back.number) ≡ false → Steps true false on
+  late_steps on is comes within other =
+      let number = numbered_so moment_of left_since told image faults_of start opening sound back known in
+      let most : e.incarnation ≤ back.number = ltb-false back.number e.incarnation (not_true (nat_lt back.number e.incarnation) within) in
+      let differs : e.incarnation ≡ back.number → ⊥ = λ same. true≢false (sym (same_eqb e.incarnation back.number same) ∙ other) in
+      let least = above (last_of back.log.taken.items) e comes in
+      let incarnation : suc e.incarnation ≡ suc (length back.log.stops.items) = omega (arith, number, most, differs, least, (in_order known).newest) in
+      steps_to (rear_of back) later (e ∷ []) [] _ (stand_of back.mode) (flat_map held_of back.held.items) back.before back.durable
+      (takes_late e later.cache incarnation) (logs_as true false on is) (stands_as true false on is)
+      (held_seen true false on is ∙ ap (λ (h : List Held). flat_map held_of back.held.items ++ h) (late_seen _ back.settled e.incarnation e.body) ∙ append-nil _)
+      (counts_as true false on is) enters.durable
+
+  abbrev fits : Bool
+  fits = comes_behind (last_of back.log.taken.items) e && not (nat_lt back.number e.incarnation) && fits_so (e.incarnation == back.number) (is_mounted_mode back.mode) (is_some back.identity) e.body
+
+  all_fit : fits ≡ true → (comes_behind (last_of back.log.taken.items) e ≡ true) × (not (nat_lt back.number e.incarnation) ≡ true)
+      × (fits_so (e.incarnation == back.number) (is_mounted_mode back.mode) (is_some back.identity) e.body ≡ true)
+  all_fit is = all_three (comes_behind (last_of back.log.taken.items) e) (not (nat_lt back.number e.incarnation))
+      (fits_so (e.incarnation == back.number) (is_mounted_mode back.mode) (is_some back.identity) e.body) is
+
+  fit_is : (x own on : Bool) → fits ≡ x → (e.incarnation == back.number) ≡ own → is_mounted_mode back.mode ≡ on → fit_of back e ≡ fit_as x own on
+  fit_is x own on is of_it stands = ap (λ (y : Bool). fit_as y (e.incarnation == back.number) (is_mounted_mode back.mode)) is
+      ∙ ap (λ (y : Bool). fit_as x y (is_mounted_mode back.mode)) of_it ∙ ap (λ (y : Bool). fit_as x own y) stands
+
+  steps_as : (x own on : Bool) → fits ≡ x → (e.incarnation == back.number) ≡ own → is_mounted_mode back.mode ≡ on → is_unfit (fit_as x own on) ≡ false
+      → Steps x own on
+  steps_as false own on is of_it stands fit_well = absurd (true≢false fit_well)
+  steps_as true true true is of_it stands fit_well = own_steps (fit_is true true true is of_it stands) of_it stands
+  steps_as true true false is of_it stands fit_well =
+      let all = all_fit is in
+      let down : fits_down e.body ≡ true = sym (ap (λ (y : Bool). fits_so y (is_mounted_mode back.mode) (is_some back.identity) e.body) of_it
+      ∙ ap (λ (y : Bool). fits_so true y (is_some back.identity) e.body) stands) ∙ all.2 in
+      down_steps back.mode refl (fit_is true true false is of_it stands) of_it stands down
+  steps_as true false on is of_it stands fit_well =
+      let all = all_fit is in late_steps on (fit_is true false on is of_it stands) all.0 all.1 of_it
+
+  pub take_steps : is_unfit (fit_of back e) ≡ false → BackSteps (rear_of back) (rear_of later) (e ∷ []) (option_to_list (notice_at back e))
+  take_steps fit_well = steps_as fits (e.incarnation == back.number) (is_mounted_mode back.mode) refl refl refl fit_well

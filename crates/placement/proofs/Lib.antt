@@ -1,0 +1,4 @@
+pub mod Positions
+pub mod Places
+pub mod Numbering
+pub mod Indexes
