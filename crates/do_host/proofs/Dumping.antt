@@ -12,8 +12,8 @@ use Rattle.storage_map.specs.Contents.{Contents}
 use Rattle.storage_map.specs.Limits.{Object}
 use Rattle.storage_map.specs.Readings.{keeps, listed}
 use Rattle.storage_map.specs.declared.options.Options.{Options}
-use Rattle.object_core.specs.Serving.{object_of, map_of}
-use Rattle.object_core.specs.declared.object.Core.{Core}
+use Rattle.first_object.specs.Serving.{object_of, map_of}
+use Rattle.first_object.specs.declared.object.Core.{Core}
 use Rattle.do_host.specs.Dump.{pairs_text, dump_text, IsDumpOf, Writes}
 use Rattle.do_host.specs.Opened.{IsOpened}
 use Rattle.do_host.specs.Report.{object_in}

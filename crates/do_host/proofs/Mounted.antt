@@ -18,8 +18,8 @@ use Rattle.batch_journal.specs.declared.mount.MountFault.TheVariants.{DiskFailed
 use Rattle.storage_map.specs.Contents.{Contents}
 use Rattle.storage_map.specs.Stored.{value_in}
 use Rattle.storage_map.proofs.Folds.{value_after-nothing}
-use Rattle.object_core.specs.Kept.{NameOnly}
-use Rattle.object_core.specs.Serving.{IsMounted}
+use Rattle.first_object.specs.Kept.{NameOnly}
+use Rattle.first_object.specs.Serving.{IsMounted}
 use Rattle.batch_journal.specs.Verdicts.{Verdict, IsSo, foreign, damaged, mixed}
 use Rattle.do_host.specs.Dump.{IsBadSlotLine}
 use Rattle.do_host.specs.EarlyEnds.{IsBarredBy, IsStoppedBy, IsSlotEnd, Bars, EndsMounting}

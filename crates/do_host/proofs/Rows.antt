@@ -6,10 +6,10 @@ use Rattle.std.proofs.lemmas.List.{append-nil}
 use Rattle.std.proofs.lemmas.List.Elements.{All-cons, All-nil}
 use Rattle.do_disk.specs.Disk.{Rose}
 use Rattle.batch_journal.specs.Frames.{Frame}
-use Rattle.object_core.specs.History.{line}
-use Rattle.object_core.specs.Within.{RecoversWithin}
-use Rattle.object_core.specs.Serving.{IsServing, IsWithinLimit, IsHistoryOf, limit_in, object_of, disk_of, front_of, back_of}
-use Rattle.object_core.specs.declared.object.Core.{Core}
+use Rattle.first_object.specs.History.{line}
+use Rattle.first_object.specs.Within.{RecoversWithin}
+use Rattle.first_object.specs.Serving.{IsServing, IsWithinLimit, IsHistoryOf, limit_in, object_of, disk_of, front_of, back_of}
+use Rattle.first_object.specs.declared.object.Core.{Core}
 use Rattle.do_host.specs.Switch.{of_slot, text_of, events_in}
 use Rattle.do_host.specs.Served.{Stands, IsLogged, IsBlank, HasWritten, WritesFirstOf}
 use Rattle.do_host.specs.Report.{object_in, IsSlotHistory, StaysWithin, IsQuiet, HasDisk, HasFailedStore}

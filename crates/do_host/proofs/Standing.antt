@@ -3,12 +3,12 @@ use Rattle.std.proofs.Common.{◌≡◌, ◌≢◌, ℕ, List, [], ◌∷◌, �
 use Rattle.std.proofs.lemmas.List.{append-nil, map-append}
 use Rattle.std.proofs.lemmas.List.Elements.{All-push}
 use Rattle.std.proofs.lemmas.Grind.{flat_map-append}
-use Rattle.object_core.specs.Serving.{object_of, front_of, back_of, Releases, SameLogs}
-use Rattle.object_core.specs.declared.object.CallEnd.{CallEnd}
-use Rattle.object_core.specs.declared.object.CallEnd.TheVariants.{DiskFailed, Full, NoMemory}
-use Rattle.object_core.specs.declared.object.Core.{Core}
-use Rattle.object_core.specs.declared.timeline.Event.{Event}
-use Rattle.object_core.specs.declared.timeline.Message.{Message}
+use Rattle.first_object.specs.Serving.{object_of, front_of, back_of, Releases, SameLogs}
+use Rattle.first_object.specs.declared.object.CallEnd.{CallEnd}
+use Rattle.first_object.specs.declared.object.CallEnd.TheVariants.{DiskFailed, Full, NoMemory}
+use Rattle.first_object.specs.declared.object.Core.{Core}
+use Rattle.first_object.specs.declared.timeline.Event.{Event}
+use Rattle.first_object.specs.declared.timeline.Message.{Message}
 use Rattle.do_host.specs.Switch.{of_slot, object_after, object_through, object_of_body, binds, call_posts, posts_at, posts_of, line_of, lines_of, events_in, messages_of}
 use Rattle.do_host.specs.Served.{Stands, IsLogged, SameSwitch, Routes}
 use Rattle.line_server.specs.declared.line.Line.{Line}

@@ -1,7 +1,7 @@
 -- Posts and lines of the switch, one more of each.
 use Rattle.std.proofs.Common.{◌≡◌, ◌==◌, ℕ, List, [], ◌∷◌, ◌++◌, map, Bool, true, false, if◌then◌else◌, Option, Some, None, IfSome, refl, sym, ap, ◌∙◌, append_assoc}
 use Rattle.std.proofs.lemmas.List.{append-nil}
-use Rattle.object_core.specs.declared.timeline.Event.TheVariants.{Bind}
+use Rattle.first_object.specs.declared.timeline.Event.TheVariants.{Bind}
 use Rattle.do_host.specs.Switch.{of_slot, object_after, object_through, object_of_body, binds, posts_at, posts_of}
 use Rattle.line_server.specs.declared.line.Line.{Line}
 

@@ -4,21 +4,21 @@ use Rattle.do_disk.specs.Disk.{IfTold}
 use Rattle.batch_journal.specs.Frames.{Frame, journal_bytes, batches_in}
 use Rattle.batch_journal.specs.Staged.{frame_of}
 use Rattle.batch_journal.proofs.Journals.{length-journal_push}
-use Rattle.object_core.specs.Said.{spoken, batches_of, operations}
-use Rattle.object_core.specs.Told.{stored_by}
-use Rattle.object_core.specs.Kept.{NameOnly}
-use Rattle.object_core.specs.Named.{frames_after}
-use Rattle.object_core.specs.History.{line}
+use Rattle.first_object.specs.Said.{spoken, batches_of, operations}
+use Rattle.first_object.specs.Told.{stored_by}
+use Rattle.first_object.specs.Kept.{NameOnly}
+use Rattle.first_object.specs.Named.{frames_after}
+use Rattle.first_object.specs.History.{line}
 use Rattle.storage_map.specs.Stored.{value_in}
 use Rattle.storage_map.specs.declared.op.Op.{Op}
-use Rattle.object_core.specs.Serving.{IsServing, IsFullCall, limit_in, object_of, map_of, front_of, back_of}
-use Rattle.object_core.proofs.Naming.{asked_frame, each_named, frames_on}
-use Rattle.object_core.proofs.Saying.{event_says-same}
-use Rattle.object_core.specs.declared.timeline.Event.{Event}
-use Rattle.object_core.specs.declared.object.CallEnd.{CallEnd}
-use Rattle.object_core.specs.declared.object.CallEnd.TheVariants.{DiskFailed as CallFailed, Full, NoMemory as NoCallMemory}
-use Rattle.object_core.specs.declared.object.Core.{Core}
-use Rattle.object_core.specs.declared.timeline.Message.{Message}
+use Rattle.first_object.specs.Serving.{IsServing, IsFullCall, limit_in, object_of, map_of, front_of, back_of}
+use Rattle.first_object.proofs.Naming.{asked_frame, each_named, frames_on}
+use Rattle.first_object.proofs.Saying.{event_says-same}
+use Rattle.first_object.specs.declared.timeline.Event.{Event}
+use Rattle.first_object.specs.declared.object.CallEnd.{CallEnd}
+use Rattle.first_object.specs.declared.object.CallEnd.TheVariants.{DiskFailed as CallFailed, Full, NoMemory as NoCallMemory}
+use Rattle.first_object.specs.declared.object.Core.{Core}
+use Rattle.first_object.specs.declared.timeline.Message.{Message}
 use Rattle.do_host.specs.FirstForm.{IsFirstLine}
 use Rattle.line_server.specs.Lines.{IsReading, IsFirstOf, source_of}
 use Rattle.do_host.specs.NotBuilt.{line_told, MeetsLimit, IsNotBuilt, AreFirstLines, IsFormed, EndsAtOdd, EndsAtLimit}

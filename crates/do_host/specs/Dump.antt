@@ -8,7 +8,7 @@ use Rattle.storage_map.specs.Contents.{Contents, nothing, apply}
 use Rattle.batch_journal.specs.Frames.{Frame, operations_in}
 use Rattle.batch_journal.specs.Recovery.{Recovers}
 use Rattle.batch_journal.specs.Verdicts.{Verdict, IsSo}
-use Rattle.object_core.specs.History.{AreEmpty}
+use Rattle.first_object.specs.History.{AreEmpty}
 use Rattle.do_host.specs.Report.{object_in}
 use Rattle.do_host.specs.Served.{WritesAll, WritesFirstOf}
 use Rattle.do_host.specs.SlotLines.{object_line, pair_line, alarm_line, bad_slot_line}

@@ -1,7 +1,7 @@
 -- The lines that are served so far: calls of the two methods of the one script. This project's profile.
 use Rattle.std.specs.Prelude.{◌≡◌, ◌⊎◌, ℕ, List, Option, Some, None, Result, Ok, Err, codes}
 use Rattle.do_value.specs.declared.value.Value.{Value}
-use Rattle.object_core.specs.Serving.{AreSetArgs, AreReadArgs}
+use Rattle.first_object.specs.Serving.{AreSetArgs, AreReadArgs}
 use Rattle.line_server.specs.declared.line.Line.{Line}
 use Rattle.line_server.specs.declared.refusal.Refusal.{Refusal}
 use Rattle.line_server.specs.declared.request.Request.{Request}

@@ -4,14 +4,14 @@ use Rattle.std.specs.Prelude.{◌≡◌, ◌⊎◌, ◌<◌, ◌+◌, ℕ, List,
 use Rattle.do_disk.specs.Disk.{IfTold}
 use Rattle.batch_journal.specs.Frames.{Frame, journal_bytes, batches_in}
 use Rattle.batch_journal.specs.Recovery.{Recovers}
-use Rattle.object_core.specs.Said.{batches_of, operations}
-use Rattle.object_core.specs.Told.{told, event_says, stored_by}
-use Rattle.object_core.specs.Named.{frames_after}
-use Rattle.object_core.specs.Serving.{IsServing, limit_in, object_of, front_of}
+use Rattle.first_object.specs.Said.{batches_of, operations}
+use Rattle.first_object.specs.Told.{told, event_says, stored_by}
+use Rattle.first_object.specs.Named.{frames_after}
+use Rattle.first_object.specs.Serving.{IsServing, limit_in, object_of, front_of}
 use Rattle.storage_map.specs.declared.op.Op.{Op}
-use Rattle.object_core.specs.declared.timeline.Event.{Event}
-use Rattle.object_core.specs.declared.front_log.FrontLog.{FrontLog}
-use Rattle.object_core.specs.declared.object.Core.{Core}
+use Rattle.first_object.specs.declared.timeline.Event.{Event}
+use Rattle.first_object.specs.declared.front_log.FrontLog.{FrontLog}
+use Rattle.first_object.specs.declared.object.Core.{Core}
 use Rattle.do_host.specs.FirstForm.{IsFirstLine}
 use Rattle.do_host.specs.Limits.{most_journal_bytes}
 use Rattle.line_server.specs.Going.{HasGiven}

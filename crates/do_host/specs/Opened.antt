@@ -2,16 +2,16 @@
 use Rattle.std.specs.Prelude.{◌≡◌, ◌++◌, ℕ, List, [], ◌∷◌, Option, Some, None}
 use Rattle.do_disk.specs.Asks.{Ask, for_text, for_slot}
 use Rattle.do_disk.specs.Disk.{IfTold, Rose}
-use Rattle.object_core.specs.Said.{IsPrefix}
+use Rattle.first_object.specs.Said.{IsPrefix}
 use Rattle.batch_journal.specs.Frames.{Frame, operations_in}
 use Rattle.storage_map.specs.Contents.{nothing, apply}
 use Rattle.batch_journal.specs.Moments.{LeavesOnly}
 use Rattle.batch_journal.specs.Mounting.{ImageOrHeader}
 use Rattle.batch_journal.specs.Recovery.{Recovers}
-use Rattle.object_core.specs.History.{AreEmpty}
-use Rattle.object_core.specs.Serving.{IsServing, IsWithinLimit, limit_in, object_of, disk_of, map_of, front_of, back_of}
+use Rattle.first_object.specs.History.{AreEmpty}
+use Rattle.first_object.specs.Serving.{IsServing, IsWithinLimit, limit_in, object_of, disk_of, map_of, front_of, back_of}
 use Rattle.do_host.specs.Report.{object_in}
-use Rattle.object_core.specs.declared.object.Core.{Core}
+use Rattle.first_object.specs.declared.object.Core.{Core}
 use Rattle.do_host.specs.declared.report.SlotReport.{SlotReport}
 use Rattle.do_host.specs.Limits.{most_journal_bytes, synced_at}
 

@@ -3,10 +3,10 @@ use Rattle.std.specs.Prelude.{◌≡◌, ◌⊎◌, ◌∷◌, ℕ, List, [], ma
 use Rattle.do_disk.specs.Disk.{IfTold, Rose}
 use Rattle.batch_journal.specs.Frames.{Frame}
 use Rattle.batch_journal.specs.Recovery.{Recovers}
-use Rattle.object_core.specs.Said.{spoken, messages_in}
-use Rattle.object_core.specs.History.{IsHistory, line, needs_of}
-pub use Rattle.object_core.specs.Named.{object_in}
-use Rattle.object_core.specs.Within.{RecoversWithin}
+use Rattle.first_object.specs.Said.{spoken, messages_in}
+use Rattle.first_object.specs.History.{IsHistory, line, needs_of}
+pub use Rattle.first_object.specs.Named.{object_in}
+use Rattle.first_object.specs.Within.{RecoversWithin}
 use Rattle.do_host.specs.Switch.{of_slot, posts_of, lines_of, events_in, messages_of, IsSwitchRun, IsServedBy}
 use Rattle.do_host.specs.Limits.{most_journal_bytes, synced_at}
 use Rattle.do_host.specs.Served.{IsBlank}

@@ -2,10 +2,10 @@
 use Rattle.std.specs.Prelude.{◌≡◌, ◌⊎◌, ◌≤◌, ◌+◌, ℕ, List, [], ◌∷◌, ◌++◌, length, take, Option, option_map, vec_len}
 use Rattle.std.specs.Vec.{vec_capacity}
 use Rattle.std.specs.List.{All}
-use Rattle.object_core.specs.Serving.{object_of, front_of, back_of}
-use Rattle.object_core.specs.declared.object.Core.{Core}
-use Rattle.object_core.specs.declared.timeline.Event.{Event}
-use Rattle.object_core.specs.declared.timeline.Message.{Message}
+use Rattle.first_object.specs.Serving.{object_of, front_of, back_of}
+use Rattle.first_object.specs.declared.object.Core.{Core}
+use Rattle.first_object.specs.declared.timeline.Event.{Event}
+use Rattle.first_object.specs.declared.timeline.Message.{Message}
 use Rattle.do_host.specs.FirstForm.{IsFirstLine}
 use Rattle.do_host.specs.Switch.{of_slot, object_through, posts_of, line_of, lines_of, text_of, events_in, messages_of, IsSwitchRun, IsServedBy}
 use Rattle.line_server.specs.declared.line.Line.{Line}

@@ -4,8 +4,8 @@ use Rattle.std.specs.Prelude.{◌≢◌, ℕ, ◌==◌, ◌||◌, if◌then◌el
 use Rattle.std.specs.List.{Contains}
 use Rattle.do_disk.specs.declared.depot.DepotFault.{DepotFault}
 use Rattle.do_disk.specs.declared.depot.DepotFault.TheVariants.{Failed, NoMemory as NoDepotMemory}
-use Rattle.object_core.specs.declared.object.CallEnd.{CallEnd}
-use Rattle.object_core.specs.declared.object.CallEnd.TheVariants.{DiskFailed as CallFailed, Full, NoMemory as NoCallMemory}
+use Rattle.first_object.specs.declared.object.CallEnd.{CallEnd}
+use Rattle.first_object.specs.declared.object.CallEnd.TheVariants.{DiskFailed as CallFailed, Full, NoMemory as NoCallMemory}
 use Rattle.line_server.specs.declared.fault.LineFault.{LineFault}
 use Rattle.line_server.specs.declared.fault.LineFault.TheVariants.{ReadFailed as LineFailed, NoMemory as NoLineMemory}
 use Rattle.do_host.specs.declared.run_end.RunEnd.{RunEnd}

@@ -3,17 +3,17 @@
 use Rattle.std.specs.Prelude.{◌≡◌, ℕ, List, [], ◌∷◌, ◌++◌, map, Option, Some, None, Result, Ok, Err, if◌then◌else◌, ◌==◌, pos, codes}
 use Rattle.std.specs.List.{All, flat_map}
 use Rattle.std.specs.Str.{bytes_eq}
-use Rattle.object_core.specs.Said.{IsPrefix}
-use Rattle.object_core.specs.declared.timeline.Caller.{Caller}
-use Rattle.object_core.specs.declared.timeline.Caller.TheVariants.{Request as ByRequest, Object as ByObject}
-use Rattle.object_core.specs.declared.timeline.Event.{Event}
-use Rattle.object_core.specs.declared.timeline.Event.TheVariants.{Bind, Call as Calls}
-use Rattle.object_core.specs.declared.timeline.Message.{Message}
-use Rattle.object_core.specs.declared.timeline.Message.TheVariants.{Reply as Replies, Call as CallsOther, Fetch as Fetches}
-use Rattle.object_core.specs.declared.front_log.FrontLog.{FrontLog}
-use Rattle.object_core.specs.declared.back_log.BackLog.{BackLog}
+use Rattle.first_object.specs.Said.{IsPrefix}
+use Rattle.first_object.specs.declared.timeline.Caller.{Caller}
+use Rattle.first_object.specs.declared.timeline.Caller.TheVariants.{Request as ByRequest, Object as ByObject}
+use Rattle.first_object.specs.declared.timeline.Event.{Event}
+use Rattle.first_object.specs.declared.timeline.Event.TheVariants.{Bind, Call as Calls}
+use Rattle.first_object.specs.declared.timeline.Message.{Message}
+use Rattle.first_object.specs.declared.timeline.Message.TheVariants.{Reply as Replies, Call as CallsOther, Fetch as Fetches}
+use Rattle.first_object.specs.declared.front_log.FrontLog.{FrontLog}
+use Rattle.first_object.specs.declared.back_log.BackLog.{BackLog}
 use Rattle.do_value.specs.declared.value.Value.{Value}
-use Rattle.object_core.specs.declared.timeline.Failure.{Failure}
+use Rattle.first_object.specs.declared.timeline.Failure.{Failure}
 use Rattle.line_server.specs.Text.{text}
 use Rattle.line_server.specs.declared.line.Line.{Line}
 use Rattle.line_server.specs.declared.refusal.Refusal.{Refusal}

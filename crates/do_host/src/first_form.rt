@@ -1,13 +1,13 @@
 // Which lines are served so far, and the events that they are.
 ghost use Rattle.std.specs.Prelude.{◌≡◌, ◌↔◌, ◌≤◌, ◌∷◌, [], length, IsSome, IsTrue, IfOk, codes, option_map};
 ghost use Rattle.storage_map.specs.Limits.{most_key_bytes};
-ghost use Rattle.object_core.specs.Serving.{AreSetArgs, AreReadArgs, IsStorable};
+ghost use Rattle.first_object.specs.Serving.{AreSetArgs, AreReadArgs, IsStorable};
 ghost use Rattle.do_host.specs.FirstForm.{IsFirstLine, IsFirstCall, IsFor};
 ghost use Rattle.do_host.specs.Switch.{method_number as number_of, call_posts, object_of_body};
 
 use do_value::{Mem, Text, Value};
+use first_object::{Caller, Event};
 use line_server::{Line, Request};
-use object_core::{Caller, Event};
 use storage_map::{Identity, MOST_KEY_BYTES, MOST_STORED_BYTES};
 
 // Whether the line is a call of `set` or `read` on the slot's object, or on any object of the class C where it has none.

@@ -3,8 +3,8 @@ ghost use Rattle.std.specs.Prelude.{◌≡◌, ◌⊎◌, ◌+◌, ◌≤◌, �
 ghost use Rattle.std.specs.Vec.{vec_capacity};
 ghost use Rattle.do_disk.specs.Disk.{IfTold, Rose};
 ghost use Rattle.do_disk.specs.Asks.{for_text, for_slot};
-ghost use Rattle.object_core.specs.Said.{IsPrefix};
-ghost use Rattle.object_core.specs.Serving.{CanServe};
+ghost use Rattle.first_object.specs.Said.{IsPrefix};
+ghost use Rattle.first_object.specs.Serving.{CanServe};
 ghost use Rattle.do_host.specs.Dump.{IsBadSlotLine};
 ghost use Rattle.do_host.specs.EarlyEnds.{IsRefusedBy, IsBarredBy, IsStoppedBy, IsSlotEnd, IsOpeningEnd};
 ghost use Rattle.do_host.specs.Opened.{IsFresh, IsOpened, HasFailedDisk, LeavesFile, LeavesHanded, Asks, both_asks};
@@ -21,7 +21,7 @@ use crate::words::ServeWords;
 use batch_journal::Journal;
 use do_disk::{Depot, Disk};
 use do_value::{Mem, NoMemory};
-use object_core::Core;
+use first_object::Core;
 use std::alloc::Global;
 
 // The core of slot 0, with room for its row, where the script is accepted and of the first form. The disk of a slot that

@@ -1,6 +1,6 @@
 // From an accepted line to its posts.
 ghost use Rattle.std.specs.Prelude.{◌≡◌, ◌++◌, ◌∷◌, [], ◌+◌, ◌≤◌, ℕ, List, map, IsSome, Option, IfOk, IfSome, OnOk, OnErr, None, Some, option_map, vec_len};
-ghost use Rattle.object_core.specs.Serving.{IsFirstForm, KeepsServing, KeepsWithin, SameReleased, SameLogs, limit_in, object_of, disk_of, front_of};
+ghost use Rattle.first_object.specs.Serving.{IsFirstForm, KeepsServing, KeepsWithin, SameReleased, SameLogs, limit_in, object_of, disk_of, front_of};
 ghost use Rattle.do_host.specs.FirstForm.{IsFirstLine};
 ghost use Rattle.do_host.specs.Switch.{binds, call_posts, events_in, object_of_body};
 ghost use Rattle.do_host.specs.Served.{Stands, SameSwitch, HasPostRoom};
@@ -9,8 +9,8 @@ use crate::first_form::call_event;
 use crate::switch_log::SwitchLog;
 use do_disk::Disk;
 use do_value::{Mem, NoMemory};
+use first_object::{Core, Event};
 use line_server::{Line, Request};
-use object_core::{Core, Event};
 use storage_map::Identity;
 
 // Accepts the line, gives the slot its object, where it has none yet, and posts the call, which is handed out to be given

@@ -4,7 +4,7 @@ ghost use Rattle.std.specs.Vec.{vec_capacity};
 ghost use Rattle.std.specs.List.{All};
 ghost use Rattle.do_disk.specs.Disk.{IfTold, Rose};
 ghost use Rattle.do_disk.specs.Asks.{for_text, for_slot};
-ghost use Rattle.object_core.specs.Serving.{CanServe, map_of};
+ghost use Rattle.first_object.specs.Serving.{CanServe, map_of};
 ghost use Rattle.line_server.specs.Cut.{lines as all_lines};
 ghost use Rattle.line_server.specs.Requests.{requests, through};
 ghost use Rattle.line_server.specs.Seen.{seen};
@@ -34,8 +34,8 @@ use crate::script::told_script;
 use crate::serving::serve;
 use crate::words::{Command, command_of};
 use do_disk::{Depot, Disk, Sink, Source, TurnGate};
+use first_object::{Core, CoreParts};
 use line_server::{Lines, put};
-use object_core::{Core, CoreParts};
 use std::alloc::Global;
 use storage_map::Map;
 

@@ -2,7 +2,7 @@
 ghost use Rattle.std.specs.Prelude.{◌≡◌, [], None};
 
 use crate::switch_log::SwitchLog;
-use object_core::{BackLog, FrontLog};
+use first_object::{BackLog, FrontLog};
 use std::alloc::Global;
 use storage_map::Identity;
 

@@ -10,8 +10,8 @@ use crate::run_end::RunEnd;
 use crate::switch_log::SwitchLog;
 use do_disk::Sink;
 use do_value::{Mem, NoMemory};
+use first_object::{Caller, Message};
 use line_server::{OutLine, print, put};
-use object_core::{Caller, Message};
 use std::alloc::Global;
 
 // Routes a message: logs it with its line, and then writes the line.

@@ -1,8 +1,8 @@
 // Why a run ends before its last line.
 use do_disk::{DepotFault, Failed};
 use do_value::NoMemory;
+use first_object::CallEnd;
 use line_server::LineFault;
-use object_core::CallEnd;
 
 #[derive(Clone, Copy, Debug, Drop, PartialEq, Eq)]
 pub(crate) enum RunEnd {

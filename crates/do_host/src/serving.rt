@@ -1,7 +1,7 @@
 // The lines of the input, one after another, over the one object.
 ghost use Rattle.std.specs.Prelude.{◌≡◌, ◌⊎◌, ◌≤◌, ◌++◌, ◌∷◌, [], ℕ, List, Option, length, map, min, IfOk, IfErr, OnOk, OnErr, IsErrOf, Ok, None};
 ghost use Rattle.do_disk.specs.Disk.{Rose};
-ghost use Rattle.object_core.specs.Serving.{CanServe, KeepsServing, KeepsHistory, ServesWithin, limit_in, object_of, disk_of};
+ghost use Rattle.first_object.specs.Serving.{CanServe, KeepsServing, KeepsHistory, ServesWithin, limit_in, object_of, disk_of};
 ghost use Rattle.do_host.specs.FirstForm.{IsFirstLine};
 ghost use Rattle.line_server.specs.Cut.{lines as all_lines};
 ghost use Rattle.line_server.specs.Requests.{SeenLine, requests, through};
@@ -19,8 +19,8 @@ use crate::routing::route;
 use crate::run_end::RunEnd;
 use crate::switch_log::SwitchLog;
 use do_disk::{Disk, Sink, Source};
+use first_object::Core;
 use line_server::{Line, Lines};
-use object_core::Core;
 use std::alloc::Global;
 
 // Serves the lines to the input's end, or until something stops it.

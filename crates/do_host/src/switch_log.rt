@@ -1,8 +1,8 @@
 //! What passed between the lines and the objects.
 ghost use Rattle.std.specs.Prelude.{◌≡◌, []};
 
+use first_object::{Event, Message};
 use line_server::{Line, OutLine};
-use object_core::{Event, Message};
 use std::alloc::Global;
 
 /// The log of a run's switch. Slots are numbered from 0.

@@ -1,14 +1,21 @@
-//! Statements.
+//! Statements. How nodes are let go is written out, as in `expr`.
 use crate::expr::Expr;
 use crate::script::Name;
 use std::sync::Arc;
 
 /// `{ .. }`.
 #[cycle(tree)]
-#[derive(Drop)]
 pub struct Block {
     pub at: u32,
     pub items: Vec<Item>,
+}
+
+impl Drop for Block {
+    #[cycle(let_go)]
+    fn drop(self) {
+        let Block { at: _, items } = self;
+        drop(items);
+    }
 }
 
 /// How a name is bound.
@@ -20,7 +27,6 @@ pub enum Binding {
 
 /// What stands in a block. A `const` has a value.
 #[cycle(tree)]
-#[derive(Drop)]
 pub enum Item {
     Declare {
         at: u32,
@@ -31,9 +37,26 @@ pub enum Item {
     Stmt(Arc<Stmt>),
 }
 
+impl Drop for Item {
+    #[cycle(let_go)]
+    fn drop(self) {
+        match self {
+            Item::Declare {
+                at: _,
+                binding: _,
+                name,
+                value,
+            } => {
+                drop(name);
+                drop(value);
+            }
+            Item::Stmt(stmt) => drop(stmt),
+        }
+    }
+}
+
 /// A statement.
 #[cycle(tree)]
-#[derive(Drop)]
 pub enum Stmt {
     Block(Arc<Block>),
     If {
@@ -87,18 +110,92 @@ pub enum Stmt {
     Simple(Arc<Simple>),
 }
 
+impl Drop for Stmt {
+    #[cycle(let_go)]
+    fn drop(self) {
+        match self {
+            Stmt::Block(block) => drop(block),
+            Stmt::If {
+                at: _,
+                test,
+                then,
+                other,
+            } => {
+                drop(test);
+                drop(then);
+                drop(other);
+            }
+            Stmt::While { at: _, test, body } => {
+                drop(test);
+                drop(body);
+            }
+            Stmt::For {
+                at: _,
+                name,
+                first,
+                test,
+                step,
+                body,
+            } => {
+                drop(name);
+                drop(first);
+                drop(test);
+                drop(step);
+                drop(body);
+            }
+            Stmt::ForOf {
+                at: _,
+                binding: _,
+                name,
+                list,
+                body,
+            } => {
+                drop(name);
+                drop(list);
+                drop(body);
+            }
+            Stmt::Try {
+                at: _,
+                body,
+                name,
+                handler,
+            } => {
+                drop(body);
+                drop(name);
+                drop(handler);
+            }
+            Stmt::Throw { at: _, value } => drop(value),
+            Stmt::Return { at: _, value } => drop(value),
+            Stmt::Break { at: _ } => {}
+            Stmt::Continue { at: _ } => {}
+            Stmt::Simple(inner) => drop(inner),
+        }
+    }
+}
+
 /// An expression that is run for itself, or a write to a place.
 #[cycle(tree)]
-#[derive(Drop)]
 pub struct Simple {
     pub at: u32,
     pub place: Arc<Expr>,
     pub write: Write,
 }
 
+impl Drop for Simple {
+    #[cycle(let_go)]
+    fn drop(self) {
+        let Simple {
+            at: _,
+            place,
+            write,
+        } = self;
+        drop(place);
+        drop(write);
+    }
+}
+
 /// What is written to the place of a [`Simple`].
 #[cycle(tree)]
-#[derive(Drop)]
 pub enum Write {
     /// Nothing: the expression is run for itself.
     Nothing,
@@ -112,4 +209,18 @@ pub enum Write {
     OneMore,
     /// `--`
     OneLess,
+}
+
+impl Drop for Write {
+    #[cycle(let_go)]
+    fn drop(self) {
+        match self {
+            Write::Nothing => {}
+            Write::Value(value) => drop(value),
+            Write::Sum(value) => drop(value),
+            Write::Difference(value) => drop(value),
+            Write::OneMore => {}
+            Write::OneLess => {}
+        }
+    }
 }

@@ -23,3 +23,14 @@ pub record Both (T : Type 0) : Type 0 where
 -- What was sent on it.
 abbrev pub sent_on : {T : Type 0} → Both T → List T
 sent_on queue = queue.got ++ queue.waiting
+
+-- The end that sends: which lane it is of, and what was sent.
+pub record Sending (T : Type 0) : Type 0 where
+  pub lane : LaneId
+  pub sent : List T
+
+-- The end that takes: which lane it is of, what it was told was sent, and what was taken.
+pub record Taking (T : Type 0) : Type 0 where
+  pub lane : LaneId
+  pub told : List T
+  pub got : List T

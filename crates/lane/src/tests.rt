@@ -1,4 +1,8 @@
+ghost use Rattle.std.specs.Prelude.{◌≡◌, IfOk};
+
 use super::*;
+use std::alloc::{AllocError, Global};
+use std::sync::Wait;
 use std::test::*;
 
 #[test]
@@ -12,5 +16,34 @@ fn a_queue_gives_its_items_in_the_order_in_which_they_were_sent(
     assert_eq!(rt; queue.take(), Some(1));
     assert_eq!(rt; queue.take(), Some(2));
     assert!(rt; queue.take().is_none());
+    Ok(())
+}
+
+fn ends<R: Wait + Copy>(
+    rt: &R,
+    alloc: Global,
+) -> Result<(SendEnd<u32, R>, TakeEnd<u32, R>), AllocError>
+    ensures { IfOk result (λ ends. ends.0.lane ≡ ends.1.lane) }
+{
+    match make(rt, alloc) {
+        Ok(ends) => Ok(ends),
+        Err(_) => Err(AllocError),
+    }
+}
+
+#[test]
+fn a_lane_whose_ends_are_given_back_leaves_what_was_not_taken(rt: HostRuntime) -> Result<(), Fail> {
+    let (mut send, mut take) = ends(&rt, rt.alloc())?;
+    assert!(rt; take.take().is_none());
+    assert!(rt; send.send(1).is_ok());
+    assert!(rt; send.send(2).is_ok());
+    assert!(rt; send.send(3).is_ok());
+    assert_eq!(rt; take.take(), Some(1));
+    let Ok(mut rest) = close(rt.alloc(), send, take) else {
+        return Err(AllocError.into());
+    };
+    assert_eq!(rt; rest.take(), Some(2));
+    assert_eq!(rt; rest.take(), Some(3));
+    assert!(rt; rest.take().is_none());
     Ok(())
 }

@@ -4,6 +4,7 @@
 mod buffer;
 mod bytes;
 mod cut;
+mod error_text;
 mod fault;
 mod line;
 mod lines;
@@ -19,7 +20,7 @@ mod write;
 pub use fault::LineFault;
 pub use line::Line;
 pub use lines::Lines;
-pub use out_line::OutLine;
+pub use out_line::{OutLine, WaitLine, Why};
 pub use refusal::Refusal;
 pub use request::Request;
 pub use text::{json_text, print};

@@ -62,6 +62,16 @@ forward a j m less =
     (together (nat_cmp a.0 a.0) (nat_cmp a.1 a.1) (itself a.0) (itself a.1)) (itself a.2)))
     ∙ up_to j m less
 
+at_most : (j m : ℕ) → is_gt (nat_cmp j m) ≡ false → j ≤ m
+at_most j m h = grind (arith, nat_tests, h)
+
+pub backward : (a : Asker) (j m : ℕ) → is_gt (by_parts (place a j) (place a m)) ≡ false → j ≤ m
+backward a j m h =
+    at_most j m
+    (sym (ap is_gt (to_last (ordering_then (ordering_then (nat_cmp a.0 a.0) (nat_cmp a.1 a.1)) (nat_cmp a.2 a.2)) (nat_cmp j m)
+    (together (ordering_then (nat_cmp a.0 a.0) (nat_cmp a.1 a.1)) (nat_cmp a.2 a.2)
+    (together (nat_cmp a.0 a.0) (nat_cmp a.1 a.1) (itself a.0) (itself a.1)) (itself a.2)))) ∙ h)
+
 turned : (r s : Ordering) → ordering_reverse (ordering_then r s) ≡ ordering_then (ordering_reverse r) (ordering_reverse s)
 turned Less s = refl
 turned Equal s = refl
@@ -288,6 +298,20 @@ module _ {X : Type 0} where
       (subst (λ (q : Place). is_gt (by_parts q p) ≡ false) from entry.0.0)
       (subst (λ (q : Place). is_gt (by_parts p q) ≡ false) upto entry.0.1) in
       is.known a p.3 (subst (λ (q : Place). IsSome (get by_parts index q)) one (is_there (get by_parts index p) x entry.1))
+
+  -- the first of a span has the least number
+  pub least_in_span : (a : Asker) (made : ℕ) (waiting : List (ℕ × Asker)) (index : BTreeMap Place X) (first last p : Place) (x : X) (r rest : List (Place × X)) → IsIndexed made waiting index → first ≡ place a 0 → last ≡ place a 18446744073709551615 → span first last index r → r ≡ (p, x) ∷ rest
+      → (other : ℕ) → under other waiting ≡ Some a → p.3 ≤ other
+  least_in_span a made waiting index first last p x r rest is from upto in_range shows other h =
+      let entry : IsEntryInRange by_parts (Included first) (Included last) index (p, x) =
+      subst (λ (l : List (Place × X)). IfSome (slice_get l 0) (IsEntryInRange by_parts (Included first) (Included last) index)) shows in_range.1 in
+      let one : p ≡ place a p.3 = is_between a 0 18446744073709551615 p
+      (subst (λ (q : Place). is_gt (by_parts q p) ≡ false) from entry.0.0)
+      (subst (λ (q : Place). is_gt (by_parts p q) ≡ false) upto entry.0.1) in
+      let before : is_gt (by_parts p (place a other)) ≡ false =
+      subst (λ (l : List (Place × X)). IfSome (slice_get l 0) (λ e. is_gt (by_parts e.0 (place a other)) ≡ false)) shows
+      (in_range.2 (place a other) (in_span a made other first last (at_most_under other made a waiting is.numbers h) is.small from upto) (is.there a other h)) in
+      backward a p.3 other (subst (λ (q : Place). is_gt (by_parts q (place a other)) ≡ false) one before)
 
 -- ---- what holds where a call was answered well, or not
 pub on_ok : {T E P : Type 0} (r : Result T E) → is_err r ≡ false → OnOk r P → P

@@ -1,5 +1,5 @@
 //! The fetches of all objects that have no answer yet.
-ghost use Rattle.std.specs.Prelude.{◌≡◌, ◌≢◌, ℕ, ◌+◌, ◌++◌, ◌∷◌, [], IfOk, OnOk, OnErr, MatchOption, Some};
+ghost use Rattle.std.specs.Prelude.{◌≡◌, ◌≢◌, ◌≤◌, ℕ, ◌+◌, ◌++◌, ◌∷◌, [], IfOk, IfSome, OnOk, OnErr, MatchOption, Some};
 ghost use Rattle.object_calls.specs.Numbered.{under, others};
 
 use do_value::{Mem, NoMemory};
@@ -76,10 +76,11 @@ impl Fetches {
         Some((slot, incarnation, number))
     }
 
-    /// The number of this object's fetch, `None` exactly where it isn't one that waits. It takes no memory.
+    /// The number of this object's fetch, the least if there are several, `None` exactly where none waits. It takes no memory.
     pub fn find(&self, slot: u32, incarnation: u64, number: u64) -> Option<u64>
-        ensures { MatchOption result ((k : ℕ) → under k self.now.waiting ≢ Some (slot, incarnation, number))
+        ensures found { MatchOption result ((k : ℕ) → under k self.now.waiting ≢ Some (slot, incarnation, number))
             (λ k. under k self.now.waiting ≡ Some (slot, incarnation, number)) }
+        ensures least { IfSome result (λ k. (other : ℕ) → under other self.now.waiting ≡ Some (slot, incarnation, number) → k ≤ other) }
     {
         let first = (slot, incarnation, number, 0);
         let last = (slot, incarnation, number, u64::MAX);

@@ -1,10 +1,15 @@
-pub mod Saying
-pub mod Crashes
-pub mod Histories
-pub mod Served
-pub mod Logged
-pub mod Naming
-pub mod Called
-pub mod Bound
-pub mod Fits
-pub mod Limits
+mod Due
+mod Lanes
+mod Pairing
+mod Rebuilding
+mod Taking
+mod Flushing
+mod Releasing
+mod Mending
+mod Turning
+mod Choosing
+mod Turns
+mod Collects
+mod Runs
+mod Beginning
+mod Telling

@@ -1,10 +1,6 @@
-pub mod Said
-pub mod Told
-pub mod Fault
-pub mod Turn
-pub mod Kept
-pub mod Named
-pub mod Within
-pub mod History
-pub mod Serving
-pub mod Ready
+pub mod Seen
+pub mod One
+pub mod Stepping
+pub mod Collecting
+pub mod Running
+pub mod Laws

@@ -1,15 +1,10 @@
-//! One object on one thread: its events run one after another, what they write is appended to its journal, and each
-//! answer leaves once every write before it is durable.
+//! One object on one thread: its front and its back, tied by queues, under any order of their steps.
 #![tactic(auto)]
 
-mod back_log;
-mod call;
-mod front_log;
+mod choice;
+pub mod laws;
 mod object;
-mod timeline;
-mod turn;
+mod steps;
 
-pub use back_log::{BackLog, End, Missed, Release, Stop};
-pub use front_log::FrontLog;
-pub use object::{CallEnd, Core, CoreParts};
-pub use timeline::{Body, Caller, Cause, Entry, Event, Failure, Message};
+pub use choice::Choice;
+pub use object::Core;

@@ -1,125 +1,157 @@
-//! One object: its journal, its map and its logs.
-ghost use Rattle.std.specs.Prelude.{◌≡◌, ℕ, List, option_map};
-ghost use Rattle.batch_journal.specs.Frames.{Frame};
-ghost use Rattle.batch_journal.specs.Recovery.{Recovers};
-ghost use Rattle.batch_journal.specs.Rest.{limit_of};
-ghost use Rattle.object_core.specs.History.{AreEmpty};
-ghost use Rattle.object_core.specs.Serving.{IsMounted, IsServing, IsWithinLimit, limit_in, object_of, disk_of, map_of, front_of, back_of};
+//! One object.
+ghost use Rattle.std.specs.Prelude.{◌≡◌, ◌++◌, [], ◌∷◌, List, ℕ, IfNone, IfSome};
+ghost use Rattle.do_tree.specs.Checked.{tree_of as script_in};
+ghost use Rattle.do_tree.specs.Tree.{Script};
+ghost use Rattle.storage_map.specs.declared.op.Op.{Op};
+ghost use Rattle.output_gate.specs.Serving.{IsBack};
+ghost use Rattle.object_core.specs.Collecting.{Collects};
+ghost use Rattle.object_core.specs.One.{AreFresh, IsOne, IsOneOf, CanRun, KeepsOne, unused};
+ghost use Rattle.object_core.specs.Running.{Runs};
+ghost use Rattle.object_core.specs.Stepping.{Steps};
 
-use crate::back_log::BackLog;
-use crate::front_log::FrontLog;
-use batch_journal::{AppendFault, Journal, Mounted};
+use crate::choice::Choice;
 use do_disk::Disk;
-use do_value::NoMemory;
+use do_tree::Checked;
+use do_value::Mem;
+use front_history::laws;
+use lane::{Inlet, Plain};
+use object_front::{Front, laws as front_laws};
+use output_gate::Back;
 use std::alloc::Global;
-use storage_map::{Identity, Map};
-use thiserror::Error;
+use timeline::{Entry, Event, Message, Notice};
 
 /// One object on one thread, over its mounted slot.
-#[derive(Drop)]
 pub struct Core<D> {
-    pub(crate) alloc: Global,
-    pub(crate) journal: Journal<D>,
-    pub(crate) map: Map,
-    pub(crate) identity: Option<Identity>,
-    pub(crate) front: FrontLog,
-    pub(crate) back: BackLog,
+    pub(crate) front: Front,
+    pub(crate) back: Back<D>,
+    // events to the front, entries to the back, notices to the front, and what was released
+    pub(crate) inbox: Plain<Event>,
+    pub(crate) line: Plain<Entry>,
+    pub(crate) notices: Plain<Notice>,
+    pub(crate) out: Plain<Message>,
 }
 
-/// What a core leaves: its disk, its object, where it has one, what its storage contains, and its logs.
-#[derive(Drop)]
-pub struct CoreParts<D> {
-    pub disk: D,
-    pub identity: Option<Identity>,
-    pub map: Map,
-    pub front: FrontLog,
-    pub back: BackLog,
-}
-
-/// Why a call was refused. The core takes no call after it.
-#[derive(Clone, Copy, Debug, Drop, PartialEq, Eq, Error)]
-pub enum CallEnd {
-    /// The disk failed in the append of the call's batch.
-    #[error("the disk failed")]
-    DiskFailed,
-    /// The journal would need this many bytes for the call's batch, or u64's greatest value where they pass it, and has
-    /// this limit.
-    #[error("the journal would need {needed} bytes and has {limit}")]
-    Full { needed: u64, limit: u64 },
-    /// Memory was wanted and refused.
-    #[error("no memory is left")]
-    NoMemory,
-}
-
-impl From<NoMemory> for CallEnd {
-    ghost use Rattle.std.specs.Prelude.{◌≡◌};
-    ghost use Rattle.object_core.specs.declared.object.CallEnd.TheVariants.{NoMemory as Wanting};
-
-    ghost from_gives = { λ _ end. end ≡ Wanting };
-
-    fn from(_: NoMemory) -> Self {
-        CallEnd::NoMemory
-    }
-}
-
-impl From<AppendFault> for CallEnd {
-    ghost use Rattle.std.specs.Prelude.{◌≡◌};
-    ghost use Rattle.object_core.specs.Fault.{call_end};
-
-    ghost from_gives = { λ fault end. end ≡ call_end fault };
-
-    fn from(fault: AppendFault) -> Self {
-        match fault {
-            AppendFault::DiskFailed => CallEnd::DiskFailed,
-            AppendFault::Full { needed, limit } => CallEnd::Full { needed, limit },
-        }
+// Written out, so that letting a core go is proved once.
+impl<D: Drop> Drop for Core<D> {
+    fn drop(self) {
+        let Core {
+            front,
+            back,
+            inbox,
+            line,
+            notices,
+            out,
+        } = self;
+        drop(front);
+        drop(back);
+        drop(inbox);
+        drop(line);
+        drop(notices);
+        drop(out);
     }
 }
 
 impl<D: Disk> Core<D> {
-    /// The core of a slot that was just mounted, with empty logs.
-    pub fn first(alloc: Global, mounted: Mounted<D>) -> Core<D>
-        ensures serving { (since : ℕ) (start : List Frame) → IsMounted D.moment_of D.left_since D.told D.image since start mounted
-            → IsServing D.moment_of D.left_since D.told D.image since start result }
-        ensures within { (since : ℕ) (start : List Frame) → IsMounted D.moment_of D.left_since D.told D.image since start mounted
-            → ((c : List ℕ) → D.left_since mounted.journal.disk since c → Recovers c start) → IsWithinLimit D.left_since since start result }
-        ensures object { object_of result ≡ mounted.identity }
-        ensures disk { disk_of result ≡ mounted.journal.disk }
-        ensures limit { limit_in result ≡ limit_of mounted.journal }
-        ensures map { map_of result ≡ mounted.map }
-        ensures empty { AreEmpty (front_of result) (back_of result) }
+    /// Both halves of a slot that was just mounted.
+    pub fn new(alloc: Global, front: Front, back: Back<D>) -> Core<D>
+        ensures halves { (result.front ≡ front) × (result.back ≡ back) }
+        ensures lanes { (result.inbox ≡ unused) × (result.line ≡ unused) × (result.notices ≡ unused) × (result.out ≡ unused) }
+        ensures one { (script : Script) (start : List (List Op)) (opening : ℕ) → IsBack D.moment_of D.left_since D.told D.image D.faults_of start opening back
+            → AreFresh script front.half back → IsOne D.moment_of D.left_since D.told D.image D.faults_of script start opening result }
+    {
+        laws::front_begins();
+        front_laws::events_come();
+        Core {
+            front,
+            back,
+            inbox: Plain::new(alloc),
+            line: Plain::new(alloc),
+            notices: Plain::new(alloc),
+            out: Plain::new(alloc),
+        }
+    }
+
+    /// Halves that ran apart, with what their lanes still had.
+    pub fn join(
+        front: Front,
+        back: Back<D>,
+        inbox: Plain<Event>,
+        line: Plain<Entry>,
+        notices: Plain<Notice>,
+        out: Plain<Message>,
+    ) -> Core<D>
+        ensures halves { (result.front ≡ front) × (result.back ≡ back) }
+        ensures lanes { (result.inbox ≡ inbox) × (result.line ≡ line) × (result.notices ≡ notices) × (result.out ≡ out) }
+        ensures one { (script : Script) (start : List (List Op)) (opening : ℕ)
+            → IsOneOf D.moment_of D.left_since D.told D.image D.faults_of script start opening front.half inbox back line notices out
+            → IsOne D.moment_of D.left_since D.told D.image D.faults_of script start opening result }
     {
         Core {
-            alloc,
-            journal: mounted.journal,
-            map: mounted.map,
-            identity: mounted.identity,
-            front: FrontLog::new(alloc),
-            back: BackLog::new(alloc),
+            front,
+            back,
+            inbox,
+            line,
+            notices,
+            out,
         }
     }
 
-    /// The object, where the core has one.
-    pub fn identity(&self) -> Option<&Identity>
-        ensures { option_map (λ identity. identity.now) result ≡ object_of self.now }
+    /// Does what is chosen, and tells whether there was something to do. After `NoMemory` the half whose step it was is stopped: each
+    /// further step of it answers `NoMemory` and does nothing, but for a flush; an event that memory didn't suffice for is gone.
+    pub fn step(&mut self, alloc: Global, checked: &Checked, choice: Choice) -> Mem<bool>
+        requires { CanRun D.moment_of D.left_since D.told D.image D.faults_of (script_in checked.now) self.old }
+        ensures steps { Steps D.moment_of D.faults_of (script_in checked.now) self.old self.new choice result }
+        ensures again { CanRun D.moment_of D.left_since D.told D.image D.faults_of (script_in checked.now) self.new }
+        ensures one { KeepsOne D.moment_of D.left_since D.told D.image D.faults_of (script_in checked.now) self.old self.new }
     {
-        self.identity.as_ref()
+        match choice {
+            Choice::Give(event) => self.give(event),
+            Choice::Turn => self.turn(alloc, checked),
+            Choice::Take => self.take(),
+            Choice::Flush => self.flush(),
+            Choice::Release => self.release(),
+            Choice::Mend => self.mend(alloc),
+        }
     }
 
-    /// The disk, the object, the map and the logs, after a refused call too.
-    pub fn into_parts(self) -> CoreParts<D>
-        ensures disk { result.disk ≡ disk_of self }
-        ensures object { result.identity ≡ object_of self }
-        ensures map { result.map ≡ map_of self }
-        ensures front { result.front ≡ front_of self }
-        ensures back { result.back ≡ back_of self }
+    /// Does all that is chosen, in order, up to the first want of memory.
+    pub fn run(&mut self, alloc: Global, checked: &Checked, choices: Vec<Choice>) -> Mem<()>
+        requires { CanRun D.moment_of D.left_since D.told D.image D.faults_of (script_in checked.now) self.old }
+        ensures runs { Runs D.moment_of D.faults_of (script_in checked.now) self.old self.new choices.items result }
+        ensures again { CanRun D.moment_of D.left_since D.told D.image D.faults_of (script_in checked.now) self.new }
+        ensures one { KeepsOne D.moment_of D.left_since D.told D.image D.faults_of (script_in checked.now) self.old self.new }
     {
-        CoreParts {
-            disk: self.journal.into_disk(),
-            identity: self.identity,
-            map: self.map,
-            front: self.front,
-            back: self.back,
+        for choice in choices {
+            self.step(alloc, checked, choice)?;
         }
+        Ok(())
+    }
+
+    /// The next released message that wasn't collected. It takes no memory.
+    pub fn collect(&mut self) -> Option<Message>
+        ensures none { IfNone result ((self.old.out.waiting ≡ []) × (self.new ≡ self.old)) }
+        ensures some { IfSome result (λ message. Collects self.old self.new message) }
+        ensures one { (script : Script) → KeepsOne D.moment_of D.left_since D.told D.image D.faults_of script self.old self.new }
+    {
+        self.out.take()
+    }
+
+    /// The halves, with what they have logged.
+    pub fn split(self) -> (Front, Back<D>)
+        ensures { (result.0 ≡ self.front) × (result.1 ≡ self.back) }
+    {
+        let Core {
+            front,
+            back,
+            inbox,
+            line,
+            notices,
+            out,
+        } = self;
+        drop(inbox);
+        drop(line);
+        drop(notices);
+        drop(out);
+        (front, back)
     }
 }

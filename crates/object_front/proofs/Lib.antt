@@ -1,7 +1,10 @@
+pub mod Accounted
 pub mod Again
 pub mod Answered
+pub mod Arriving
 pub mod Blocks
 pub mod ByCallers
+pub mod Coming
 pub mod Decided
 pub mod Endings
 pub mod Entered
@@ -11,6 +14,7 @@ pub mod Fitted
 pub mod Gates
 pub mod Held
 pub mod Intakes
+pub mod Items
 pub mod Judging
 pub mod Leading
 pub mod Left

@@ -1,5 +1,6 @@
 pub mod Answering
 pub mod ByCallers
+pub mod Came
 pub mod Ending
 pub mod Evaluated
 pub mod Gated

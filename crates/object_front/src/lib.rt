@@ -9,6 +9,7 @@ mod evaluated;
 mod fitting;
 mod front;
 mod half;
+pub mod laws;
 mod leaving;
 mod noticing;
 mod remaining;

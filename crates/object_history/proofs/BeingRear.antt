@@ -21,12 +21,12 @@ use Rattle.object_history.specs.Stepping.{IsRear, IsFollowed}
 not_mounted : (mode : Mode) → is_mounted_mode mode ≡ false → mode ≡ Mounted → ⊥
 not_mounted mode is on = true≢false (sym (ap is_mounted_mode on) ∙ is)
 
-mode_of : (mode : Mode) → stand_of mode ≡ mounted → mode ≡ Mounted
+pub mode_of : (mode : Mode) → stand_of mode ≡ mounted → mode ≡ Mounted
 mode_of Mounted is = refl
 mode_of (Wanted ending) is = absurd cc
 mode_of (Down ending) is = absurd cc
 
-followed_as : {D : Type 0} (back : Back D) → IsOrdered back → (mode : Mode) → back.mode ≡ mode → IsFollowed (stand_of mode) (backed back.log)
+pub followed_as : {D : Type 0} (back : Back D) → IsOrdered back → (mode : Mode) → back.mode ≡ mode → IsFollowed (stand_of mode) (backed back.log)
 followed_as back o Mounted is = o.followed is
 followed_as back o (Wanted ending) is = sym (o.unfollowed (not_mounted back.mode (ap is_mounted_mode is)))
 followed_as back o (Down ending) is = sym (o.unfollowed (not_mounted back.mode (ap is_mounted_mode is)))

@@ -1,10 +1,11 @@
 mod GoingOn
 mod SoFar
 mod WellSaid
-mod Alike
+pub mod Alike
 mod Entries
 mod Beginning
-mod SaidSoFar
+pub mod SaidSoFar
+pub mod Whole
 mod Heads
 mod Keeping
 mod Phases
@@ -21,7 +22,7 @@ mod Mounting
 mod Missing
 mod BackStepping
 mod Growing
-mod OlderFronts
+pub mod OlderFronts
 mod Frames
 mod Ready
 mod Fitting
@@ -33,6 +34,7 @@ mod Ending
 mod Dropping
 mod FrontKeeping
 mod Seeing
-mod GateStepping
-mod BeingRear
-mod GateTaking
+pub mod GateStepping
+pub mod BeingRear
+pub mod GateTaking
+pub mod GateReleasing

@@ -44,7 +44,7 @@ sent_until f front logged = subst (λ (entries : List Entry). All (λ (e : Entry
     (of_their_own (λ (i : ℕ). i < suc f.incarnation) f.incarnation 1 f.said (omega arith)))
 
 -- three parts, of which the last one is told
-three_parts : (before told : List Said) (first second : List Said) → before ≡ first ++ second → before ++ told ≡ flat_map (λ part. part) (first ∷ second ∷ told ∷ [])
+pub three_parts : (before told : List Said) (first second : List Said) → before ≡ first ++ second → before ++ told ≡ flat_map (λ part. part) (first ∷ second ∷ told ∷ [])
 three_parts before told first second is =
     ap (λ (said : List Said). said ++ told) is
     ∙ append_assoc first second told
@@ -82,7 +82,7 @@ module _ (tells : TellingTells) (k : Kind) (opened : Contents) (f : Front) (fron
       (subst (λ (start : Contents). SaysSo k older start front rear.log (suc pair.below) events (spoken (entries_of (suc pair.below) front.sent))) pair.starts numbered_so, pair.older_said)
 
   -- the one after it has said nothing yet
-  silent_next : spoken (entries_of (suc (suc pair.below)) front.sent) ≡ []
+  pub silent_next : spoken (entries_of (suc (suc pair.below)) front.sent) ≡ []
   silent_next = ap spoken (ap (λ (n : ℕ). entries_of n front.sent) (sym (ap suc pair.number)) ∙ entries_none (suc f.incarnation) front.sent (sent_until f front pair.logged))
 
   said_until_next : AreSaid k.script k.class opened front rear.log (incarnations front rear.log (suc (suc pair.below)))

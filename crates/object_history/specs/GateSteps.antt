@@ -3,10 +3,12 @@ use Rattle.std.specs.Prelude.{◌≡◌, ◌≢◌, ℕ, true, false, List, [], 
 use Rattle.batch_journal.specs.Moments.{IsTold}
 use Rattle.storage_map.specs.declared.op.Op.{Op}
 use Rattle.timeline.specs.declared.entry.Entry.{Entry}
+use Rattle.timeline.specs.declared.message.Message.{Message}
 use Rattle.timeline.specs.declared.notice.Notice.{Notice}
 use Rattle.output_gate.specs.Entering.{Takes, is_unfit, notice_at}
 use Rattle.output_gate.specs.Flushing.{Flushes}
 use Rattle.output_gate.specs.Mending.{Mends}
+use Rattle.output_gate.specs.Releasing.{Releases, released_notices}
 use Rattle.output_gate.specs.Serving.{IsBack, is_stopped}
 use Rattle.output_gate.specs.Storing.{IsDiskOf}
 use Rattle.output_gate.specs.Taking.{fit_of, may_take}
@@ -20,6 +22,13 @@ abbrev pub FlushSteps : {D : Type 0} → (D → ℕ) → (D → ℕ → List ℕ
 FlushSteps {D} moment_of left_since told image faults_of back = (start : List (List Op)) (opening : ℕ) (later : Back D)
     → IsBack moment_of left_since told image faults_of start opening back → back.before ≢ back.durable → Flushes faults_of back later
     → BackSteps (rear_of back) (rear_of later) [] []
+
+-- What is let go is a message, the answer to a sync or the end by a halt; the front is told of the last two.
+abbrev pub ReleaseSteps : {D : Type 0} → (D → ℕ) → (D → ℕ → List ℕ → Type 0) → (D → Option (List ℕ)) → (D → List ℕ → Type 0) → (D → ℕ) → Back D → Type 0
+ReleaseSteps {D} moment_of left_since told image faults_of back = (start : List (List Op)) (opening : ℕ) (later : Back D) (sent_before sent : List Notice)
+    (out_before out : List Message) → IsBack moment_of left_since told image faults_of start opening back
+    → (releases : Releases moment_of back later sent_before sent out_before out)
+    → BackSteps (rear_of back) (rear_of later) [] (released_notices back releases.first.body)
 
 -- A mounting begins the next incarnation or fails; what the front is told of it is what was sent.
 abbrev pub MendSteps : {D : Type 0} → (D → ℕ) → (D → ℕ → List ℕ → Type 0) → (D → Option (List ℕ)) → (D → List ℕ → Type 0) → (D → ℕ) → Back D → Type 0

@@ -1,6 +1,6 @@
 //! Laws of one object's history. A call costs nothing and tells its caller the law.
 ghost use Rattle.object_history.specs.Laws.{TellingGoesOn, TellingTells, StepsSayWell, LogsGrow, PairBegins, FrontKeepsPair, NoticesFit, BackKeepsPair, PairIsSaid};
-ghost use Rattle.object_history.specs.GateSteps.{FlushSteps, MendSteps, BackIsRear, TakeSteps};
+ghost use Rattle.object_history.specs.GateSteps.{FlushSteps, ReleaseSteps, MendSteps, BackIsRear, TakeSteps};
 
 use do_disk::Disk;
 use output_gate::Back;
@@ -53,6 +53,13 @@ pub fn pair_is_said()
 /// A flush of any back is a step of which these laws speak.
 pub fn flush_steps<D: Disk>(back: &Back<D>)
     ensures { FlushSteps D.moment_of D.left_since D.told D.image D.faults_of back.now }
+{
+    let _ = back;
+}
+
+/// What any back lets go is a step of which these laws speak.
+pub fn release_steps<D: Disk>(back: &Back<D>)
+    ensures { ReleaseSteps D.moment_of D.left_since D.told D.image D.faults_of back.now }
 {
     let _ = back;
 }

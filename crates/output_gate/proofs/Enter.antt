@@ -7,7 +7,7 @@ use Rattle.timeline.specs.Logs.{Backed, backed}
 use Rattle.timeline.specs.declared.back_log.BackLog.{BackLog}
 use Rattle.timeline.specs.declared.entry.Entry.{Entry}
 use Rattle.timeline.specs.declared.notice.Notice.{Notice}
-use Rattle.output_gate.specs.Entering.{CanTake, TakesOwn, CanTakeDown, TakesDown, TakesLate, Enters, LosesEntry, logged_as, is_unfit, held_as, late_by, mode_after, before_after}
+use Rattle.output_gate.specs.Entering.{CanTake, TakesOwn, CanTakeDown, TakesDown, TakesLate, Enters, LosesEntry, logged_as, is_unfit, held_as, late_by, mode_after, before_after, identity_after}
 use Rattle.output_gate.specs.Fits.{comes_behind, last_of}
 use Rattle.output_gate.specs.Serving.{IsMounted, IsUnmounted, IsBackAs, IsAsBefore}
 use Rattle.output_gate.specs.Taking.{LogSame, LogRoom, may_take, is_wanted, fit_of, most_unflushed}
@@ -42,15 +42,17 @@ unfit_enters old e is = record {
   held = sym (append-nil old.held.items) ∙ ap (λ (x : Fit). old.held.items ++ held_as x old e) (sym is);
   mode = ap (λ (x : Fit). mode_after x old.mode e.body) (sym is);
   before = ap (λ (x : Fit). before_after x old.before e.body) (sym is);
+  identity = ap (λ (x : Fit). identity_after x old.identity e.body) (sym is);
   durable = refl;
+  limit = refl;
 }
 
 -- the log got room first
 pub before_room : {D : Type 0} (old new : Back D) (log : BackLog) → LogSame old.log log → IsAsBefore (record old { log = log }) new → IsAsBefore old new
-before_room old new log room h = record { log = h.log ∙ room.same; held = h.held; stuck = h.stuck; mode = h.mode; before = h.before; durable = h.durable }
+before_room old new log room h = record { log = h.log ∙ room.same; held = h.held; stuck = h.stuck; identity = h.identity; mode = h.mode; before = h.before; durable = h.durable; limit = h.limit }
 
 pub room_only : {D : Type 0} (old : Back D) (log : BackLog) → LogSame old.log log → IsAsBefore old (record old { log = log })
-room_only old log room = record { log = room.same; held = refl; stuck = refl; mode = refl; before = refl; durable = refl }
+room_only old log room = record { log = room.same; held = refl; stuck = refl; identity = refl; mode = refl; before = refl; durable = refl; limit = refl }
 
 -- Nothing was done of it.
 pub unentered : {D : Type 0} (old new : Back D) (e : Entry) (before after : List Entry) (sent_before sent : List Notice) → IsAsBefore old new → after ≡ before ++ e ∷ [] → sent ≡ sent_before
@@ -103,7 +105,9 @@ module _ {D : Type 0} (moment_of : D → ℕ) (left_since : D → ℕ → List �
         held = t.holds ∙ ap (λ (x : Fit). old.held.items ++ held_as x old e) (sym is);
         mode = t.mode ∙ ap (λ (x : Fit). mode_after x old.mode e.body) (sym is);
         before = t.before ∙ ap (λ (x : Fit). before_after x old.before e.body) (sym is);
+        identity = t.identity ∙ ap (λ (x : Fit). identity_after x old.identity e.body) (sym is);
         durable = t.durable;
+        limit = t.limit;
       }
 
   pub down_unmounted : (start : List (List Op)) (opening : ℕ) (old : Back D) (log : BackLog) (e : Entry) → LogSame old.log log → fit_of old e ≡ fit.Down
@@ -131,7 +135,9 @@ module _ {D : Type 0} (moment_of : D → ℕ) (left_since : D → ℕ → List �
         held = t.holds ∙ ap (λ (x : Fit). old.held.items ++ held_as x old e) (sym is);
         mode = t.mode ∙ ap (λ (x : Fit). mode_after x old.mode e.body) (sym is);
         before = t.before ∙ ap (λ (x : Fit). before_after x old.before e.body) (sym is);
+        identity = t.identity ∙ ap (λ (x : Fit). identity_after x old.identity e.body) (sym is);
         durable = t.durable;
+        limit = t.limit;
       }
 
   pub late_enters : (old new : Back D) (log : BackLog) (e : Entry) → LogSame old.log log → may_take old ≡ true → fit_of old e ≡ fit.Late
@@ -144,7 +150,9 @@ module _ {D : Type 0} (moment_of : D → ℕ) (left_since : D → ℕ → List �
         ∙ ap (λ (x : Fit). old.held.items ++ held_as x old e) (sym is);
     mode = ap (λ (b : Back D). b.mode) t.same ∙ ap (λ (x : Fit). mode_after x old.mode e.body) (sym is);
     before = ap (λ (b : Back D). b.before) t.same ∙ ap (λ (x : Fit). before_after x old.before e.body) (sym is);
+    identity = ap (λ (b : Back D). b.identity) t.same ∙ ap (λ (x : Fit). identity_after x old.identity e.body) (sym is);
     durable = ap (λ (b : Back D). b.durable) t.same;
+    limit = ap (λ (b : Back D). b.limit) t.same;
   }
 
   pub late_back : (start : List (List Op)) (opening : ℕ) (old new : Back D) (log : BackLog) (e : Entry) → LogSame old.log log → fit_of old e ≡ fit.Late → TakesLate (record old { log = log }) new e

@@ -13,7 +13,7 @@ use Rattle.timeline.specs.declared.entry.Body.{Body}
 use Rattle.timeline.specs.declared.entry.Body.TheVariants as body
 use Rattle.timeline.specs.declared.entry.Entry.{Entry}
 use Rattle.timeline.specs.declared.message.Message.{Message}
-use Rattle.output_gate.specs.Entering.{TakesOwn, FailsOwn, TakesDown, FailsDown, held_by, before_by, asked}
+use Rattle.output_gate.specs.Entering.{TakesOwn, FailsOwn, TakesDown, FailsDown, held_by, before_by, identity_by, asked}
 use Rattle.output_gate.specs.Storing.{Stages}
 use Rattle.output_gate.specs.declared.back.Ending.{Ending}
 use Rattle.output_gate.specs.declared.back.Mode.{Mode}
@@ -43,9 +43,11 @@ as_before old new store cache held log is logs items = record {
   log = ap (λ (b : Back _). backed b.log) is ∙ logs;
   held = ap (λ (b : Back _). b.held.items) is ∙ items;
   stuck = ap (λ (b : Back _). b.stuck) is;
+  identity = ap (λ (b : Back _). b.identity) is;
   mode = ap (λ (b : Back _). b.mode) is;
   before = ap (λ (b : Back _). b.before) is;
   durable = ap (λ (b : Back _). b.durable) is;
+  limit = ap (λ (b : Back _). b.limit) is;
 }
 
 -- a fact, where an error is
@@ -87,18 +89,20 @@ module _ {D : Type 0} (moment_of : D → ℕ) (left_since : D → ℕ → List �
   pub took_silent : (old mid new : Back D) (number : ℕ) (b : Body) (h : HeldBody) → comes_behind (last_of old.log.taken.items) (entry_of old number b) ≡ true
       → is_mend b ≡ false → IsSilent b → batches_of (said_by b) ≡ [] → ((n s : ℕ) → passed_by h n s ≡ []) → (is_held_halt h ≡ true → halts_well h ≡ true) → is_held_halt h ≡ is_halt b
       → mid.held.items ≡ old.held.items ++ held_now old h ∷ [] → mid ≡ record old { held = mid.held } → LogTook mid.log new.log (entry_of mid number b) → new ≡ record mid { log = new.log }
-      → held_now old h ∷ [] ≡ held_by old.before old.number number b → old.before ≡ before_by b old.before → TakesOwn moment_of left_since told image faults_of old new number b
-  took_silent old mid new number b h comes other silent nothing says well halts items first log then so even =
+      → held_now old h ∷ [] ≡ held_by old.before old.number number b → old.before ≡ before_by b old.before → old.identity ≡ identity_by b old.identity → TakesOwn moment_of left_since told image faults_of old new number b
+  took_silent old mid new number b h comes other silent nothing says well halts items first log then so even known =
       let took = log_behind old mid new number b first log in
       let same = same_behind old mid new first then in
       let held : new.held.items ≡ old.held.items ++ held_now old h ∷ [] = ap (λ (x : Back D). x.held.items) then ∙ items in
       record {
         log = took.taken;
         stuck = ap (λ (x : Back D). x.stuck) same;
+        identity = ap (λ (x : Back D). x.identity) same ∙ known;
         holds = held ∙ ap (λ more. old.held.items ++ more) so;
         mode = ap (λ (x : Back D). x.mode) same;
         before = ap (λ (x : Back D). x.before) same ∙ even;
         durable = ap (λ (x : Back D). x.durable) same;
+        limit = ap (λ (x : Back D). x.limit) same;
         back = λ start opening m. subst (IsMounted moment_of left_since told image faults_of start opening true) (sym same)
             (mounted_silent moment_of left_since told image faults_of start opening true old new.log new.held (entry_of old number b) m took refl comes other silent nothing
             (HoldsMore.one_more (held_now old h) held (sym (says old.before old.number)) (λ yes. (refl, well yes)) halts));
@@ -115,10 +119,12 @@ module _ {D : Type 0} (moment_of : D → ℕ) (left_since : D → ℕ → List �
       record {
         log = took.taken;
         stuck = ap (λ (x : Back D). x.stuck) same;
+        identity = ap (λ (x : Back D). x.identity) same;
         holds = held;
         mode = ap (λ (x : Back D). x.mode) same;
         before = ap (λ (x : Back D). x.before) same;
         durable = ap (λ (x : Back D). x.durable) same;
+        limit = ap (λ (x : Back D). x.limit) same;
         back = λ start opening m. subst (IsMounted moment_of left_since told image faults_of start opening true) (sym same)
             (mounted_message moment_of left_since told image faults_of start opening true old new.log new.held (entry_of old number (body.Message sent)) sent m took refl comes refl
             (HoldsMore.one_more (held_now old (held_body.Message sent)) held refl (λ yes. absurd (true_false (sym yes))) refl));
@@ -127,14 +133,16 @@ module _ {D : Type 0} (moment_of : D → ℕ) (left_since : D → ℕ → List �
   -- nothing more is held
   pub took_only : (old new : Back D) (number : ℕ) (b : Body) → comes_behind (last_of old.log.taken.items) (entry_of old number b) ≡ true
       → is_mend b ≡ false → IsSilent b → batches_of (said_by b) ≡ [] → is_halt b ≡ false → LogTook old.log new.log (entry_of old number b) → new ≡ record old { log = new.log }
-      → [] ≡ held_by old.before old.number number b → old.before ≡ before_by b old.before → TakesOwn moment_of left_since told image faults_of old new number b
-  took_only old new number b comes other silent nothing halts took same so even = record {
+      → [] ≡ held_by old.before old.number number b → old.before ≡ before_by b old.before → old.identity ≡ identity_by b old.identity → TakesOwn moment_of left_since told image faults_of old new number b
+  took_only old new number b comes other silent nothing halts took same so even known = record {
     log = took.taken;
     stuck = ap (λ (x : Back D). x.stuck) same;
+    identity = ap (λ (x : Back D). x.identity) same ∙ known;
     holds = ap (λ (x : Back D). x.held.items) same ∙ sym (append-nil old.held.items) ∙ ap (λ more. old.held.items ++ more) so;
     mode = ap (λ (x : Back D). x.mode) same;
     before = ap (λ (x : Back D). x.before) same ∙ even;
     durable = ap (λ (x : Back D). x.durable) same;
+    limit = ap (λ (x : Back D). x.limit) same;
     back = λ start opening m. subst (IsMounted moment_of left_since told image faults_of start opening true) (sym same)
         (mounted_silent moment_of left_since told image faults_of start opening true old new.log old.held (entry_of old number b) m took refl comes other silent nothing
         (HoldsMore.nothing_more refl refl halts));
@@ -150,10 +158,12 @@ module _ {D : Type 0} (moment_of : D → ℕ) (left_since : D → ℕ → List �
   took_bind old new number object copy equal comes known took same = record {
     log = took.taken;
     stuck = ap (λ (x : Back D). x.stuck) same;
+    identity = ap (λ (x : Back D). x.identity) same ∙ ap Some equal;
     holds = ap (λ (x : Back D). x.held.items) same ∙ sym (append-nil old.held.items);
     mode = ap (λ (x : Back D). x.mode) same;
     before = ap (λ (x : Back D). x.before) same;
     durable = ap (λ (x : Back D). x.durable) same;
+    limit = ap (λ (x : Back D). x.limit) same;
     back = λ start opening m. subst (IsMounted moment_of left_since told image faults_of start opening true) (ap (λ o. record old { identity = Some o; log = new.log }) (sym equal) ∙ sym same)
         (mounted_bind moment_of left_since told image faults_of start opening true old new.log number object m took (is_nobody old.identity known) comes);
   }
@@ -200,10 +210,12 @@ module _ {D : Type 0} (moment_of : D → ℕ) (left_since : D → ℕ → List �
       record {
         log = took.taken;
         stuck = ap (λ (x : Back D). x.stuck) same;
+        identity = ap (λ (x : Back D). x.identity) same;
         holds = ap (λ (x : Back D). x.held.items) same ∙ sym (append-nil old.held.items);
         mode = ap (λ (x : Back D). x.mode) same;
         before = ap (λ (x : Back D). x.before + 1) same;
         durable = ap (λ (x : Back D). x.durable) same;
+        limit = ap (λ (x : Back D). x.limit) same;
         back = λ start opening m.
             let st = stages m.journal m.safe.store in
             subst (IsMounted moment_of left_since told image faults_of start opening true)
@@ -246,10 +258,12 @@ module _ {D : Type 0} (moment_of : D → ℕ) (left_since : D → ℕ → List �
       record {
         log = took.taken;
         stuck = ap (λ (x : Back D). x.stuck) same;
+        identity = ap (λ (x : Back D). x.identity) same;
         holds = ap (λ (x : Back D). x.held.items) same ∙ sym (append-nil old.held.items);
         mode = ap (λ (x : Back D). x.mode) same ∙ sym (ap asked down);
         before = ap (λ (x : Back D). x.before) same;
         durable = ap (λ (x : Back D). x.durable) same;
+        limit = ap (λ (x : Back D). x.limit) same;
         back = λ start opening u. subst (IsUnmounted moment_of left_since told image faults_of start opening)
             (ap (λ (e : Ending). record old { mode = Wanted e; log = new.log }) (same_ending u.ending ending old.mode u.safe.mode down) ∙ sym same)
             (unmounted_mend moment_of left_since told image faults_of start opening old new.log (entry_of old number body.Mend) u took refl refl);
@@ -266,10 +280,12 @@ module _ {D : Type 0} (moment_of : D → ℕ) (left_since : D → ℕ → List �
       record {
         log = took.taken;
         stuck = ap (λ (x : Back D). x.stuck) same;
+        identity = ap (λ (x : Back D). x.identity) same;
         holds = held;
         mode = ap (λ (x : Back D). x.mode) same;
         before = ap (λ (x : Back D). x.before) same;
         durable = ap (λ (x : Back D). x.durable) same;
+        limit = ap (λ (x : Back D). x.limit) same;
         back = λ start opening u. subst (IsUnmounted moment_of left_since told image faults_of start opening) (sym same)
             (unmounted_message moment_of left_since told image faults_of start opening old new.log new.held (entry_of old number (body.Message sent)) sent u took refl refl
             (down ∙ ap Down (sym (same_ending u.ending ending old.mode u.safe.mode down))) held);

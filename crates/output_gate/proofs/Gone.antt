@@ -1,5 +1,5 @@
 -- What a release does to a back, whether its newest incarnation is mounted or not.
-use Rattle.std.proofs.Common.{◌≡◌, ◌∙◌, ap, sym, refl, subst, inl, inr, ℕ, ◌≤◌, List, [], ◌∷◌, ◌++◌, append-nil, map, Option, Global}
+use Rattle.std.proofs.Common.{◌≡◌, ◌∙◌, ap, sym, refl, subst, inl, inr, ℕ, ◌+◌, ◌≤◌, List, [], ◌∷◌, ◌++◌, append-nil, map, Option, Global}
 use Rattle.std.specs.Prelude.{true, false, ◌||◌, length, Some}
 use Rattle.std.specs.declared.collections.VecDeque.{VecDeque}
 use Rattle.batch_journal.specs.Rest.{disk_in}
@@ -62,25 +62,33 @@ module _ {D : Type 0} (moment_of : D → ℕ) (left_since : D → ℕ → List �
   pub stays_put : (old : Back D) (log : BackLog) (s0 s : List Notice) (o0 o : List Sent) → LogSame old.log log → s ≡ s0 → o ≡ o0
       → StaysPut moment_of left_since told image faults_of old (record old { log = log }) s0 s o0 o
   stays_put old log s0 s o0 o same told_so left_so = record {
-    stays = record { told = told_so; left = left_so; log = same.same; held = refl; mode = refl; before = refl; durable = refl };
+    stays = record { told = told_so; left = left_so; log = same.same; held = refl; identity = refl; stuck = refl; mode = refl; before = refl; durable = refl; limit = refl };
     back = λ start opening b. back_stopped moment_of left_since told image faults_of start opening (record old { log = log }) (back_room moment_of left_since told image faults_of start opening old log same b);
   }
 
-  releases_as : (old new : Back D) (first : Held) (rest : List Held) (b : HeldBody) → old.held.items ≡ first ∷ rest → new.held.items ≡ rest → first.body ≡ b
+  -- a back of which what is held, the log and the newest incarnation changed
+  releases_as : (old : Back D) (held : VecDeque Held Global) (log : BackLog) (own number : ℕ) (first : Held) (b : HeldBody) → old.held.items ≡ first ∷ held.items → first.body ≡ b
       → (s0 s : List Notice) (o0 o : List Sent) → s ≡ s0 ++ released_notices old b → o ≡ o0 ++ released_messages b
-      → ((disk : D) → IsDiskOf old.store disk → backed new.log ≡ released_log old (moment_of disk) first b)
-      → new.mode ≡ old.mode → new.before ≡ old.before → new.durable ≡ old.durable → Releases moment_of old new s0 s o0 o
-  releases_as old new first rest b held others body s0 s o0 o told_so left_so log mode before durable = record {
+      → ((disk : D) → IsDiskOf old.store disk → backed log ≡ released_log old (moment_of disk) first b)
+      → Releases moment_of old (record old { held = held; log = log; own = own; number = number }) s0 s o0 o
+  releases_as old held log own number first b items body s0 s o0 o told_so left_so logged = record {
     first = first;
-    rest = rest;
-    held = held;
-    others = others;
+    rest = held.items;
+    held = items;
+    others = refl;
     told = told_so ∙ ap (λ x. s0 ++ released_notices old x) (sym body);
     left = left_so ∙ ap (λ x. o0 ++ released_messages x) (sym body);
-    log = λ disk at. log disk at ∙ ap (released_log old (moment_of disk) first) (sym body);
-    mode = mode;
-    before = before;
-    durable = durable;
+    log = λ disk at. logged disk at ∙ ap (released_log old (moment_of disk) first) (sym body);
+    store = refl;
+    cache = refl;
+    identity = refl;
+    stuck = refl;
+    mode = refl;
+    before = refl;
+    durable = refl;
+    limit = refl;
+    settled = refl;
+    unflushed = refl;
   }
 
   disk_at : (start : List (List Op)) (opening : ℕ) (old : Back D) (m : IsMounted moment_of left_since told image faults_of start opening true old) → IsDiskOf old.store (disk_in m.journal)
@@ -106,9 +114,9 @@ module _ {D : Type 0} (moment_of : D → ℕ) (left_since : D → ℕ → List �
       let one : ℕ → Release = λ t. record { message = sent; needs = first.needs; moment = t } in
       let passes : passed_of first ≡ record { message = sent; needs = first.needs; since = first.since } ∷ [] = ap (λ (b : HeldBody). passed_by b first.needs first.since) body in
       record {
-        releases = releases_as old (record old { held = held; log = log }) first held.items (Message sent) items refl body s s o0 o (sym (append-nil s)) left_so
+        releases = releases_as old held log old.own old.number first (Message sent) items body s s o0 o (sym (append-nil s)) left_so
             (λ disk where_is. done.log ∙ ap (λ (x : Backed). record x { released = x.released ++ one moment ∷ [] }) same.same
-            ∙ ap (λ (t : ℕ). record (backed old.log) { released = old.log.released.items ++ one t ∷ [] }) (at disk where_is)) refl refl refl;
+            ∙ ap (λ (t : ℕ). record (backed old.log) { released = old.log.released.items ++ one t ∷ [] }) (at disk where_is));
         back = λ start opening b. back_release start opening (record old { log = mid }) log held first items ready
             (λ disk where_is. done.log ∙ ap (λ (t : ℕ). record (backed mid) { released = mid.released.items ++ one t ∷ [] }) (at disk where_is)
             ∙ ap (λ ps. record (backed mid) { released = mid.released.items ++ map (release_at (moment_of disk)) ps }) (sym passes))
@@ -122,7 +130,7 @@ module _ {D : Type 0} (moment_of : D → ℕ) (left_since : D → ℕ → List �
   sync_goes old held first number items body ready s0 s o told_so =
       let none : passed_of first ≡ [] = ap (λ (b : HeldBody). passed_by b first.needs first.since) body in
       record {
-        releases = releases_as old (record old { held = held }) first held.items (Sync number) items refl body s0 s o o told_so (sym (append-nil o)) (λ disk where_is. refl) refl refl refl;
+        releases = releases_as old held old.log old.own old.number first (Sync number) items body s0 s o o told_so (sym (append-nil o)) (λ disk where_is. refl);
         back = λ start opening b. back_release start opening old old.log held first items ready
             (λ disk where_is. ap (λ rs. record (backed old.log) { released = rs }) (sym (append-nil old.log.released.items))
             ∙ ap (λ ps. record (backed old.log) { released = old.log.released.items ++ map (release_at (moment_of disk)) ps }) (sym none)) refl refl b;
@@ -141,10 +149,10 @@ module _ {D : Type 0} (moment_of : D → ℕ) (left_since : D → ℕ → List �
       → (s0 s : List Notice) (o : List Sent) → s ≡ s0 ++ released_notices old (Halt c)
       → Goes moment_of left_since told image faults_of old (restarted old log held) s0 s o o
   halt_goes old mid log held first c same items body ready done s0 s o told_so = record {
-    releases = releases_as old (restarted old log held) first held.items (Halt c) items refl body s0 s o o told_so (sym (append-nil o))
+    releases = releases_as old held log 0 (old.number + 1) first (Halt c) items body s0 s o o told_so (sym (append-nil o))
         (λ disk where_is. done ∙ ap (λ (x : Backed). record x {
           stops = x.stops ++ record { cause = c; flights = length x.flights; batches = old.own; read = false } ∷ [];
           ends = x.ends ++ record { kept = old.own; cause = c } ∷ [];
-        }) same.same) refl refl refl;
+        }) same.same);
     back = λ start opening b. halts_back start opening (record old { log = mid }) log held first c items body ready done (back_room moment_of left_since told image faults_of start opening old mid same b);
   }

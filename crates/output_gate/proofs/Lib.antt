@@ -33,3 +33,5 @@ pub mod Enter
 pub mod Remounts
 pub mod Telling
 pub mod Orderly
+pub mod Sent
+pub mod Unfit

@@ -168,11 +168,11 @@ keeps_note moment_of left_since told image faults_of start opening old new same 
 
 -- What was done or wasn't, with the note.
 pub before_noted : {D : Type 0} (old mid : Back D) (s : Bool) → IsAsBefore old mid → IsAsBefore old (noted mid s)
-before_noted old mid s h = record { log = h.log; held = h.held; stuck = h.stuck; mode = h.mode; before = h.before; durable = h.durable }
+before_noted old mid s h = record { log = h.log; held = h.held; stuck = h.stuck; identity = h.identity; mode = h.mode; before = h.before; durable = h.durable; limit = h.limit }
 
 entered_noted : {D : Type 0} (old mid : Back D) (e : Entry) (s : Bool) → IsAsBefore old mid ⊎ Enters old mid e → IsAsBefore old (noted mid s) ⊎ Enters old (noted mid s) e
 entered_noted old mid e s (inl h) = inl (before_noted old mid s h)
-entered_noted old mid e s (inr h) = inr (record { log = h.log; stuck = h.stuck; held = h.held; mode = h.mode; before = h.before; durable = h.durable })
+entered_noted old mid e s (inr h) = inr (record { log = h.log; stuck = h.stuck; held = h.held; identity = h.identity; mode = h.mode; before = h.before; durable = h.durable; limit = h.limit })
 
 -- An entry is lost, with the note.
 pub loses_noted : {D A : Type 0} (r : Result A NoMemory) (old mid : Back D) (got0 got : List Entry) (sent0 sent : List Notice) (s : Bool) → OnErr r (LosesEntry old mid got0 got sent0 sent)

@@ -145,6 +145,7 @@ remounts_from faults_of old new log ending notice same (inl b) = inl (record {
     log = b.begins.log ∙ ap (λ (x : Backed). record x { ends = x.ends ++ record { kept = kept_at ending (end_of b.journal); cause = ending.cause } ∷ [] }) same.same;
     same = b.begins.same;
   };
+  limit = b.limit;
   notice = b.notice;
 })
 remounts_from faults_of old new log ending notice same (inr m) = inr (record {

@@ -2,6 +2,7 @@
 use Rattle.std.specs.Prelude.{◌≡◌, ◌⊎◌, ℕ, ◌+◌, ◌<◌, Bool, true, false, List, [], ◌∷◌, ◌++◌, option_to_list, ◌-◌, length, slice_get, Option, Some, None, is_some, Result, Ok, Err}
 use Rattle.do_value.specs.declared.fault.NoMemory.{NoMemory}
 use Rattle.storage_map.specs.Contents.{Contents}
+use Rattle.storage_map.specs.Limits.{Object}
 use Rattle.storage_map.specs.declared.op.Op.{Op}
 use Rattle.timeline.specs.Logs.{Backed, backed}
 use Rattle.timeline.specs.declared.back_log.Stop.{Stop}
@@ -87,6 +88,15 @@ abbrev pub before_after : Fit → ℕ → Body → ℕ
 before_after fit.Own before b = before_by b before
 before_after _ before b = before
 
+-- A `Bind` makes the slot's object known.
+abbrev pub identity_by : Body → Option Object → Option Object
+identity_by (body.Bind object) identity = Some object
+identity_by _ identity = identity
+
+abbrev pub identity_after : Fit → Option Object → Body → Option Object
+identity_after fit.Own identity b = identity_by b identity
+identity_after _ identity b = identity
+
 -- An entry goes into the log, with what is held of it, or leaves the back stuck.
 pub record Enters {D : Type 0} (old new : Back D) (e : Entry) : Type 0 where
   pub log : backed new.log ≡ logged_as (fit_of old e) (backed old.log) e
@@ -94,7 +104,9 @@ pub record Enters {D : Type 0} (old new : Back D) (e : Entry) : Type 0 where
   pub held : new.held.items ≡ old.held.items ++ held_as (fit_of old e) old e
   pub mode : new.mode ≡ mode_after (fit_of old e) old.mode e.body
   pub before : new.before ≡ before_after (fit_of old e) old.before e.body
+  pub identity : new.identity ≡ identity_after (fit_of old e) old.identity e.body
   pub durable : new.durable ≡ old.durable
+  pub limit : new.limit ≡ old.limit
 
 -- Nothing is done, and all is as before.
 pub record IsIdle {D A B : Type 0} (old new : Back D) (taken_before taken : List A) (sent_before sent : List B) (result : Result Stepped NoMemory) : Type 0 where
@@ -137,7 +149,9 @@ pub record TakesOwn {D : Type 0} (moment_of : D → ℕ) (left_since : D → ℕ
   pub holds : new.held.items ≡ old.held.items ++ held_by old.before old.number number b
   pub mode : new.mode ≡ old.mode
   pub before : new.before ≡ before_by b old.before
+  pub identity : new.identity ≡ identity_by b old.identity
   pub durable : new.durable ≡ old.durable
+  pub limit : new.limit ≡ old.limit
   pub back : (start : List (List Op)) (opening : ℕ) → IsMounted moment_of left_since told image faults_of start opening true old
       → IsMounted moment_of left_since told image faults_of start opening true new
 
@@ -165,7 +179,9 @@ pub record TakesDown {D : Type 0} (moment_of : D → ℕ) (left_since : D → �
   pub holds : new.held.items ≡ old.held.items ++ held_by old.before (old.number - 1) number b
   pub mode : new.mode ≡ mode_by b old.mode
   pub before : new.before ≡ old.before
+  pub identity : new.identity ≡ old.identity
   pub durable : new.durable ≡ old.durable
+  pub limit : new.limit ≡ old.limit
   pub back : (start : List (List Op)) (opening : ℕ) → IsUnmounted moment_of left_since told image faults_of start opening old
       → IsUnmounted moment_of left_since told image faults_of start opening new
 

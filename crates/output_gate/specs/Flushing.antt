@@ -17,8 +17,12 @@ pub record FliesAll {D : Type 0} (old new : Back D) : Type 0 where
   pub log : backed new.log ≡ record (backed old.log) { flights = old.log.flights.items ++ (old.before - old.durable) ∷ [] }
   pub mode : new.mode ≡ old.mode
   pub held : new.held ≡ old.held
+  pub cache : new.cache ≡ old.cache
   pub before : new.before ≡ old.before
   pub durable : new.durable ≡ old.before
+  pub limit : new.limit ≡ old.limit
+  pub identity : new.identity ≡ old.identity
+  pub stuck : new.stuck ≡ old.stuck
 
 -- The incarnation ends, by a cause that the append had, and a mounting is wanted. The batches that weren't durable don't count, and
 -- of a reply that needs one of them the failure is held.
@@ -34,6 +38,9 @@ pub record Ends {D : Type 0} (faults_of : D → ℕ) (old new : Back D) : Type 0
   pub held : new.held.items ≡ flat_map (stays old.durable old.number cause) old.held.items
   pub before : new.before ≡ old.durable
   pub durable : new.durable ≡ old.durable
+  pub limit : new.limit ≡ old.limit
+  pub identity : new.identity ≡ old.identity
+  pub stuck : new.stuck ≡ old.stuck
 
 abbrev pub Flushes : {D : Type 0} → (D → ℕ) → Back D → Back D → Type 0
 Flushes faults_of old new = FliesAll old new ⊎ Ends faults_of old new

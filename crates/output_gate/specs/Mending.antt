@@ -17,7 +17,7 @@ use Rattle.output_gate.specs.Storing.{IsDiskOf}
 use Rattle.output_gate.specs.Taking.{is_wanted}
 use Rattle.output_gate.specs.declared.mending.Found.{Found}
 use Rattle.output_gate.specs.declared.mending.Found.TheVariants as found
-use Rattle.batch_journal.specs.Rest.{end_of}
+use Rattle.batch_journal.specs.Rest.{end_of, limit_of}
 use Rattle.batch_journal.specs.declared.journal.Journal.{Journal}
 use Rattle.storage_map.specs.Contents.{Contents}
 use Rattle.storage_map.specs.Limits.{Object}
@@ -72,6 +72,11 @@ abbrev pub IsRefusedFor : {D : Type 0} → (D → ℕ) → (D → Option (List �
 IsRefusedFor faults_of told disk (found.Refused left) = HasRisen (faults_of disk) (faults_of left) ⊎ IfTold (told disk) IsRefusedFile
 IsRefusedFor faults_of told disk found = Unit {0}
 
+-- The journal has the limit with which it was mounted.
+abbrev pub IsLimited : {D : Type 0} → ℕ → Found D → Type 0
+IsLimited limit (found.Mounted mounted) = limit_of mounted.journal ≡ limit
+IsLimited limit found = Unit {0}
+
 -- The disk's count of faults is as before where the mounting was good, and never falls.
 abbrev pub CountsFound : {D : Type 0} → (D → ℕ) → D → Found D → Type 0
 CountsFound faults_of disk (found.Mounted mounted) = faults_of (disk_in mounted.journal) ≡ faults_of disk
@@ -105,11 +110,13 @@ pub record CanMend {D : Type 0} (moment_of : D → ℕ) (left_since : D → ℕ 
   pub wanted : old.mode ≡ Wanted ending
   pub room : MendRoom old.log
 
--- The next incarnation began, or the mounting failed, with the disk's counts of faults before and after; and this the front is told.
+-- The next incarnation began, with a journal of the same limit, or the mounting failed, with the disk's counts of faults before and
+-- after; and this the front is told.
 pub record HasBegun {D : Type 0} (old new : Back D) (ending : Ending) (told : Notice) : Type 0 where
   pub journal : Journal D
   pub map : Contents
   pub begins : Begins old new ending journal map
+  pub limit : limit_of journal ≡ old.limit
   pub notice : told ≡ notice.Fresh old.number map.alarm ending.cause
 
 pub record HasMissed {D : Type 0} (faults_of : D → ℕ) (old new : Back D) (ending : Ending) (told : Notice) : Type 0 where
@@ -140,4 +147,5 @@ pub record Mends {D : Type 0} (faults_of : D → ℕ) (old new : Back D) (sent_b
 -- notice of a mounting is lost, after which the back is as that left it, but for the note that memory was wanting.
 pub record LosesMend {D : Type 0} (faults_of : D → ℕ) (old new : Back D) (sent_before sent : List Notice) : Type 0 where
   pub told : sent ≡ sent_before
-  pub log : IsAsBefore old new ⊎ ((ending : Ending) × (notice : Notice) × Remounts faults_of old (record new { stopped = old.stopped }) ending notice)
+  pub log : IsAsBefore old new ⊎ ((ending : Ending) × (notice : Notice) × (old.mode ≡ Wanted ending)
+      × Remounts faults_of old (record new { stopped = old.stopped }) ending notice)

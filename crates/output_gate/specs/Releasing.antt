@@ -48,7 +48,7 @@ abbrev pub released_messages : HeldBody → List Sent
 released_messages (Message sent) = sent ∷ []
 released_messages _ = []
 
--- The first of what is held goes; the back stands and counts as before.
+-- The first of what is held goes; the back stands and counts as before, over the same disk and map.
 pub record Releases {D : Type 0} (moment_of : D → ℕ) (old new : Back D) (sent_before sent : List Notice) (out_before out : List Sent) : Type 0 where
   pub first : Held
   pub rest : List Held
@@ -57,9 +57,16 @@ pub record Releases {D : Type 0} (moment_of : D → ℕ) (old new : Back D) (sen
   pub told : sent ≡ sent_before ++ released_notices old first.body
   pub left : out ≡ out_before ++ released_messages first.body
   pub log : (disk : D) → IsDiskOf old.store disk → backed new.log ≡ released_log old (moment_of disk) first first.body
+  pub store : new.store ≡ old.store
+  pub cache : new.cache ≡ old.cache
+  pub identity : new.identity ≡ old.identity
+  pub stuck : new.stuck ≡ old.stuck
   pub mode : new.mode ≡ old.mode
   pub before : new.before ≡ old.before
   pub durable : new.durable ≡ old.durable
+  pub limit : new.limit ≡ old.limit
+  pub settled : new.settled ≡ old.settled
+  pub unflushed : new.unflushed ≡ old.unflushed
 
 -- Nothing is done, and all is as before.
 pub record IsIdleRelease {D : Type 0} (old new : Back D) (sent_before sent : List Notice) (out_before out : List Sent) (result : Result Stepped NoMemory) : Type 0 where
@@ -74,9 +81,12 @@ pub record Stays {D : Type 0} (old new : Back D) (sent_before sent : List Notice
   pub left : out ≡ out_before
   pub log : backed new.log ≡ backed old.log
   pub held : new.held ≡ old.held
+  pub identity : new.identity ≡ old.identity
+  pub stuck : new.stuck ≡ old.stuck
   pub mode : new.mode ≡ old.mode
   pub before : new.before ≡ old.before
   pub durable : new.durable ≡ old.durable
+  pub limit : new.limit ≡ old.limit
 
 -- What letting this go needs, and does.
 pub record CanGo {D : Type 0} (moment_of : D → ℕ) (left_since : D → ℕ → List ℕ → Type 0) (told : D → Option (List ℕ)) (image : D → List ℕ → Type 0) (faults_of : D → ℕ)

@@ -169,9 +169,11 @@ pub record IsAsBefore {D : Type 0} (old new : Back D) : Type 0 where
   pub log : backed new.log ≡ backed old.log
   pub held : new.held.items ≡ old.held.items
   pub stuck : new.stuck ≡ old.stuck
+  pub identity : new.identity ≡ old.identity
   pub mode : new.mode ≡ old.mode
   pub before : new.before ≡ old.before
   pub durable : new.durable ≡ old.durable
+  pub limit : new.limit ≡ old.limit
 
 -- Memory was wanting at a step of this back.
 abbrev pub is_stopped : {D : Type 0} → Back D → Bool

@@ -35,3 +35,10 @@ pub fn map_is_written<D: Disk>(back: &Back<D>)
 {
     let _ = back;
 }
+
+fn is_sent<T: Send>() {}
+
+/// A back over a disk that may go to another thread may go there too.
+pub fn back_is_sent<D: Disk + Send>() {
+    is_sent::<Back<D>>();
+}

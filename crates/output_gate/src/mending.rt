@@ -4,7 +4,7 @@ ghost use Rattle.std.specs.Vec.{vec_capacity};
 ghost use Rattle.batch_journal.specs.Rest.{disk_in};
 ghost use Rattle.storage_map.specs.declared.op.Op.{Op};
 ghost use Rattle.timeline.specs.declared.notice.Notice.TheVariants as notice;
-ghost use Rattle.output_gate.specs.Mending.{IsFound, CountsFound, is_own_object, Begins, Misses, CanBegin, CanMend, Remounts, may_mend, MendRoom, IsIdleMend, Mends, LosesMend, IsRefusedFor, FallsByFault};
+ghost use Rattle.output_gate.specs.Mending.{IsFound, CountsFound, IsLimited, is_own_object, Begins, Misses, CanBegin, CanMend, Remounts, may_mend, MendRoom, IsIdleMend, Mends, LosesMend, IsRefusedFor, FallsByFault};
 ghost use Rattle.output_gate.specs.Taking.{LogSame};
 ghost use Rattle.timeline.specs.declared.notice.Stepped.TheVariants.{Did, Nothing};
 ghost use Rattle.output_gate.specs.Serving.{IsUnmounted, IsBackAs, CanServe, CanServeAs, KeepsBack, KeepsBackAs, StopsBy, is_stopped, IsAsBefore};
@@ -183,6 +183,7 @@ fn mount_again<D: Disk>(alloc: Global, disk: D, limit: u64) -> Found<D>
     ensures found { IsFound D.moment_of D.left_since D.told D.image disk result }
     ensures cause { IsRefusedFor D.faults_of D.told disk result }
     ensures counted { CountsFound D.faults_of disk result }
+    ensures limited { IsLimited limit result }
 {
     match Journal::mount(alloc, disk, limit) {
         Ok(mounted) => Found::Mounted(mounted),

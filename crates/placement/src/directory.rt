@@ -54,6 +54,13 @@ impl Directory {
         }
     }
 
+    /// How many slots there are. It takes no memory.
+    pub fn slots(&self) -> u32
+        ensures { result ≡ length self.now }
+    {
+        self.slots
+    }
+
     /// Gives the slot the object that its journal names. `Twice` comes exactly where another slot, its `a`, has this object.
     /// After an error nothing is changed.
     pub fn adopt(&mut self, slot: u32, identity: Identity) -> Result<(), AdoptFault>

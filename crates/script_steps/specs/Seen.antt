@@ -1,5 +1,5 @@
 -- Frames, foci and moves as the definition of the meaning has them.
-use Rattle.std.specs.Prelude.{ℕ, zero, suc, Bool, pos, negsuc, List, [], ◌∷◌, drop, Option, Some, None}
+use Rattle.std.specs.Prelude.{ℕ, zero, suc, Bool, false, pos, negsuc, List, [], ◌∷◌, drop, Option, Some, None}
 use Rattle.do_value.specs.Seen.{tree_of, trees_in, pairs_in}
 use Rattle.do_value.specs.Tree.{Tree}
 use Rattle.do_value.specs.declared.operator.BinOp.{BinOp}
@@ -7,17 +7,18 @@ use Rattle.do_value.specs.declared.operator.BinOp.TheVariants.{Add, Sub}
 use Rattle.do_tree.specs.Nodes.{block_in, option_stmt_in, simple_of}
 use Rattle.do_tree.specs.Seen.{expr_of, stmt_of}
 use Rattle.do_tree.specs.Tree as tree
-use Rattle.do_tree.specs.Tree.{Expr, OptionExpr, Operands, Stmt, Simple}
+use Rattle.do_tree.specs.Tree.{Expr, OptionExpr, OptionStmt, Operands, Stmt, Simple}
 use Rattle.script_ops.specs.Binary.{binary}
+use Rattle.script_ops.specs.Truth.{is_true}
 use Rattle.script_mean.specs.Answers.{Outcome, gave, threw, returned, broke, continued}
 use Rattle.script_mean.specs.Calls.{Calls, on_transaction, on_block}
 use Rattle.script_mean.specs.Frames as frame
 use Rattle.script_mean.specs.Frames.{Frame, frame_next, called, written}
-use Rattle.script_mean.specs.Meaning.{value, value_or_undefined, strict, arguments, links, to_push, to_place, place, body, run, simple, caught_as, to_caller}
+use Rattle.script_mean.specs.Meaning.{value, value_or_undefined, strict, arguments, links, to_push, to_place, place, body, run, run_or_pass, simple, caught_as, to_caller}
 use Rattle.script_mean.specs.Places.{variable_value, put, write}
 use Rattle.script_mean.specs.Task as task
 use Rattle.script_mean.specs.Task.{Env}
-use Rattle.script_mean.specs.Turn.{Run, ends, nowhere, of, step, steps, within, leaving, declare, ◌>>=◌, ◌>>◌}
+use Rattle.script_mean.specs.Turn.{Run, either, ends, nowhere, of, step, steps, within, leaving, declare, ◌>>=◌, ◌>>◌}
 use Rattle.script_places.specs.Steps.{steps_in}
 use Rattle.script_vars.specs.Seen.{env_of}
 use Rattle.script_steps.specs.Paths.{root_of, point_of, callee_of, writing_of, path_frame_of}
@@ -111,6 +112,13 @@ writing calls (tree.decrement at p) = place calls p (frame.written calls (frame.
 -- A loop after its body.
 abbrev pub over : Calls → Expr → Stmt → frame.Between → Run
 over calls test s b = frame.between calls b >> frame.again calls test s b
+
+-- The branch of an `if`, and that of a choice, whose test had this value.
+abbrev pub branch_run : Calls → Tree → Stmt → OptionStmt → Run
+branch_run calls test s other = either (is_true test) (run calls s) (run_or_pass calls other)
+
+abbrev pub choice_run : Calls → Tree → Expr → Expr → Run
+choice_run calls test e other = either (is_true test) (value false calls e) (value false calls other)
 
 -- What a frame does where the part inside it ended so.
 abbrev pub handed : Calls → Frame → Outcome → Run

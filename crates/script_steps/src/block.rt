@@ -5,13 +5,11 @@ ghost use Rattle.do_tree.specs.Seen.{expr_of, stmt_of};
 ghost use Rattle.do_value.specs.Seen.{tree_of};
 ghost use Rattle.script_mean.specs.Answers.{gave};
 ghost use Rattle.script_mean.specs.Calls.{Calls};
-ghost use Rattle.script_mean.specs.Frames.{between as what_stands, to_declare, to_test};
+ghost use Rattle.script_mean.specs.Frames.{between as what_stands, to_test};
 ghost use Rattle.script_mean.specs.Law.{unfolded};
-ghost use Rattle.script_mean.specs.Meaning.{body, each, each_of, run, run_or_pass, value, value_or_undefined};
-ghost use Rattle.script_mean.specs.Turn.{either};
-ghost use Rattle.script_ops.specs.Truth.{is_true};
-ghost use Rattle.script_steps.specs.Parts.{body_in, declared_in, items_from, name_in, with_item};
-ghost use Rattle.script_steps.specs.Seen.{between_of, focus_run, handed, move_run, over};
+ghost use Rattle.script_mean.specs.Meaning.{body, each, each_of, run, value, value_or_undefined};
+ghost use Rattle.script_steps.specs.Parts.{body_in, items_from, name_in, with_item};
+ghost use Rattle.script_steps.specs.Seen.{between_of, branch_run, focus_run, frame_of, handed, move_run, over};
 ghost use Rattle.script_steps.specs.Weight.{LeavesLess, focus_weight};
 
 use crate::focus::{Focus, Move, Outcome};
@@ -58,7 +56,7 @@ fn first_focus(value: &Option<Arc<Expr>>) -> Mem<Focus>
 /// A declaration whose value is there, and the rest of its block.
 pub(crate) fn declared(block: Arc<Block>, place: usize, next: usize, value: Value) -> Mem<Move>
     ensures moves { IfOk result (λ m. (calls : Calls)
-        → handed calls (to_declare (declared_in (items_from place (block_in block.value))) (items_from next (block_in block.value))) (gave (tree_of value)) ≡ move_run calls m) }
+        → handed calls (frame_of (Frame.Declare block place next)) (gave (tree_of value)) ≡ move_run calls m) }
     ensures less { IfOk result (LeavesLess 12) }
 {
     let rest = again(&block)?;
@@ -71,7 +69,7 @@ pub(crate) fn declared(block: Arc<Block>, place: usize, next: usize, value: Valu
 
 /// The branch of an `if`.
 pub(crate) fn branch(yes: Arc<Stmt>, other: Option<Arc<Stmt>>, test: &Value) -> Focus
-    ensures begins { (calls : Calls) → either (is_true (tree_of test.now)) (run calls (stmt_of yes.value)) (run_or_pass calls (option_stmt_in other)) ≡ focus_run calls result }
+    ensures begins { (calls : Calls) → branch_run calls (tree_of test.now) (stmt_of yes.value) (option_stmt_in other) ≡ focus_run calls result }
     ensures less { focus_weight result < 9 }
 {
     if truth(test) {

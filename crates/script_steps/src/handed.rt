@@ -5,10 +5,8 @@ ghost use Rattle.do_value.specs.Seen.{tree_of};
 ghost use Rattle.script_mean.specs.Answers.{gave};
 ghost use Rattle.script_mean.specs.Calls.{Calls};
 ghost use Rattle.script_mean.specs.Meaning.{goes_on, lazy, strict, value};
-ghost use Rattle.script_mean.specs.Turn.{either};
-ghost use Rattle.script_ops.specs.Truth.{is_true};
 ghost use Rattle.script_steps.specs.Parts.{chain_of, exprs_from, exprs_of, operands_from, operands_of};
-ghost use Rattle.script_steps.specs.Seen.{applied, focus_run, frame_of, handed, move_run};
+ghost use Rattle.script_steps.specs.Seen.{applied, choice_run, focus_run, frame_of, handed, move_run};
 ghost use Rattle.script_steps.specs.Weight.{LeavesLess, focus_weight, frame_weight};
 
 use crate::block::{begin_body, branch, declared, tested, turned, visit_from, visited};
@@ -67,7 +65,7 @@ pub fn hand(alloc: Global, frame: Frame, value: Value) -> Mem<Move>
 
 /// The branch of a choice.
 fn chosen(yes: Arc<Expr>, no: Arc<Expr>, test: &Value) -> Focus
-    ensures begins { (calls : Calls) → either (is_true (tree_of test.now)) (value false calls (expr_of yes.value)) (value false calls (expr_of no.value)) ≡ focus_run calls result }
+    ensures begins { (calls : Calls) → choice_run calls (tree_of test.now) (expr_of yes.value) (expr_of no.value) ≡ focus_run calls result }
     ensures less { focus_weight result < 9 }
 {
     if truth(test) {

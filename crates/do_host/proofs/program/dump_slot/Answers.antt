@@ -1,5 +1,5 @@
 use Rattle.std.proofs.Common.{◌≡◌, ◌++◌, ◌∷◌, [], Ok, option_map, refl, sym, ap, ◌∙◌}
-use Rattle.object_core.specs.Serving.{object_of}
+use Rattle.first_object.specs.Serving.{object_of}
 use Rattle.do_host.specs.Dump.{HasEmptyLogs}
 use Rattle.do_host.specs.Opened.{row_of}
 use Rattle.do_host.specs.Report.{IsSlotHistory, StaysWithin}

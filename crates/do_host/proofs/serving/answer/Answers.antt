@@ -1,7 +1,7 @@
 use Rattle.std.proofs.Common.{rules, ◌≡◌, ◌⊎◌, ⊎_elim, inl, inr, [], ◌∷◌, ◌∙◌, ℕ, List, Option, refl, sym, subst}
 use Rattle.std.proofs.lemmas.Result.{err_from_is_err_and}
 use Rattle.batch_journal.specs.Frames.{Frame}
-use Rattle.object_core.specs.Serving.{IsServing, IsHistoryOf, object_of, front_of}
+use Rattle.first_object.specs.Serving.{IsServing, IsHistoryOf, object_of, front_of}
 use Rattle.do_host.specs.FirstForm.{IsFirstLine}
 use Rattle.do_host.specs.NotBuilt.{MeetsLimit}
 use Rattle.do_host.specs.Status.{call_stop}

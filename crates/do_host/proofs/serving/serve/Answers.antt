@@ -1,6 +1,6 @@
 use Rattle.std.proofs.Common.{map, Option, sym, ap, subst, ◌∙◌, arith, Ok, Err, inl, inr, ⊎_elim}
 use Rattle.std.proofs.lemmas.Result.{err_from_is_err_and}
-use Rattle.object_core.specs.Serving.{object_of, front_of}
+use Rattle.first_object.specs.Serving.{object_of, front_of}
 use Rattle.do_host.specs.NotBuilt.{MeetsLimit}
 use Rattle.line_server.specs.Lines.{LooksAt}
 use Rattle.line_server.specs.Seen.{seen}

@@ -1,6 +1,6 @@
 use Rattle.std.proofs.Common.{◌≡◌, ◌≤◌, ◌-◌, ℕ, List, [], map, Option, None}
 use Rattle.batch_journal.specs.Frames.{Frame}
-use Rattle.object_core.specs.Serving.{IsServing, IsWithinLimit}
+use Rattle.first_object.specs.Serving.{IsServing, IsWithinLimit}
 use Rattle.line_server.specs.Seen.{seen}
 use Rattle.line_server.specs.Lines.{IsReading, source_of, count_of, fault_of}
 use Rattle.do_host.specs.NotBuilt.{AreFirstLines}

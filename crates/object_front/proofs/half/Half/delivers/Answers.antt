@@ -64,7 +64,7 @@ pub returns-in-Err-clause-cut : goal.returns-in-Err-clause-cut
 returns-in-Err-clause-cut g c = λ st half is. inl (ap (λ (xs : List (ℕ × Event)). record (fronted c.args.self.now.log) { delivered = xs }) c.in-Err.ensures.same)
 
 pub returns-in-Err-clause-too : goal.returns-in-Err-clause-too
-returns-in-Err-clause-too g c = λ first at. at
+returns-in-Err-clause-too g c = λ first base at. at
 
 pub returns-in-Ok-deliver_turn-clause-moves : goal.returns-in-Ok-deliver_turn-clause-moves
 returns-in-Ok-deliver_turn-clause-moves g c = λ st half is.

@@ -1,8 +1,8 @@
-use Rattle.std.proofs.Common.{◌∙◌, sym, ap, List, ◌++◌}
+use Rattle.std.proofs.Common.{◌∙◌, sym, refl}
 use Rattle.do_tree.specs.Checked.{tree_of as script_in}
-use Rattle.timeline.specs.declared.entry.Entry.{Entry}
 use Rattle.object_front.specs.declared.testing.Doing.TheVariants as act
 use Rattle.object_front.proofs.Entered.{as_done, delivers_done, delivers_stopped, wants_done, wants_stopped, kept_done, kept_stopped}
+use Rattle.object_front.proofs.Sent.{sent_none}
 use Rattle.object_front.proofs.half.Half.takes.Goals as goal
 
 pub delivers-requires : goal.delivers-requires
@@ -38,7 +38,7 @@ returns-in-Defers-clause-cut g c =
     kept_stopped g.T.Task.seen (script_in c.args.checked.now) c.args.self.now c.defers.new.self c.args.event c.defers.result c.defers.ensures.same
 
 pub returns-in-Defers-clause-too : goal.returns-in-Defers-clause-too
-returns-in-Defers-clause-too g c = λ first at. at ∙ sym (ap (λ (xs : List Entry). first ++ xs) c.defers.ensures.sent)
+returns-in-Defers-clause-too g c = sent_none _ _ _ _ refl c.defers.ensures.sent
 
 pub returns-in-Drops-clause-moves : goal.returns-in-Drops-clause-moves
 returns-in-Drops-clause-moves g c =
@@ -50,7 +50,7 @@ returns-in-Drops-clause-cut g c =
     kept_stopped g.T.Task.seen (script_in c.args.checked.now) c.args.self.now c.drops.new.self c.args.event c.drops.result c.drops.ensures.same
 
 pub returns-in-Drops-clause-too : goal.returns-in-Drops-clause-too
-returns-in-Drops-clause-too g c = λ first at. at ∙ sym (ap (λ (xs : List Entry). first ++ xs) c.drops.ensures.sent)
+returns-in-Drops-clause-too g c = sent_none _ _ _ _ refl c.drops.ensures.sent
 
 pub returns-in-Sticks-clause-moves : goal.returns-in-Sticks-clause-moves
 returns-in-Sticks-clause-moves g c = λ st half free.
@@ -58,4 +58,4 @@ returns-in-Sticks-clause-moves g c = λ st half free.
     (sym (c.decide.ensures st half) ∙ c.in-Sticks.is) (c.sticks.ensures.moves (script_in c.args.checked.now) st half)
 
 pub returns-in-Sticks-clause-too : goal.returns-in-Sticks-clause-too
-returns-in-Sticks-clause-too g c = λ first at. at ∙ sym (ap (λ (xs : List Entry). first ++ xs) c.sticks.ensures.sent)
+returns-in-Sticks-clause-too g c = sent_none _ _ _ _ refl c.sticks.ensures.sent

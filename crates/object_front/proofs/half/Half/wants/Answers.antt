@@ -10,7 +10,7 @@ pub returns-in-Err-clause-cut : goal.returns-in-Err-clause-cut
 returns-in-Err-clause-cut g c = λ script st half free is. inl refl
 
 pub returns-in-Err-clause-too : goal.returns-in-Err-clause-too
-returns-in-Err-clause-too g c = λ first at. at
+returns-in-Err-clause-too g c = λ first base at. at
 
 pub returns-in-Ok-send_all-clause-moves : goal.returns-in-Ok-send_all-clause-moves
 returns-in-Ok-send_all-clause-moves g c = λ script st half free is.

@@ -36,6 +36,10 @@ returns-in-Ok g c = record {
       held = ap (λ (b : Back g.row.D.Denot). b.held) c.land.ensures.same;
       before = ap (λ (b : Back g.row.D.Denot). b.before) c.land.ensures.same;
       durable = ap (λ (b : Back g.row.D.Denot). b.durable) c.land.ensures.same;
+      limit = ap (λ (b : Back g.row.D.Denot). b.limit) c.land.ensures.same;
+      identity = ap (λ (b : Back g.row.D.Denot). b.identity) c.land.ensures.same;
+      stuck = ap (λ (b : Back g.row.D.Denot). b.stuck) c.land.ensures.same;
+      cache = ap (λ (b : Back g.row.D.Denot). b.cache) c.land.ensures.same;
     }),
   );
   stopped = ap is_stopped c.land.ensures.same;
@@ -68,6 +72,9 @@ returns-in-Err g c =
           held = c.stop.ensures.held;
           before = ap (λ (b : Back g.row.D.Denot). b.before) c.stop.ensures.same;
           durable = ap (λ (b : Back g.row.D.Denot). b.durable) c.stop.ensures.same;
+          limit = ap (λ (b : Back g.row.D.Denot). b.limit) c.stop.ensures.same;
+          identity = ap (λ (b : Back g.row.D.Denot). b.identity) c.stop.ensures.same;
+          stuck = ap (λ (b : Back g.row.D.Denot). b.stuck) c.stop.ensures.same;
         }),
       );
       stopped = ap is_stopped c.stop.ensures.same;

@@ -31,7 +31,7 @@ pub returns-in_err-send-clause-lost : goal.returns-in_err-send-clause-lost
 returns-in_err-send-clause-lost g c =
     let r = remounts_from g.D.Disk.faults_of c.args.self.now c.remount.new.self c.mend_room.new.log c.in-Wanted.ending c.in_ok-notice.notice c.mend_room.ensures.same c.in_ok-notice.ensures.remounts in
     let l : LosesMend g.D.Disk.faults_of c.args.self.now c.remount.new.self (g.N.Outlet.sent c.args.notices.now) (g.N.Outlet.sent c.send.new.outlet) =
-    record { told = c.in_err-send.ensures.same; log = inr (c.in-Wanted.ending, c.in_ok-notice.notice, remounts_noted g.D.Disk.faults_of c.args.self.now c.remount.new.self c.in-Wanted.ending c.in_ok-notice.notice (is_stopped c.args.self.now) refl r) } in
+    record { told = c.in_err-send.ensures.same; log = inr (c.in-Wanted.ending, c.in_ok-notice.notice, c.in-Wanted.is, remounts_noted g.D.Disk.faults_of c.args.self.now c.remount.new.self c.in-Wanted.ending c.in_ok-notice.notice (is_stopped c.args.self.now) refl r) } in
     on_err _ _ l
 
 pub returns-in_err-send-clause-stopped : goal.returns-in_err-send-clause-stopped

@@ -10,6 +10,7 @@ returns g c = record {
     log = rw (c.new-3.ensures.items, c.new-4.ensures.items, c.new-5.ensures.items, c.new-6.ensures.items, c.new-7.ensures.items, c.new-8.ensures.items) refl;
     held = c.new-2.ensures.items;
     store = refl;
+    limit = c.limit-limit.ensures;
     identity = refl;
     map = c.new.ensures;
     stuck = refl;

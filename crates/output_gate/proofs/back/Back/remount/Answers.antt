@@ -11,7 +11,7 @@ use Rattle.output_gate.proofs.back.Back.remount.Goals as goal
 pub returns-then-may_be-clause-remounts : goal.returns-then-may_be-clause-remounts
 returns-then-may_be-clause-remounts g c =
     let b = c.begin.ensures.begins in
-    inl (record { journal = c.in-Mounted.mounted.journal; map = c.in-Mounted.mounted.map; begins = record { log = b.log; same = b.same }; notice = c.begin.ensures.notice })
+    inl (record { journal = c.in-Mounted.mounted.journal; map = c.in-Mounted.mounted.map; begins = record { log = b.log; same = b.same }; limit = c.in-Mounted.ensures.limited; notice = c.begin.ensures.notice })
 
 pub returns-then-may_be-clause-back : goal.returns-then-may_be-clause-back
 returns-then-may_be-clause-back g c start opening u =

@@ -1,0 +1,10 @@
+pub mod Saying
+pub mod Crashes
+pub mod Histories
+pub mod Served
+pub mod Logged
+pub mod Naming
+pub mod Called
+pub mod Bound
+pub mod Fits
+pub mod Limits

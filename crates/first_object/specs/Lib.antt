@@ -1,0 +1,10 @@
+pub mod Said
+pub mod Told
+pub mod Fault
+pub mod Turn
+pub mod Kept
+pub mod Named
+pub mod Within
+pub mod History
+pub mod Serving
+pub mod Ready

@@ -1,0 +1,7 @@
+mod Keeping
+mod Items
+mod Turning
+pub mod Lanes
+mod Backs
+mod Said
+mod Whole

@@ -1,0 +1,37 @@
+-- What a step of the back leaves of the pair.
+use Rattle.std.proofs.Common.{◌≡◌, sym, subst, List, ◌++◌}
+use Rattle.storage_map.specs.Contents.{Contents}
+use Rattle.timeline.specs.Intake.{Kind}
+use Rattle.timeline.specs.declared.entry.Entry.{Entry}
+use Rattle.timeline.specs.declared.notice.Notice.{Notice}
+use Rattle.object_front.specs.Standing.{Stood}
+use Rattle.object_front.specs.declared.evaluated.Evaluated.{Evaluated}
+use Rattle.object_front.specs.declared.half.Half.{Half}
+use Rattle.object_history.specs.Pair.{Rear}
+use Rattle.object_history.specs.Stepping.{IsRear, BackSteps, AreGiven}
+use Rattle.front_history.specs.Paired.{ArePaired}
+use Rattle.front_history.specs.Turns.{BackStepsKeep}
+
+-- What a step of the back, as it is seen, tells of, and what of that is given.
+pub record Hears (rear later : Rear) (got : List Entry) (notices after : List Notice) : Type 0 where
+  pub heard : List Notice
+  pub given : List Notice
+  pub steps : BackSteps rear later got heard
+  pub are : AreGiven heard given
+  pub come : after ≡ notices ++ given
+
+pub paired_on : (keeps : BackStepsKeep) (k : Kind) (opened : Contents) (st : Stood) (half : Half Evaluated) (rear later : Rear) (line rest got : List Entry)
+    (notices after : List Notice) → Hears rear later got notices after → IsRear opened rear → IsRear opened later → line ≡ got ++ rest
+    → ArePaired k opened st half rear line notices → ArePaired k opened st half later rest after
+paired_on keeps k opened st half rear later line rest got notices after hears known knows is_line paired =
+    subst (λ (n : List Notice). ArePaired k opened st half later rest n) (sym hears.come)
+    (keeps k opened st half rear later got rest hears.heard hears.given notices known knows hears.steps hears.are
+    (subst (λ (l : List Entry). ArePaired k opened st half rear l notices) is_line paired))
+
+-- The same, seen of another back that looks alike.
+pub paired_as : (k : Kind) (opened : Contents) (st : Stood) (half : Half Evaluated) (rear later : Rear) (line rest : List Entry) (notices after : List Notice)
+    → later ≡ rear → rest ≡ line → after ≡ notices → ArePaired k opened st half rear line notices → ArePaired k opened st half later rest after
+paired_as k opened st half rear later line rest notices after same is_line is_notices paired =
+    subst (λ (r : Rear). ArePaired k opened st half r rest after) (sym same)
+    (subst (λ (l : List Entry). ArePaired k opened st half rear l after) (sym is_line)
+    (subst (λ (n : List Notice). ArePaired k opened st half rear line n) (sym is_notices) paired))

@@ -1,0 +1,122 @@
+-- What a step of the back leaves of an object.
+use Rattle.std.proofs.Common.{◌≡◌, ◌∙◌, ap, sym, refl, subst, inl, inr, ℕ, List, [], ◌++◌, Option}
+use Rattle.std.specs.Prelude.{Bool, false}
+use Rattle.std.specs.List.{flat_map}
+use Rattle.batch_journal.specs.Rest.{disk_in}
+use Rattle.do_tree.specs.Tree.{Script}
+use Rattle.lane.specs.Lanes.{Both, sent_on}
+use Rattle.storage_map.specs.Contents.{Contents}
+use Rattle.storage_map.specs.declared.op.Op.{Op}
+use Rattle.timeline.specs.Intake.{Kind}
+use Rattle.timeline.specs.Logs.{Backed, backed}
+use Rattle.timeline.specs.declared.entry.Entry.{Entry}
+use Rattle.timeline.specs.declared.event.Event.{Event}
+use Rattle.timeline.specs.declared.message.Message.{Message as Sent}
+use Rattle.timeline.specs.declared.notice.Notice.{Notice}
+use Rattle.object_front.specs.Standing.{kind_in}
+use Rattle.object_front.specs.declared.evaluated.Evaluated.{Evaluated}
+use Rattle.object_front.specs.declared.half.Half.{Half}
+use Rattle.output_gate.specs.Serving.{IsBack, IsBackAs, is_stopped}
+use Rattle.output_gate.specs.Storing.{IsDiskOf}
+use Rattle.output_gate.specs.Telling.{opened_map}
+use Rattle.output_gate.specs.declared.back.Back.{Back}
+use Rattle.output_gate.specs.declared.back.Mode.{Mode}
+use Rattle.output_gate.specs.declared.held.Held.{Held as BackHeld}
+use Rattle.output_gate.specs.declared.store.Store.{Store}
+use Rattle.object_history.specs.Pair.{Held, Stand, Rear}
+use Rattle.object_history.specs.Seen.{held_of, stand_of, rear_of}
+use Rattle.front_history.specs.Paired.{ArePaired}
+use Rattle.front_history.specs.Turns.{BackStepsKeep}
+use Rattle.object_core.proofs.Due.{IsDue, is_due, seen_is_rear}
+use Rattle.object_core.proofs.Lanes.{took_none}
+use Rattle.object_core.proofs.Pairing.{Hears, paired_on, paired_as}
+use Rattle.object_core.specs.One.{AllTell, IsOneOf, messages}
+use Rattle.object_core.specs.Seen.{due_map, seen_of}
+
+abbrev looks : Contents → Backed → Stand → List Held → ℕ → ℕ → Rear
+looks opened log stand held before durable = record { log = log; stand = stand; held = held; before = before; durable = durable; map = due_map opened log }
+
+-- backs that look alike
+pub seen_same : {D : Type 0} (opened : Contents) (old new : Back D) → backed new.log ≡ backed old.log → new.held.items ≡ old.held.items → new.mode ≡ old.mode
+    → new.before ≡ old.before → new.durable ≡ old.durable → seen_of opened new ≡ seen_of opened old
+seen_same opened old new log held mode before durable =
+    ap (λ (x : Backed). looks opened x (stand_of new.mode) (flat_map held_of new.held.items) new.before new.durable) log
+    ∙ ap (λ (x : Mode). looks opened (backed old.log) (stand_of x) (flat_map held_of new.held.items) new.before new.durable) mode
+    ∙ ap (λ (x : List BackHeld). looks opened (backed old.log) (stand_of old.mode) (flat_map held_of x) new.before new.durable) held
+    ∙ ap (λ (x : ℕ). looks opened (backed old.log) (stand_of old.mode) (flat_map held_of old.held.items) x new.durable) before
+    ∙ ap (λ (x : ℕ). looks opened (backed old.log) (stand_of old.mode) (flat_map held_of old.held.items) old.before x) durable
+
+pub same_queue : {X : Type 0} (old new : Both X) → new.got ≡ old.got → new.waiting ≡ old.waiting → new ≡ old
+same_queue {X} old new got waiting =
+    ap (λ (xs : List X). record { got = xs; waiting = new.waiting }) got ∙ ap (λ (xs : List X). record { got = old.got; waiting = xs }) waiting
+
+module _ {D : Type 0} (moment_of : D → ℕ) (left_since : D → ℕ → List ℕ → Type 0) (told : D → Option (List ℕ)) (image : D → List ℕ → Type 0) (faults_of : D → ℕ)
+    (script : Script) (start : List (List Op)) (opening : ℕ) (front : Half Evaluated) (inbox : Both Event) where
+  -- a back has a disk
+  pub disk_of : (sound : Bool) (back : Back D) → IsBackAs moment_of left_since told image faults_of start opening sound back → (disk : D) × IsDiskOf back.store disk
+  disk_of sound back (inl m) = (disk_in m.journal, subst (λ (s : Store D). IsDiskOf s (disk_in m.journal)) (sym m.safe.store) refl)
+  disk_of sound back (inr u) = (u.disk, u.safe.store)
+
+  -- Over a kind of disk that tells its content a mounted back has the map that is due.
+  pub due_of_all : (back : Back D) → AllTell told → IsBack moment_of left_since told image faults_of start opening back → is_stopped back ≡ false
+      → IsDue (opened_map start) (rear_of back)
+  due_of_all back tells known on =
+      let at = disk_of _ back known in
+      is_due moment_of left_since told image faults_of start opening back at.0 at.1 (tells at.0) known on
+
+  abbrev pub One : Back D → Both Entry → Both Notice → Both Sent → Type 0
+  One back line notices out = IsOneOf moment_of left_since told image faults_of script start opening front inbox back line notices out
+
+  -- What is left to show of a step of the back: that the halves stay a pair.
+  abbrev pub StaysPair : (old new : Back D) (line later_line : Both Entry) (notices later : Both Notice) (out : Both Sent) → One old line notices out → (lost : List Entry) → Type 0
+  StaysPair old new line later_line notices later out one lost = AllTell told → (k : Kind) → ArePaired k (opened_map start) one.st front (seen_of (opened_map start) old) (one.lost ++ line.waiting) notices.waiting
+      → ArePaired k (opened_map start) one.st front (seen_of (opened_map start) new) (lost ++ later_line.waiting) later.waiting
+
+  pub rebuilt : (old new : Back D) (line later_line : Both Entry) (notices later : Both Notice) (out later_out : Both Sent) (one : One old line notices out)
+      → IsBack moment_of left_since told image faults_of start opening new
+      → (lost : List Entry) → (new.stuck ≡ false → is_stopped new ≡ false → lost ≡ [])
+      → front.log.sent.items ≡ new.log.taken.items ++ lost ++ later_line.waiting → messages new.log.released.items ≡ one.before ++ sent_on later_out
+      → StaysPair old new line later_line notices later out one lost → One new later_line later later_out
+  rebuilt old new line later_line notices later out later_out one stands lost none is_line left pair = record {
+    back_stands = stands;
+    alarm = one.alarm;
+    st = one.st;
+    front_stands = one.front_stands;
+    has_taken = one.has_taken;
+    has_got = one.has_got;
+    lost = lost;
+    none_lost = none;
+    is_line = is_line;
+    before = one.before;
+    left = left;
+    pair = λ tells class is. pair tells (kind_in script class) (one.pair tells class is);
+  }
+
+  module _ (keeps : BackStepsKeep) (old new : Back D) (line : Both Entry) (notices later : Both Notice) (out later_out : Both Sent) (one : One old line notices out)
+      (known : IsBack moment_of left_since told image faults_of start opening new)
+      (none : new.stuck ≡ false → is_stopped new ≡ false → one.lost ≡ []) where
+    -- What was sent is taken as it was.
+    still_line : new.log.taken.items ≡ old.log.taken.items → front.log.sent.items ≡ new.log.taken.items ++ one.lost ++ line.waiting
+    still_line taken = one.is_line ∙ ap (λ (x : List Entry). x ++ one.lost ++ line.waiting) (sym taken)
+
+    -- A step that takes nothing of the line.
+    pub stepped : new.log.taken.items ≡ old.log.taken.items → messages new.log.released.items ≡ one.before ++ sent_on later_out
+        → (AllTell told → Hears (seen_of (opened_map start) old) (seen_of (opened_map start) new) [] notices.waiting later.waiting) → One new line later later_out
+    stepped taken left steps =
+        rebuilt old new line line notices later out later_out one known one.lost none (still_line taken) left
+        (λ tells k paired.
+        paired_on keeps k (opened_map start) one.st front (seen_of (opened_map start) old) (seen_of (opened_map start) new)
+        (one.lost ++ line.waiting) (one.lost ++ line.waiting) [] notices.waiting later.waiting (steps tells)
+        (seen_is_rear moment_of left_since told image faults_of start opening old one.back_stands)
+        (seen_is_rear moment_of left_since told image faults_of start opening new known) refl paired)
+
+    -- Nothing that is seen has changed.
+    pub unseen : backed new.log ≡ backed old.log → new.held.items ≡ old.held.items → new.mode ≡ old.mode → new.before ≡ old.before → new.durable ≡ old.durable
+        → later.got ≡ notices.got → sent_on later ≡ sent_on notices → later_out ≡ out → One new line later later_out
+    unseen log held mode before durable got said left =
+        rebuilt old new line line notices later out later_out one known one.lost none (still_line (ap (λ (x : Backed). x.taken) log))
+        (ap (λ (x : Backed). messages x.released) log ∙ one.left ∙ ap (λ (x : Both Sent). one.before ++ sent_on x) (sym left))
+        (λ tells k paired.
+        paired_as k (opened_map start) one.st front (seen_of (opened_map start) old) (seen_of (opened_map start) new)
+        (one.lost ++ line.waiting) (one.lost ++ line.waiting) notices.waiting later.waiting
+        (seen_same (opened_map start) old new log held mode before durable) refl (sym (took_none notices later got said)) paired)

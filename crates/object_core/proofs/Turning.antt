@@ -1,0 +1,153 @@
+-- An object whose front takes a notice or an event.
+use Rattle.std.proofs.Common.{◌≡◌, ◌∙◌, ap, sym, refl, subst, inl, inr, true≢false, ℕ, List, ◌++◌, append_assoc, Option, Some, None}
+use Rattle.std.specs.Prelude.{Bool, true, false, Result, Ok, Err, OnOk, OnErr}
+use Rattle.do_tree.specs.Tree.{Script}
+use Rattle.do_value.specs.declared.fault.NoMemory.{NoMemory}
+use Rattle.lane.specs.Lanes.{Both, sent_on, StartsWith}
+use Rattle.storage_map.specs.declared.op.Op.{Op}
+use Rattle.timeline.specs.Intake.{Taken, opened}
+use Rattle.timeline.specs.Logs.{fronted}
+use Rattle.timeline.specs.declared.entry.Entry.{Entry}
+use Rattle.timeline.specs.declared.event.Event.{Event}
+use Rattle.timeline.specs.declared.message.Message.{Message as Sent}
+use Rattle.timeline.specs.declared.notice.Notice.{Notice}
+use Rattle.object_front.specs.Came.{HasGot, EventsCome}
+use Rattle.object_front.specs.Evaluated.{seen}
+use Rattle.object_front.specs.Sending.{AreSentToo}
+use Rattle.object_front.specs.Standing.{Stood, IsClass, IsHalf, IsTakenBy, is_stopped, kind_in}
+use Rattle.object_front.specs.Taking.{Led}
+use Rattle.object_front.specs.Turning.{CanTurn, IsStill, IsQuiet, IsTaken, Turns, Halts}
+use Rattle.object_front.specs.declared.evaluated.Evaluated.{Evaluated}
+use Rattle.object_front.specs.declared.half.Half.{Half}
+use Rattle.object_front.specs.declared.turning.Turned.{Turned}
+use Rattle.object_front.specs.declared.turning.Turned.TheVariants.{Ran, Idle}
+use Rattle.output_gate.specs.Telling.{opened_map}
+use Rattle.output_gate.specs.declared.back.Back.{Back}
+use Rattle.front_history.proofs.Lanes.{under_way}
+use Rattle.front_history.specs.Turns.{AreUnderWay, TurnSteps}
+use Rattle.object_core.proofs.Due.{seen_is_rear}
+use Rattle.object_core.specs.One.{HasTaken, IsOneOf, TellOfPair}
+use Rattle.object_core.specs.Seen.{seen_of}
+
+-- A front of an object can turn.
+module _ {D : Type 0} (moment_of : D → ℕ) (left_since : D → ℕ → List ℕ → Type 0) (told : D → Option (List ℕ)) (image : D → List ℕ → Type 0) (faults_of : D → ℕ)
+    (script : Script) (start : List (List Op)) (opening : ℕ) (front : Half Evaluated) (inbox : Both Event) (back : Back D) (line : Both Entry) (notices : Both Notice) (out : Both Sent)
+    (one : IsOneOf moment_of left_since told image faults_of script start opening front inbox back line notices out) where
+  can_as : (off : Bool) → is_stopped front ≡ off → CanTurn seen script front
+  can_as true off = inl off
+  can_as false on = inr (one.st, one.front_stands on)
+
+  pub can_turn : CanTurn seen script front
+  can_turn = can_as (is_stopped front) refl
+
+-- A class that the front may have.
+class_for : (class : Option ℕ) → (c : ℕ) × IsClass class c
+class_for None = (0, tt)
+class_for (Some class) = (class, refl)
+
+-- What the front's own contract says of a turn over three queues.
+pub record TurnsBy (script : Script) (old new : Half Evaluated) (inbox later_inbox : Both Event) (line later_line : Both Entry) (notices later : Both Notice)
+    (result : Result Turned NoMemory) : Type 0 where
+  pub stopped : is_stopped old ≡ true → OnOk result ⊥ × IsStill old new (inbox.got, notices.got, sent_on line) (later_inbox.got, later.got, sent_on later_line)
+  pub stuck : is_stopped old ≡ false → old.stuck ≡ true → result ≡ Ok Idle
+  pub still : result ≡ Ok Idle → IsStill old new (inbox.got, notices.got, sent_on line) (later_inbox.got, later.got, sent_on later_line)
+  pub idle : result ≡ Ok Idle → (st : Stood) → IsHalf seen script old st → st.stuck ≡ false
+      → StartsWith notices.got (sent_on notices) × IsQuiet st inbox.got (sent_on inbox)
+  pub ran : result ≡ Ok Ran → (st : Stood) → IsHalf seen script old st
+      → Turns seen script old new st inbox.got later_inbox.got notices.got later.got (sent_on notices)
+  pub lost : OnErr result ((st : Stood) → IsHalf seen script old st
+      → Halts script old new st inbox.got later_inbox.got notices.got later.got (sent_on notices))
+  pub too : AreSentToo (sent_on line) (sent_on later_line) old.log.sent.items new.log.sent.items
+  pub events : sent_on later_inbox ≡ sent_on inbox
+  pub told : sent_on later ≡ sent_on notices
+  pub said : later_line.got ≡ line.got
+
+module _ {D : Type 0} (moment_of : D → ℕ) (left_since : D → ℕ → List ℕ → Type 0) (told : D → Option (List ℕ)) (image : D → List ℕ → Type 0) (faults_of : D → ℕ)
+    (laws : TurnSteps) (come : EventsCome) (script : Script) (start : List (List Op)) (opening : ℕ) (old new : Half Evaluated) (back : Back D)
+    (inbox later_inbox : Both Event) (line later_line : Both Entry) (notices later : Both Notice) (out : Both Sent)
+    (one : IsOneOf moment_of left_since told image faults_of script start opening old inbox back line notices out) where
+  abbrev After : Type 0
+  After = IsOneOf moment_of left_since told image faults_of script start opening new later_inbox back later_line later out
+
+  module _ (result : Result Turned NoMemory) (by : TurnsBy script old new inbox later_inbox line later_line notices later result) where
+    way : AreUnderWay old new notices.got later.got (one.lost ++ line.waiting) (one.lost ++ later_line.waiting) notices.waiting later.waiting
+    way = under_way old new one.lost line later_line notices later by.too by.said by.told
+
+    is_line : new.log.sent.items ≡ back.log.taken.items ++ one.lost ++ later_line.waiting
+    is_line =
+        let taken = back.log.taken.items in
+        way.logged ∙ ap (λ (x : List Entry). x ++ way.sent) (one.is_line ∙ append_assoc taken one.lost line.waiting)
+        ∙ append_assoc taken (one.lost ++ line.waiting) way.sent ∙ ap (λ (x : List Entry). taken ++ x) (sym way.behind)
+        ∙ sym (append_assoc taken one.lost later_line.waiting)
+
+    turned : (st : Stood) → (is_stopped new ≡ false → IsHalf seen script new st) → (is_stopped new ≡ false → HasTaken script one.alarm new st)
+        → HasGot new st later_inbox.got → TellOfPair told script start st new back (one.lost ++ later_line.waiting) later.waiting → After
+    turned st stands has_taken has_got pair = record {
+      back_stands = one.back_stands;
+      alarm = one.alarm;
+      st = st;
+      front_stands = stands;
+      has_taken = has_taken;
+      has_got = has_got;
+      lost = one.lost;
+      none_lost = one.none_lost;
+      is_line = is_line;
+      before = one.before;
+      left = one.left;
+      pair = pair;
+    }
+
+    rests : IsStill old new (inbox.got, notices.got, sent_on line) (later_inbox.got, later.got, sent_on later_line) → After
+    rests still =
+        turned one.st
+        (λ on. subst (λ (h : Half Evaluated). IsHalf seen script h one.st) (sym still.half) (one.front_stands (sym (ap is_stopped still.half) ∙ on)))
+        (λ on. subst (λ (h : Half Evaluated). HasTaken script one.alarm h one.st) (sym still.half) (one.has_taken (sym (ap is_stopped still.half) ∙ on)))
+        (come.rests old new one.st (inbox.got, notices.got, sent_on line) (later_inbox.got, later.got, sent_on later_line) one.has_got still)
+        (λ tells class is. laws.rests (kind_in script class) (opened_map start) old new one.st (inbox.got, notices.got, sent_on line)
+        (later_inbox.got, later.got, sent_on later_line) (seen_of (opened_map start) back) (one.lost ++ line.waiting) (one.lost ++ later_line.waiting)
+        notices.waiting later.waiting (one.pair tells class is) way still)
+
+    -- what it had taken before
+    had_taken : is_stopped old ≡ false → (led : Led) → IsTaken script one.st inbox.got later_inbox.got notices.got later.got (sent_on notices) led
+        → (class : ℕ) → IsClass led.stood.class class
+        → (taken : List Taken) × IsTakenBy (kind_in script class) (opened one.alarm) taken one.st.front (fronted old.log)
+    had_taken on led taken class is =
+        one.has_taken on class (laws.class script class one.st inbox.got later_inbox.got notices.got later.got (sent_on notices) led taken is)
+
+    goes : is_stopped old ≡ false → Turns seen script old new one.st inbox.got later_inbox.got notices.got later.got (sent_on notices) → After
+    goes on turns =
+        let k = class_for turns.led.stood.class in
+        let had = had_taken on turns.led turns.taken k.0 k.1 in
+        turned turns.led.stood (λ on_then. turns.moves.half)
+        (λ on_then class is.
+        let t = had_taken on turns.led turns.taken class is in
+        (t.0 ++ turns.led.item, turns.moves.taken class (opened one.alarm) t.0 is t.1))
+        (come.goes_on script k.0 (opened one.alarm) had.0 old new one.st inbox.got later_inbox.got notices.got later.got (sent_on notices) on one.has_got had.1 turns k.1)
+        (λ tells class is. laws.goes_on script class (opened_map start) old new one.st inbox.got later_inbox.got notices.got later.got (sent_on notices)
+        (seen_of (opened_map start) back) (one.lost ++ line.waiting) (one.lost ++ later_line.waiting) notices.waiting later.waiting
+        (seen_is_rear moment_of left_since told image faults_of start opening back one.back_stands) on
+        (one.pair tells class (laws.class script class one.st inbox.got later_inbox.got notices.got later.got (sent_on notices) turns.led turns.taken is)) way turns is)
+
+    halts : is_stopped old ≡ false → Halts script old new one.st inbox.got later_inbox.got notices.got later.got (sent_on notices) → After
+    halts on stops =
+        let k = class_for stops.led.stood.class in
+        let had = had_taken on stops.led stops.taken k.0 k.1 in
+        turned stops.led.stood (λ on_then. absurd (true≢false (sym stops.stops.stopped ∙ on_then))) (λ on_then. absurd (true≢false (sym stops.stops.stopped ∙ on_then)))
+        (come.halts script k.0 (opened one.alarm) had.0 old new one.st inbox.got later_inbox.got notices.got later.got (sent_on notices) on one.has_got had.1 stops k.1)
+        (λ tells class is. laws.halts script class (opened_map start) old new one.st inbox.got later_inbox.got notices.got later.got (sent_on notices)
+        (seen_of (opened_map start) back) (one.lost ++ line.waiting) (one.lost ++ later_line.waiting) notices.waiting later.waiting
+        (seen_is_rear moment_of left_since told image faults_of start opening back one.back_stands) on
+        (one.pair tells class (laws.class script class one.st inbox.got later_inbox.got notices.got later.got (sent_on notices) stops.led stops.taken is)) way stops is)
+
+  ran : is_stopped old ≡ false → (result : Result Turned NoMemory) → TurnsBy script old new inbox later_inbox line later_line notices later result → After
+  ran on (Ok Ran) by = goes (Ok Ran) by on (by.ran refl one.st (one.front_stands on))
+  ran on (Ok Idle) by = rests (Ok Idle) by (by.still refl)
+  ran on (Err fault) by = halts (Err fault) by on (by.lost one.st (one.front_stands on))
+
+  stopped_as : (off : Bool) → is_stopped old ≡ off → (result : Result Turned NoMemory)
+      → TurnsBy script old new inbox later_inbox line later_line notices later result → After
+  stopped_as true off result by = rests result by (by.stopped off).1
+  stopped_as false on result by = ran on result by
+
+  pub turn_keeps : (result : Result Turned NoMemory) → TurnsBy script old new inbox later_inbox line later_line notices later result → After
+  turn_keeps result by = stopped_as (is_stopped old) refl result by

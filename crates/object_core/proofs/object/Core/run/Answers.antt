@@ -1,0 +1,55 @@
+use Rattle.std.proofs.Common.{◌≡◌, ◌∙◌, ap, sym, subst, List, [], ◌∷◌, ◌++◌, append_assoc, append-nil}
+use Rattle.std.proofs.lemmas.List.{nil_from_length}
+use Rattle.std.specs.Prelude.{Bool, Result, Ok}
+use Rattle.do_tree.specs.Checked.{tree_of}
+use Rattle.do_value.specs.declared.fault.NoMemory.{NoMemory}
+use Rattle.object_core.proofs.Runs.{runs_more, runs_out, runs_stop}
+use Rattle.object_core.specs.Running.{Runs, ends}
+use Rattle.object_core.specs.Stepping.{Steps}
+use Rattle.object_core.specs.declared.choice.Choice.{Choice}
+use Rattle.object_core.proofs.object.Core.run.Goals as goal
+
+pub loop-choice-init : goal.loop-choice-init
+loop-choice-init g c = (ends c.args.self.now, c.requires, λ start opening one. one, sym c.into_iter-choice-iterator.ensures.into_iter_gives.0)
+
+pub step-requires : goal.step-requires
+step-requires g c = c.loop-choice.invariant.1
+
+pub loop-choice-preserved : goal.loop-choice-preserved
+loop-choice-preserved g c =
+    let i = c.loop-choice.invariant in (
+      runs_more g.D.Disk.moment_of g.D.Disk.faults_of (tree_of c.args.checked.now) c.args.self.now c.loop-choice.self c.step.new.self c.loop-choice.yielded c.in-Some.choice c.in_ok-step.field-0 i.0
+          (subst (λ (r : Result Bool NoMemory). Steps g.D.Disk.moment_of g.D.Disk.faults_of (tree_of c.args.checked.now) c.loop-choice.self c.step.new.self c.in-Some.choice r) c.in_ok-step.was c.step.ensures.steps),
+      c.step.ensures.again,
+      λ start opening one. c.step.ensures.one start opening (i.2 start opening one),
+      i.3 ∙ ap (λ (xs : List Choice). c.loop-choice.yielded ++ xs) c.in-Some.ensures.steps.0
+          ∙ sym (append_assoc c.loop-choice.yielded (c.in-Some.choice ∷ []) c.next.new.self.rest.items),
+    )
+
+pub returns-in_err-step-clause-runs : goal.returns-in_err-step-clause-runs
+returns-in_err-step-clause-runs g c =
+    let i = c.loop-choice.invariant in
+    let all : c.args.choices.items ≡ c.loop-choice.yielded ++ c.in-Some.choice ∷ c.next.new.self.rest.items =
+    i.3 ∙ ap (λ (xs : List Choice). c.loop-choice.yielded ++ xs) c.in-Some.ensures.steps.0 in
+    subst (λ (cs : List Choice). Runs g.D.Disk.moment_of g.D.Disk.faults_of (tree_of c.args.checked.now) c.args.self.now c.step.new.self cs c.from_residual.result) (sym all)
+    (runs_stop g.D.Disk.moment_of g.D.Disk.faults_of (tree_of c.args.checked.now) c.args.self.now c.step.new.self (c.loop-choice.yielded ++ c.in-Some.choice ∷ c.next.new.self.rest.items) c.in_err-step.field-0.0
+    c.from_residual.result c.from_residual.ensures.0
+    (runs_out g.D.Disk.moment_of g.D.Disk.faults_of (tree_of c.args.checked.now) c.args.self.now c.loop-choice.self c.step.new.self c.loop-choice.yielded c.in-Some.choice c.next.new.self.rest.items c.in_err-step.field-0.0 i.0
+    (subst (λ (r : Result Bool NoMemory). Steps g.D.Disk.moment_of g.D.Disk.faults_of (tree_of c.args.checked.now) c.loop-choice.self c.step.new.self c.in-Some.choice r) c.in_err-step.was c.step.ensures.steps)))
+
+pub returns-in_err-step-clause-one : goal.returns-in_err-step-clause-one
+returns-in_err-step-clause-one g c start opening one = c.step.ensures.one start opening (c.loop-choice.invariant.2 start opening one)
+
+pub returns-clause-runs : goal.returns-clause-runs
+returns-clause-runs g c =
+    let i = c.loop-choice.invariant in
+    let rest = c.loop-choice.choice-iterator.rest in
+    let none : rest.items ≡ [] = nil_from_length rest.items (sym rest.ok.0 ∙ c.in-None.ensures.steps.0) in
+    let all : c.args.choices.items ≡ c.loop-choice.yielded = i.3 ∙ ap (λ (xs : List Choice). c.loop-choice.yielded ++ xs) none ∙ append-nil c.loop-choice.yielded in
+    subst (λ (cs : List Choice). Runs g.D.Disk.moment_of g.D.Disk.faults_of (tree_of c.args.checked.now) c.args.self.now c.loop-choice.self cs (Ok tt)) (sym all) i.0
+
+pub returns-clause-again : goal.returns-clause-again
+returns-clause-again g c = c.loop-choice.invariant.1
+
+pub returns-clause-one : goal.returns-clause-one
+returns-clause-one g c = c.loop-choice.invariant.2

@@ -1,0 +1,93 @@
+-- What holds of one object, both of whose halves run on one thread, after each of its steps.
+use Rattle.std.specs.Prelude.{◌≡◌, ℕ, ℤ, false, List, [], ◌++◌, map, Option}
+use Rattle.batch_journal.specs.Moments.{IsTold}
+use Rattle.do_tree.specs.Tree.{Script}
+use Rattle.lane.specs.Lanes.{Both, sent_on}
+use Rattle.storage_map.specs.declared.op.Op.{Op}
+use Rattle.timeline.specs.Intake.{Taken, opened}
+use Rattle.timeline.specs.Logs.{fronted, backed}
+use Rattle.timeline.specs.declared.entry.Entry.{Entry}
+use Rattle.timeline.specs.declared.event.Event.{Event}
+use Rattle.timeline.specs.declared.message.Message.{Message as Sent}
+use Rattle.timeline.specs.declared.notice.Notice.{Notice}
+use Rattle.timeline.specs.declared.back_log.Release.{Release}
+use Rattle.object_front.specs.Came.{HasGot}
+use Rattle.object_front.specs.Evaluated.{seen}
+use Rattle.object_front.specs.Standing as standing
+use Rattle.object_front.specs.Standing.{Stood, IsHalf, IsClass, IsTakenBy, fresh, kind_in, nothing_logged}
+use Rattle.object_front.specs.declared.evaluated.Evaluated.{Evaluated}
+use Rattle.object_front.specs.declared.half.Half.{Half}
+use Rattle.output_gate.specs.Logs.{no_log}
+use Rattle.output_gate.specs.Serving as serving
+use Rattle.output_gate.specs.Serving.{IsBack}
+use Rattle.output_gate.specs.Telling.{opened_map}
+use Rattle.output_gate.specs.declared.back.Back.{Back}
+use Rattle.front_history.specs.Paired.{ArePaired}
+use Rattle.object_core.specs.Seen.{seen_of}
+use Rattle.object_core.specs.declared.object.Core.{Core}
+
+-- Nothing went through a queue yet.
+abbrev pub unused : {X : Type 0} → Both X
+unused = record { got = []; waiting = [] }
+
+abbrev pub messages : List Release → List Sent
+messages released = map (λ (release : Release). release.message) released
+
+-- Both halves of a slot that was just mounted: nothing is logged, and the front was made with the alarm of the back's map.
+pub record AreFresh {D : Type 0} (script : Script) (front : Half Evaluated) (back : Back D) : Type 0 where
+  pub class : Option ℕ
+  pub stands : IsHalf seen script front (fresh class back.cache.alarm)
+  pub goes : standing.is_stopped front ≡ false
+  pub front_log : fronted front.log ≡ nothing_logged
+  pub back_log : backed back.log ≡ no_log
+  pub held : back.held.items ≡ []
+  pub free : back.stuck ≡ false
+  pub serves : serving.is_stopped back ≡ false
+
+-- Over a kind of disk that tells its content, front and back are a pair of any class that the front may have.
+abbrev pub AllTell : {D : Type 0} → (told : D → Option (List ℕ)) → Type 0
+AllTell {D} told = (disk : D) → IsTold (told disk)
+
+abbrev pub TellOfPair : {D : Type 0} → (told : D → Option (List ℕ)) → Script → (start : List (List Op)) → Stood → Half Evaluated → Back D
+    → (under_way : List Entry) → (notices : List Notice) → Type 0
+TellOfPair told script start st front back under_way notices = AllTell told → (class : ℕ) → IsClass st.class class
+    → ArePaired (kind_in script class) (opened_map start) st front (seen_of (opened_map start) back) under_way notices
+
+-- A front that was made with this alarm stands at what it has taken.
+abbrev pub HasTaken : Script → Option (ℤ × ℕ) → Half Evaluated → Stood → Type 0
+HasTaken script alarm front st = (class : ℕ) → IsClass st.class class
+    → (taken : List Taken) × IsTakenBy (kind_in script class) (opened alarm) taken st.front (fronted front.log)
+
+-- Both halves, with the lanes between them: the back stands, and the front at what it has taken unless memory was wanting; all events
+-- that it got are accounted for; what it has sent is what the back has logged as taken and what waits, and between them the one entry
+-- that the back took and didn't log, if it is stuck or memory was wanting; the messages that wait are the last that it has released.
+pub record IsOneOf {D : Type 0} (moment_of : D → ℕ) (left_since : D → ℕ → List ℕ → Type 0) (told : D → Option (List ℕ))
+    (image : D → List ℕ → Type 0) (faults_of : D → ℕ) (script : Script) (start : List (List Op)) (opening : ℕ)
+    (front : Half Evaluated) (inbox : Both Event) (back : Back D) (line : Both Entry) (notices : Both Notice) (out : Both Sent) : Type 0 where
+  pub back_stands : IsBack moment_of left_since told image faults_of start opening back
+  pub alarm : Option (ℤ × ℕ)
+  pub st : Stood
+  pub front_stands : standing.is_stopped front ≡ false → IsHalf seen script front st
+  pub has_taken : standing.is_stopped front ≡ false → HasTaken script alarm front st
+  pub has_got : HasGot front st inbox.got
+  pub lost : List Entry
+  pub none_lost : back.stuck ≡ false → serving.is_stopped back ≡ false → lost ≡ []
+  pub is_line : front.log.sent.items ≡ back.log.taken.items ++ lost ++ line.waiting
+  pub before : List Sent
+  pub left : messages back.log.released.items ≡ before ++ sent_on out
+  pub pair : TellOfPair told script start st front back (lost ++ line.waiting) notices.waiting
+
+abbrev pub IsOne : {D : Type 0} → (D → ℕ) → (D → ℕ → List ℕ → Type 0) → (D → Option (List ℕ)) → (D → List ℕ → Type 0) → (D → ℕ)
+    → Script → (start : List (List Op)) → (opening : ℕ) → Core D → Type 0
+IsOne moment_of left_since told image faults_of script start opening core =
+    IsOneOf moment_of left_since told image faults_of script start opening core.front.half core.inbox core.back core.line core.notices core.out
+
+abbrev pub CanRun : {D : Type 0} → (D → ℕ) → (D → ℕ → List ℕ → Type 0) → (D → Option (List ℕ)) → (D → List ℕ → Type 0) → (D → ℕ)
+    → Script → Core D → Type 0
+CanRun moment_of left_since told image faults_of script core =
+    (start : List (List Op)) × (opening : ℕ) × IsOne moment_of left_since told image faults_of script start opening core
+
+abbrev pub KeepsOne : {D : Type 0} → (D → ℕ) → (D → ℕ → List ℕ → Type 0) → (D → Option (List ℕ)) → (D → List ℕ → Type 0) → (D → ℕ)
+    → Script → (old new : Core D) → Type 0
+KeepsOne moment_of left_since told image faults_of script old new = (start : List (List Op)) (opening : ℕ)
+    → IsOne moment_of left_since told image faults_of script start opening old → IsOne moment_of left_since told image faults_of script start opening new

@@ -1,0 +1,56 @@
+-- What an entry that a back may not take changes, and one that it may.
+use Rattle.std.proofs.Common.{◌≡◌, refl, ℕ, List, [], ◌∷◌, ◌++◌, Option, None}
+use Rattle.std.specs.Prelude.{true, false}
+use Rattle.storage_map.specs.Contents.{Contents}
+use Rattle.timeline.specs.Logs.{Backed}
+use Rattle.timeline.specs.declared.entry.Body.{Body}
+use Rattle.timeline.specs.declared.entry.Entry.{Entry}
+use Rattle.output_gate.specs.Entering.{is_unfit, logged_as, notice_as, held_as, mode_after, before_after}
+use Rattle.output_gate.specs.declared.back.Back.{Back}
+use Rattle.output_gate.specs.declared.back.Mode.{Mode}
+use Rattle.output_gate.specs.declared.fit.Fit.{Fit}
+use Rattle.output_gate.specs.declared.fit.Fit.TheVariants as fit
+
+-- An unfit entry changes nothing of what is seen.
+pub unfit_log : (f : Fit) (log : Backed) (e : Entry) → is_unfit f ≡ true → logged_as f log e ≡ log
+unfit_log fit.Unfit log e is = refl
+unfit_log fit.Own log e is = absurd cc
+unfit_log fit.Down log e is = absurd cc
+unfit_log fit.Late log e is = absurd cc
+
+pub unfit_held : {D : Type 0} (f : Fit) (back : Back D) (e : Entry) → is_unfit f ≡ true → held_as f back e ≡ []
+unfit_held fit.Unfit back e is = refl
+unfit_held fit.Own back e is = absurd cc
+unfit_held fit.Down back e is = absurd cc
+unfit_held fit.Late back e is = absurd cc
+
+pub unfit_notice : (f : Fit) (e : Entry) (m : Contents) → is_unfit f ≡ true → notice_as f e m ≡ None
+unfit_notice fit.Unfit e m is = refl
+unfit_notice fit.Own e m is = absurd cc
+unfit_notice fit.Down e m is = absurd cc
+unfit_notice fit.Late e m is = absurd cc
+
+pub unfit_mode : (f : Fit) (mode : Mode) (b : Body) → is_unfit f ≡ true → mode_after f mode b ≡ mode
+unfit_mode fit.Unfit mode b is = refl
+unfit_mode fit.Own mode b is = refl
+unfit_mode fit.Down mode b is = absurd cc
+unfit_mode fit.Late mode b is = refl
+
+pub unfit_before : (f : Fit) (before : ℕ) (b : Body) → is_unfit f ≡ true → before_after f before b ≡ before
+unfit_before fit.Unfit before b is = refl
+unfit_before fit.Own before b is = absurd cc
+unfit_before fit.Down before b is = refl
+unfit_before fit.Late before b is = refl
+
+-- A fit one is logged.
+pub fit_taken : (f : Fit) (log : Backed) (e : Entry) → is_unfit f ≡ false → (logged_as f log e).taken ≡ log.taken ++ e ∷ []
+fit_taken fit.Unfit log e is = absurd cc
+fit_taken fit.Own log e is = refl
+fit_taken fit.Down log e is = refl
+fit_taken fit.Late log e is = refl
+
+pub released_still : (f : Fit) (log : Backed) (e : Entry) → (logged_as f log e).released ≡ log.released
+released_still fit.Unfit log e = refl
+released_still fit.Own log e = refl
+released_still fit.Down log e = refl
+released_still fit.Late log e = refl
