@@ -14,6 +14,7 @@ use Rattle.timeline.specs.declared.message.Message.{Message as Sent}
 use Rattle.timeline.specs.declared.notice.Notice.{Notice}
 use Rattle.object_front.specs.Standing.{IsTakenBy, kind_in, fresh}
 use Rattle.object_front.specs.Came.{EventsCome}
+use Rattle.object_front.specs.Classed.{class_by}
 use Rattle.object_front.specs.declared.evaluated.Evaluated.{Evaluated}
 use Rattle.object_front.specs.declared.half.Half.{Half}
 use Rattle.output_gate.specs.Serving.{IsBack, IsBackAs}
@@ -24,13 +25,16 @@ use Rattle.output_gate.specs.declared.held.Held.{Held as BackHeld}
 use Rattle.object_history.specs.Seen.{held_of, stand_of}
 use Rattle.front_history.specs.Turns.{FrontBegins}
 use Rattle.object_core.proofs.Due.{seen_is_rear}
-use Rattle.object_core.proofs.Rebuilding.{One, due_of_all}
-use Rattle.object_core.specs.One.{AreFresh, messages, unused}
+use Rattle.object_core.proofs.Rebuilding.{One, due_now}
+use Rattle.object_core.specs.One.{AreFresh, Origin, class_in, messages, mounted_at, unused}
 use Rattle.object_core.specs.Seen.{due_map, seen_of}
 
 module _ {D : Type 0} (moment_of : D → ℕ) (left_since : D → ℕ → List ℕ → Type 0) (told : D → Option (List ℕ)) (image : D → List ℕ → Type 0) (faults_of : D → ℕ)
     (begins : FrontBegins) (come : EventsCome) (script : Script) (start : List (List Op)) (opening : ℕ) (front : Half Evaluated) (back : Back D)
     (known : IsBack moment_of left_since told image faults_of start opening back) (are : AreFresh script front back) where
+  abbrev origin : Origin
+  origin = mounted_at start opening back
+
   -- nothing has ended, so that the first incarnation is mounted
   none_ended : {A : Type 0} (stops ends : ℕ) → stops ≡ 0 → stops ≡ suc ends → A
   none_ended stops ends none some = absurd (omega (arith, none, some))
@@ -53,33 +57,37 @@ module _ {D : Type 0} (moment_of : D → ℕ) (left_since : D → ℕ → List �
   due_first : due_map (opened_map start) (backed back.log) ≡ opened_map start
   due_first = ap (λ (x : Backed). due_map (opened_map start) x) are.back_log
 
-  pub begins_one : One moment_of left_since told image faults_of script start opening front unused back unused unused unused
+  pub begins_one : One moment_of left_since told image faults_of script origin front unused back unused unused unused
   begins_one = record {
     back_stands = known;
     alarm = back.cache.alarm;
-    st = fresh are.class back.cache.alarm;
+    st = fresh (class_in script back.identity) back.cache.alarm;
     front_stands = λ on. are.stands;
     has_taken = λ on class is. ([], none_taken class);
-    has_got = come.begins front are.class back.cache.alarm are.front_log;
+    classed = record {
+      now = λ on. ap (λ (x : Fronted). class_by script (class_in script back.identity) x) (sym are.front_log);
+      stays = λ class is. ap (λ (x : Fronted). class_by script (class_in script back.identity) x) (sym are.front_log) ∙ is;
+    };
+    named = inl refl;
+    has_got = come.begins front (class_in script back.identity) back.cache.alarm are.front_log;
     lost = [];
     none_lost = λ free on. refl;
     is_line = ap (λ (x : Fronted). x.sent) are.front_log ∙ ap (λ (x : Backed). x.taken ++ [] ++ []) (sym are.back_log);
-    before = [];
     left = ap (λ (x : Backed). messages x.released) are.back_log;
     pair = λ tells class is.
-        begins (kind_in script class) (opened_map start) (fresh are.class back.cache.alarm) front (seen_of (opened_map start) back)
+        begins (kind_in script class) (opened_map start) (fresh (class_in script back.identity) back.cache.alarm) front (seen_of (opened_map start) back)
         (seen_is_rear moment_of left_since told image faults_of start opening back known)
         (ap stand_of (is_mounted _ known)) (ap (λ (x : List BackHeld). flat_map held_of x) are.held)
         (ap (λ (x : Backed). x.taken) are.back_log) (ap (λ (x : Backed). x.stops) are.back_log) (ap (λ (x : Backed). x.downs) are.back_log) are.front_log
-        (ap (λ (m : Contents). opened m.alarm) (due_of_all moment_of left_since told image faults_of script start opening front unused back tells known are.serves (ap stand_of (is_mounted _ known))
+        (ap (λ (m : Contents). opened m.alarm) (due_now moment_of left_since told image faults_of script origin front unused back tells known are.serves (ap stand_of (is_mounted _ known))
         ∙ due_first));
   }
 
   -- over queues through which nothing went
   pub begins_over : (inbox : Both Event) (line : Both Entry) (notices : Both Notice) (out : Both Sent) → inbox ≡ unused → line ≡ unused → notices ≡ unused → out ≡ unused
-      → One moment_of left_since told image faults_of script start opening front inbox back line notices out
+      → One moment_of left_since told image faults_of script origin front inbox back line notices out
   begins_over inbox line notices out no_event no_entry no_notice no_message =
-      subst (λ (q : Both Event). One moment_of left_since told image faults_of script start opening front q back line notices out) (sym no_event)
-      (subst (λ (q : Both Entry). One moment_of left_since told image faults_of script start opening front unused back q notices out) (sym no_entry)
-      (subst (λ (q : Both Notice). One moment_of left_since told image faults_of script start opening front unused back unused q out) (sym no_notice)
-      (subst (λ (q : Both Sent). One moment_of left_since told image faults_of script start opening front unused back unused unused q) (sym no_message) begins_one)))
+      subst (λ (q : Both Event). One moment_of left_since told image faults_of script origin front q back line notices out) (sym no_event)
+      (subst (λ (q : Both Entry). One moment_of left_since told image faults_of script origin front unused back q notices out) (sym no_entry)
+      (subst (λ (q : Both Notice). One moment_of left_since told image faults_of script origin front unused back unused q out) (sym no_notice)
+      (subst (λ (q : Both Sent). One moment_of left_since told image faults_of script origin front unused back unused unused q) (sym no_message) begins_one)))

@@ -11,6 +11,7 @@ use Rattle.timeline.specs.declared.message.Message.{Message as Sent}
 use Rattle.timeline.specs.declared.notice.Notice.{Notice}
 use Rattle.timeline.specs.declared.notice.Stepped.{Stepped}
 use Rattle.timeline.specs.declared.notice.Stepped.TheVariants.{Did, Nothing}
+use Rattle.output_gate.specs.Releasing.{released_messages}
 use Rattle.output_gate.specs.Serving.{is_stopped}
 use Rattle.output_gate.specs.Taking.{may_take}
 use Rattle.output_gate.specs.declared.back.Back.{Back}
@@ -57,8 +58,15 @@ none_waits queue starts =
     append_cancel_left queue.got [] (queue.waiting ++ starts.0) (append-nil queue.got ∙ starts.1 ∙ append_assoc queue.got queue.waiting starts.0) in
     first_none queue.waiting starts.0 both
 
+pub sent_none : {X : Type 0} (queue later : Both X) → sent_on later ≡ sent_on queue → StartsWith (sent_on later) (sent_on queue)
+sent_none queue later same = ([], same ∙ sym (append-nil (sent_on queue)))
+
 module _ {D : Type 0} (moment_of : D → ℕ) (left_since : D → ℕ → List ℕ → Type 0) (told : D → Option (List ℕ)) (image : D → List ℕ → Type 0) (faults_of : D → ℕ)
     (script : Script) (old : Core D) (new : Back D) where
+  -- Nothing comes and nothing goes.
+  nothing_passes : sent_on old.inbox ≡ sent_on old.inbox ++ []
+  nothing_passes = sym (append-nil (sent_on old.inbox))
+
   -- The core over another back and other queues.
   abbrev with_take : Both Entry → Both Notice → Core D
   with_take line notices = record old { back = new; line = line; notices = notices }
@@ -93,6 +101,7 @@ module _ {D : Type 0} (moment_of : D → ℕ) (left_since : D → ℕ → List �
         → Steps moment_of faults_of script old (with_take line notices) Take (answer_of result)
     take_steps (Ok Did) by = record {
       touches = refl;
+      passes = record { given = nothing_passes; collected = refl; left = sent_none old.out old.out refl };
       nothing = λ is. true_not is;
       something = λ is none. take_something (is_stopped old.back) refl by none;
       did = λ is. by.took refl;
@@ -103,6 +112,7 @@ module _ {D : Type 0} (moment_of : D → ℕ) (left_since : D → ℕ → List �
         let i = by.nothing refl in
         record {
           touches = refl;
+          passes = record { given = nothing_passes; collected = refl; left = sent_none old.out old.out refl };
           nothing = λ is. (take_nothing (may_take old.back) refl by, take_same i.back i.took by.inlet by.outlet i.told);
           something = λ is none. false_not is;
           did = λ is. false_not is;
@@ -111,6 +121,7 @@ module _ {D : Type 0} (moment_of : D → ℕ) (left_since : D → ℕ → List �
         }
     take_steps (Err fault) by = record {
       touches = refl;
+      passes = record { given = nothing_passes; collected = refl; left = sent_none old.out old.out refl };
       nothing = λ is. fault_not fault false is;
       something = λ is none. fault_not fault true is;
       did = λ is. fault_not fault true is;
@@ -122,6 +133,7 @@ module _ {D : Type 0} (moment_of : D → ℕ) (left_since : D → ℕ → List �
       → Steps moment_of faults_of script old (record old { back = new }) Flush (answer_of (Ok result))
   flush_even Nothing even is by = record {
     touches = refl;
+    passes = record { given = nothing_passes; collected = refl; left = sent_none old.out old.out refl };
     nothing = λ so. (even, ap (λ (b : Back D). record old { back = b }) (by.nothing even).1);
     something = λ so none. false_not so;
     did = λ so. false_not so;
@@ -134,6 +146,7 @@ module _ {D : Type 0} (moment_of : D → ℕ) (left_since : D → ℕ → List �
       → Steps moment_of faults_of script old (record old { back = new }) Flush (answer_of (Ok result))
   flush_differ Did differ is by = record {
     touches = refl;
+    passes = record { given = nothing_passes; collected = refl; left = sent_none old.out old.out refl };
     nothing = λ so. true_not so;
     something = λ so even. differ even;
     did = λ so. (by.flushed differ).1;
@@ -170,10 +183,19 @@ module _ {D : Type 0} (moment_of : D → ℕ) (left_since : D → ℕ → List �
         let i = by.barred on (by.nothing refl) in
         release_same i.back by.outlet i.told by.left i.left
 
+    -- A message that is released stands behind those that left.
+    release_leaves : (off : Bool) → is_stopped old.back ≡ off → (result : Result Stepped NoMemory)
+        → ReleasesBy moment_of left_since told image faults_of old.back new old.notices notices old.out out result → StartsWith (sent_on out) (sent_on old.out)
+    release_leaves true off result by = sent_none old.out out (by.stopped off).3
+    release_leaves false on (Ok Did) by = let r = by.released refl in (released_messages r.first.body, r.left)
+    release_leaves false on (Ok Nothing) by = sent_none old.out out (by.barred on (by.nothing refl)).left
+    release_leaves false on (Err fault) by = sent_none old.out out by.stays.left
+
     pub release_steps : (result : Result Stepped NoMemory) → ReleasesBy moment_of left_since told image faults_of old.back new old.notices notices old.out out result
         → Steps moment_of faults_of script old with_release Release (answer_of result)
     release_steps (Ok Did) by = record {
       touches = refl;
+      passes = record { given = nothing_passes; collected = by.left; left = release_leaves (is_stopped old.back) refl (Ok Did) by };
       nothing = λ is. true_not is;
       something = λ is none. release_something (is_stopped old.back) refl by none;
       did = λ is. by.released refl;
@@ -182,6 +204,7 @@ module _ {D : Type 0} (moment_of : D → ℕ) (left_since : D → ℕ → List �
     }
     release_steps (Ok Nothing) by = record {
       touches = refl;
+      passes = record { given = nothing_passes; collected = by.left; left = release_leaves (is_stopped old.back) refl (Ok Nothing) by };
       nothing = λ is. (by.nothing refl, release_nothing (is_stopped old.back) refl by);
       something = λ is none. false_not is;
       did = λ is. false_not is;
@@ -190,6 +213,7 @@ module _ {D : Type 0} (moment_of : D → ℕ) (left_since : D → ℕ → List �
     }
     release_steps (Err fault) by = record {
       touches = refl;
+      passes = record { given = nothing_passes; collected = by.left; left = release_leaves (is_stopped old.back) refl (Err fault) by };
       nothing = λ is. fault_not fault false is;
       something = λ is none. fault_not fault true is;
       did = λ is. fault_not fault true is;
@@ -222,6 +246,7 @@ module _ {D : Type 0} (moment_of : D → ℕ) (left_since : D → ℕ → List �
         → Steps moment_of faults_of script old with_mend Mend (answer_of result)
     mend_steps (Ok Did) by = record {
       touches = refl;
+      passes = record { given = nothing_passes; collected = refl; left = sent_none old.out old.out refl };
       nothing = λ is. true_not is;
       something = λ is none. mend_something (is_stopped old.back) refl by none;
       did = λ is. by.mended refl;
@@ -230,6 +255,7 @@ module _ {D : Type 0} (moment_of : D → ℕ) (left_since : D → ℕ → List �
     }
     mend_steps (Ok Nothing) by = record {
       touches = refl;
+      passes = record { given = nothing_passes; collected = refl; left = sent_none old.out old.out refl };
       nothing = λ is. (by.nothing refl, mend_nothing (is_stopped old.back) refl by);
       something = λ is none. false_not is;
       did = λ is. false_not is;
@@ -238,6 +264,7 @@ module _ {D : Type 0} (moment_of : D → ℕ) (left_since : D → ℕ → List �
     }
     mend_steps (Err fault) by = record {
       touches = refl;
+      passes = record { given = nothing_passes; collected = refl; left = sent_none old.out old.out refl };
       nothing = λ is. fault_not fault false is;
       something = λ is none. fault_not fault true is;
       did = λ is. fault_not fault true is;

@@ -16,6 +16,7 @@ use Rattle.object_front.specs.declared.evaluated.Evaluated.{Evaluated}
 use Rattle.object_front.specs.declared.half.Half.{Half}
 use Rattle.output_gate.specs.Flushing.{Flushes}
 use Rattle.output_gate.specs.Serving.{KeepsBack, is_stopped}
+use Rattle.output_gate.specs.Storing.{KeepsTelling}
 use Rattle.output_gate.specs.Telling.{opened_map}
 use Rattle.output_gate.specs.declared.back.Back.{Back}
 use Rattle.object_history.proofs.GateStepping as gate
@@ -24,19 +25,24 @@ use Rattle.object_history.specs.Stepping.{BackSteps}
 use Rattle.front_history.specs.Turns.{BackStepsKeep}
 use Rattle.object_core.proofs.Due.{steps_unheard}
 use Rattle.object_core.proofs.Rebuilding.{One, stepped}
-use Rattle.object_core.specs.One.{messages}
+use Rattle.object_core.specs.One.{Origin, messages}
 
 -- What the back's own contract says of a flush.
 pub record FlushesBy {D : Type 0} (moment_of : D → ℕ) (left_since : D → ℕ → List ℕ → Type 0) (told : D → Option (List ℕ)) (image : D → List ℕ → Type 0) (faults_of : D → ℕ)
     (old new : Back D) (result : Stepped) : Type 0 where
   pub nothing : old.before ≡ old.durable → (result ≡ Nothing) × (new ≡ old)
   pub flushed : old.before ≢ old.durable → (result ≡ Did) × Flushes faults_of old new
+  pub tells : KeepsTelling told old.store new.store
   pub stopped : is_stopped new ≡ is_stopped old
   pub back : KeepsBack moment_of left_since told image faults_of old new
 
 flushed_stuck : {D : Type 0} (faults_of : D → ℕ) (old new : Back D) → Flushes faults_of old new → new.stuck ≡ old.stuck
 flushed_stuck faults_of old new (inl all) = all.stuck
 flushed_stuck faults_of old new (inr ends) = ends.stuck
+
+flushed_identity : {D : Type 0} (faults_of : D → ℕ) (old new : Back D) → Flushes faults_of old new → new.identity ≡ old.identity
+flushed_identity faults_of old new (inl all) = all.identity
+flushed_identity faults_of old new (inr ends) = ends.identity
 
 flushed_taken : {D : Type 0} (faults_of : D → ℕ) (old new : Back D) → Flushes faults_of old new → new.log.taken.items ≡ old.log.taken.items
 flushed_taken faults_of old new (inl all) = ap (λ (x : Backed). x.taken) all.log
@@ -47,24 +53,24 @@ flushed_released faults_of old new (inl all) = ap (λ (x : Backed). x.released) 
 flushed_released faults_of old new (inr ends) = ap (λ (x : Backed). x.released) ends.log
 
 module _ {D : Type 0} (moment_of : D → ℕ) (left_since : D → ℕ → List ℕ → Type 0) (told : D → Option (List ℕ)) (image : D → List ℕ → Type 0) (faults_of : D → ℕ)
-    (keeps : BackStepsKeep) (script : Script) (start : List (List Op)) (opening : ℕ) (front : Half Evaluated) (inbox : Both Event) (old new : Back D) (line : Both Entry) (notices : Both Notice) (out : Both Sent)
-    (one : One moment_of left_since told image faults_of script start opening front inbox old line notices out) (result : Stepped)
+    (keeps : BackStepsKeep) (script : Script) (origin : Origin) (front : Half Evaluated) (inbox : Both Event) (old new : Back D) (line : Both Entry) (notices : Both Notice) (out : Both Sent)
+    (one : One moment_of left_since told image faults_of script origin front inbox old line notices out) (result : Stepped)
     (by : FlushesBy moment_of left_since told image faults_of old new result) where
   abbrev After : Type 0
-  After = One moment_of left_since told image faults_of script start opening front inbox new line notices out
+  After = One moment_of left_since told image faults_of script origin front inbox new line notices out
 
   nothing_flown : old.before ≡ old.durable → After
   nothing_flown even =
-      subst (λ (b : Back D). One moment_of left_since told image faults_of script start opening front inbox b line notices out) (sym (by.nothing even).1) one
+      subst (λ (b : Back D). One moment_of left_since told image faults_of script origin front inbox b line notices out) (sym (by.nothing even).1) one
 
   flown : old.before ≢ old.durable → After
   flown differ =
       let flushes = (by.flushed differ).1 in
       let steps : BackSteps (rear_of old) (rear_of new) [] [] =
-      gate.flush_steps moment_of left_since told image faults_of start opening (not (is_stopped old)) old new one.back_stands differ flushes in
-      let s = steps_unheard (opened_map start) (rear_of old) (rear_of new) [] [] steps (λ stand empty. refl) in
-      stepped moment_of left_since told image faults_of script start opening front inbox keeps old new line notices notices out out one
-      (by.back start opening one.back_stands)
+      gate.flush_steps moment_of left_since told image faults_of origin.start origin.opening (not (is_stopped old)) old new one.back_stands differ flushes in
+      let s = steps_unheard (opened_map origin.start) (rear_of old) (rear_of new) [] [] steps (λ stand empty. refl) in
+      stepped moment_of left_since told image faults_of script origin front inbox keeps old new line notices notices out out one
+      (by.back origin.start origin.opening one.back_stands) by.tells (flushed_identity faults_of old new flushes)
       (λ free on. one.none_lost (sym (flushed_stuck faults_of old new flushes) ∙ free) (sym by.stopped ∙ on))
       (flushed_taken faults_of old new flushes) (ap messages (flushed_released faults_of old new flushes) ∙ one.left)
       (λ tells. record { heard = s.0; given = []; steps = s.1; are = inr refl; come = sym (append-nil notices.waiting) })

@@ -1,5 +1,6 @@
 mod Due
 mod Lanes
+mod Naming
 mod Pairing
 mod Rebuilding
 mod Taking
@@ -12,4 +13,5 @@ mod Turns
 mod Collects
 mod Runs
 mod Beginning
+mod Freshness
 mod Telling

@@ -16,6 +16,7 @@ use Rattle.timeline.specs.declared.notice.Stepped.TheVariants.{Did, Nothing}
 use Rattle.object_front.specs.declared.evaluated.Evaluated.{Evaluated}
 use Rattle.object_front.specs.declared.half.Half.{Half}
 use Rattle.output_gate.specs.Mending.{IsIdleMend, Mends, LosesMend, Remounts, may_mend}
+use Rattle.output_gate.specs.Storing.{KeepsTelling}
 use Rattle.output_gate.specs.Serving.{IsBack, IsAsBefore, KeepsBack, StopsBy, is_stopped}
 use Rattle.output_gate.specs.Telling.{opened_map}
 use Rattle.output_gate.specs.declared.back.Back.{Back}
@@ -27,8 +28,8 @@ use Rattle.object_history.specs.Seen.{rear_of, stand_of}
 use Rattle.front_history.specs.Turns.{BackStepsKeep}
 use Rattle.object_core.proofs.Due.{steps_as_due, steps_unheard}
 use Rattle.object_core.proofs.Lanes.{took_none, sent_last}
-use Rattle.object_core.proofs.Rebuilding.{One, due_of_all, stepped, unseen, same_queue}
-use Rattle.object_core.specs.One.{messages}
+use Rattle.object_core.proofs.Rebuilding.{One, due_now, told_earlier, stepped, unseen, same_queue}
+use Rattle.object_core.specs.One.{Origin, messages}
 
 -- What the back's own contract says of a mounting.
 pub record MendsBy {D : Type 0} (moment_of : D → ℕ) (left_since : D → ℕ → List ℕ → Type 0) (told : D → Option (List ℕ)) (image : D → List ℕ → Type 0) (faults_of : D → ℕ)
@@ -39,6 +40,7 @@ pub record MendsBy {D : Type 0} (moment_of : D → ℕ) (left_since : D → ℕ 
   pub mended : result ≡ Ok Did → Mends faults_of old new (sent_on notices) (sent_on later)
   pub lost : OnErr result (LosesMend faults_of old new (sent_on notices) (sent_on later))
   pub stops : StopsBy result new
+  pub tells : KeepsTelling told old.store new.store
   pub outlet : later.got ≡ notices.got
   pub back : KeepsBack moment_of left_since told image faults_of old new
 
@@ -46,6 +48,10 @@ module _ {D : Type 0} (faults_of : D → ℕ) (old new : Back D) (ending : Endin
   stuck_still : Remounts faults_of old new ending notice → new.stuck ≡ old.stuck
   stuck_still (inl begun) = ap (λ (b : Back D). b.stuck) begun.begins.same
   stuck_still (inr missed) = ap (λ (b : Back D). b.stuck) missed.misses.same
+
+  identity_still : Remounts faults_of old new ending notice → new.identity ≡ old.identity
+  identity_still (inl begun) = ap (λ (b : Back D). b.identity) begun.begins.same
+  identity_still (inr missed) = ap (λ (b : Back D). b.identity) missed.misses.same
 
   taken_still : Remounts faults_of old new ending notice → new.log.taken.items ≡ old.log.taken.items
   taken_still (inl begun) = ap (λ (x : Backed). x.taken) begun.begins.log
@@ -60,48 +66,51 @@ not_mounted : {A : Type 0} (c : Cause) → wanted c ≡ mounted → A
 not_mounted c is = absurd cc
 
 module _ {D : Type 0} (moment_of : D → ℕ) (left_since : D → ℕ → List ℕ → Type 0) (told : D → Option (List ℕ)) (image : D → List ℕ → Type 0) (faults_of : D → ℕ)
-    (keeps : BackStepsKeep) (script : Script) (start : List (List Op)) (opening : ℕ) (front : Half Evaluated) (inbox : Both Event) (old new : Back D) (line : Both Entry)
-    (notices later : Both Notice) (out : Both Sent) (one : One moment_of left_since told image faults_of script start opening front inbox old line notices out) where
+    (keeps : BackStepsKeep) (script : Script) (origin : Origin) (front : Half Evaluated) (inbox : Both Event) (old new : Back D) (line : Both Entry)
+    (notices later : Both Notice) (out : Both Sent) (one : One moment_of left_since told image faults_of script origin front inbox old line notices out) where
   abbrev After : Type 0
-  After = One moment_of left_since told image faults_of script start opening front inbox new line later out
+  After = One moment_of left_since told image faults_of script origin front inbox new line later out
 
   abbrev Known : Type 0
-  Known = IsBack moment_of left_since told image faults_of start opening new
+  Known = IsBack moment_of left_since told image faults_of origin.start origin.opening new
 
   idle : new ≡ old → later.got ≡ notices.got → sent_on later ≡ sent_on notices → After
   idle same got said =
-      subst (λ (b : Back D). One moment_of left_since told image faults_of script start opening front inbox b line later out) (sym same)
-      (subst (λ (n : Both Notice). One moment_of left_since told image faults_of script start opening front inbox old line n out)
+      subst (λ (b : Back D). One moment_of left_since told image faults_of script origin front inbox b line later out) (sym same)
+      (subst (λ (n : Both Notice). One moment_of left_since told image faults_of script origin front inbox old line n out)
       (sym (same_queue notices later got (sym (took_none notices later got said)))) one)
 
-  mounts : is_stopped old ≡ false → is_stopped new ≡ false → Known → later.got ≡ notices.got
+  mounts : is_stopped old ≡ false → is_stopped new ≡ false → Known → KeepsTelling told old.store new.store → later.got ≡ notices.got
       → Mends faults_of old new (sent_on notices) (sent_on later) → After
-  mounts on goes known got m =
-      let s = gate.mend_steps moment_of left_since told image faults_of start opening (not (is_stopped old)) old new (sent_on notices) (sent_on later) one.back_stands m in
-      stepped moment_of left_since told image faults_of script start opening front inbox keeps old new line notices later out out one known
+  mounts on goes known telling got m =
+      let s = gate.mend_steps moment_of left_since told image faults_of origin.start origin.opening (not (is_stopped old)) old new (sent_on notices) (sent_on later) one.back_stands m in
+      stepped moment_of left_since told image faults_of script origin front inbox keeps old new line notices later out out one known telling
+      (identity_still faults_of old new m.ending m.notice m.remounts)
       (λ free off. one.none_lost (sym (stuck_still faults_of old new m.ending m.notice m.remounts) ∙ free) on)
       (taken_still faults_of old new m.ending m.notice m.remounts)
       (ap messages (released_still faults_of old new m.ending m.notice m.remounts) ∙ one.left)
       (λ tells. record {
         heard = s.0;
         given = s.0;
-        steps = steps_as_due (opened_map start) (rear_of old) (rear_of new) [] s.0 s.2
-            (due_of_all moment_of left_since told image faults_of script start opening front inbox old tells one.back_stands on)
-            (due_of_all moment_of left_since told image faults_of script start opening front inbox new tells known goes);
+        steps = steps_as_due (opened_map origin.start) (rear_of old) (rear_of new) [] s.0 s.2
+            (due_now moment_of left_since told image faults_of script origin front inbox old
+            (told_earlier moment_of left_since told image faults_of script origin front inbox old new telling one.back_stands tells) one.back_stands on)
+            (due_now moment_of left_since told image faults_of script origin front inbox new tells known goes);
         are = inl refl;
         come = sent_last notices later s.0 got s.1;
       })
 
   -- What the front is told of it is lost.
-  unheard : is_stopped new ≡ true → Known → later.got ≡ notices.got → sent_on later ≡ sent_on notices
+  unheard : is_stopped new ≡ true → Known → KeepsTelling told old.store new.store → later.got ≡ notices.got → sent_on later ≡ sent_on notices
       → (ending : Ending) (notice : Notice) → old.mode ≡ Wanted ending → Remounts faults_of old (record new { stopped = old.stopped }) ending notice → After
-  unheard off known got said ending notice wants remounts =
+  unheard off known telling got said ending notice wants remounts =
       let noted : Back D = record new { stopped = old.stopped } in
       let m : Mends faults_of old noted [] (notice ∷ []) = record { ending = ending; notice = notice; wanted = wants; remounts = remounts; told = refl } in
-      let s = gate.mend_steps moment_of left_since told image faults_of start opening (not (is_stopped old)) old noted [] (notice ∷ []) one.back_stands m in
-      let u = steps_unheard (opened_map start) (rear_of old) (rear_of new) [] s.0 s.2
+      let s = gate.mend_steps moment_of left_since told image faults_of origin.start origin.opening (not (is_stopped old)) old noted [] (notice ∷ []) one.back_stands m in
+      let u = steps_unheard (opened_map origin.start) (rear_of old) (rear_of new) [] s.0 s.2
       (λ stand empty. not_mounted ending.cause (sym (ap stand_of wants) ∙ stand)) in
-      stepped moment_of left_since told image faults_of script start opening front inbox keeps old new line notices later out out one known
+      stepped moment_of left_since told image faults_of script origin front inbox keeps old new line notices later out out one known telling
+      (identity_still faults_of old noted ending notice remounts)
       (λ free on. absurd (true≢false (sym off ∙ on)))
       (taken_still faults_of old noted ending notice remounts)
       (ap messages (released_still faults_of old noted ending notice remounts) ∙ one.left)
@@ -113,27 +122,27 @@ module _ {D : Type 0} (moment_of : D → ℕ) (left_since : D → ℕ → List �
         come = sym (took_none notices later got said) ∙ sym (append-nil notices.waiting);
       })
 
-  loses : is_stopped new ≡ true → Known → later.got ≡ notices.got → sent_on later ≡ sent_on notices
+  loses : is_stopped new ≡ true → Known → KeepsTelling told old.store new.store → later.got ≡ notices.got → sent_on later ≡ sent_on notices
       → IsAsBefore old new ⊎ ((ending : Ending) × (notice : Notice) × (old.mode ≡ Wanted ending) × Remounts faults_of old (record new { stopped = old.stopped }) ending notice)
       → After
-  loses off known got said (inl same) =
-      unseen moment_of left_since told image faults_of script start opening front inbox keeps old new line notices later out out one known
+  loses off known telling got said (inl same) =
+      unseen moment_of left_since told image faults_of script origin front inbox keeps old new line notices later out out one known telling same.identity
       (λ free on. absurd (true≢false (sym off ∙ on))) same.log same.held same.mode same.before same.durable got said refl
-  loses off known got said (inr lost) = unheard off known got said lost.0 lost.1 lost.2 lost.3
+  loses off known telling got said (inr lost) = unheard off known telling got said lost.0 lost.1 lost.2 lost.3
 
   ran : (result : Result Stepped NoMemory) → is_stopped old ≡ false → Known → MendsBy moment_of left_since told image faults_of old new notices later result → After
-  ran (Ok Did) on known by = mounts on by.stops.good known by.outlet (by.mended refl)
+  ran (Ok Did) on known by = mounts on by.stops.good known by.tells by.outlet (by.mended refl)
   ran (Ok Nothing) on known by =
       let i = by.barred on (by.nothing refl) in
       idle i.back by.outlet i.told
-  ran (Err fault) on known by = loses by.stops.wanting known by.outlet by.lost.told by.lost.log
+  ran (Err fault) on known by = loses by.stops.wanting known by.tells by.outlet by.lost.told by.lost.log
 
   stopped_as : (off : Bool) → is_stopped old ≡ off → (result : Result Stepped NoMemory)
       → MendsBy moment_of left_since told image faults_of old new notices later result → After
   stopped_as true off result by =
       let s = by.stopped off in
       idle s.1 by.outlet s.2
-  stopped_as false on result by = ran result on (by.back start opening one.back_stands) by
+  stopped_as false on result by = ran result on (by.back origin.start origin.opening one.back_stands) by
 
   pub mend_keeps : (result : Result Stepped NoMemory) → MendsBy moment_of left_since told image faults_of old new notices later result → After
   mend_keeps result by = stopped_as (is_stopped old) refl result by

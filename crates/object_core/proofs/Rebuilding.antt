@@ -16,8 +16,9 @@ use Rattle.timeline.specs.declared.notice.Notice.{Notice}
 use Rattle.object_front.specs.Standing.{kind_in}
 use Rattle.object_front.specs.declared.evaluated.Evaluated.{Evaluated}
 use Rattle.object_front.specs.declared.half.Half.{Half}
+use Rattle.output_gate.proofs.Steps.{told_before}
 use Rattle.output_gate.specs.Serving.{IsBack, IsBackAs, is_stopped}
-use Rattle.output_gate.specs.Storing.{IsDiskOf}
+use Rattle.output_gate.specs.Storing.{IsDiskOf, KeepsTelling}
 use Rattle.output_gate.specs.Telling.{opened_map}
 use Rattle.output_gate.specs.declared.back.Back.{Back}
 use Rattle.output_gate.specs.declared.back.Mode.{Mode}
@@ -29,8 +30,9 @@ use Rattle.front_history.specs.Paired.{ArePaired}
 use Rattle.front_history.specs.Turns.{BackStepsKeep}
 use Rattle.object_core.proofs.Due.{IsDue, is_due, seen_is_rear}
 use Rattle.object_core.proofs.Lanes.{took_none}
+use Rattle.object_core.proofs.Naming.{named_still}
 use Rattle.object_core.proofs.Pairing.{Hears, paired_on, paired_as}
-use Rattle.object_core.specs.One.{AllTell, IsOneOf, messages}
+use Rattle.object_core.specs.One.{IsNamed, IsOneOf, Origin, TellsNow, messages}
 use Rattle.object_core.specs.Seen.{due_map, seen_of}
 
 abbrev looks : Contents → Backed → Stand → List Held → ℕ → ℕ → Rear
@@ -51,72 +53,80 @@ same_queue {X} old new got waiting =
     ap (λ (xs : List X). record { got = xs; waiting = new.waiting }) got ∙ ap (λ (xs : List X). record { got = old.got; waiting = xs }) waiting
 
 module _ {D : Type 0} (moment_of : D → ℕ) (left_since : D → ℕ → List ℕ → Type 0) (told : D → Option (List ℕ)) (image : D → List ℕ → Type 0) (faults_of : D → ℕ)
-    (script : Script) (start : List (List Op)) (opening : ℕ) (front : Half Evaluated) (inbox : Both Event) where
+    (script : Script) (origin : Origin) (front : Half Evaluated) (inbox : Both Event) where
   -- a back has a disk
-  pub disk_of : (sound : Bool) (back : Back D) → IsBackAs moment_of left_since told image faults_of start opening sound back → (disk : D) × IsDiskOf back.store disk
+  pub disk_of : (sound : Bool) (back : Back D) → IsBackAs moment_of left_since told image faults_of origin.start origin.opening sound back → (disk : D) × IsDiskOf back.store disk
   disk_of sound back (inl m) = (disk_in m.journal, subst (λ (s : Store D). IsDiskOf s (disk_in m.journal)) (sym m.safe.store) refl)
   disk_of sound back (inr u) = (u.disk, u.safe.store)
 
-  -- Over a kind of disk that tells its content a mounted back has the map that is due.
-  pub due_of_all : (back : Back D) → AllTell told → IsBack moment_of left_since told image faults_of start opening back → is_stopped back ≡ false
-      → IsDue (opened_map start) (rear_of back)
-  due_of_all back tells known on =
-      let at = disk_of _ back known in
-      is_due moment_of left_since told image faults_of start opening back at.0 at.1 (tells at.0) known on
+  -- A mounted back whose disk tells its content has the map that is due.
+  pub due_now : (back : Back D) → TellsNow told back → IsBack moment_of left_since told image faults_of origin.start origin.opening back → is_stopped back ≡ false
+      → IsDue (opened_map origin.start) (rear_of back)
+  due_now back tells known on = is_due moment_of left_since told image faults_of origin.start origin.opening back tells.0 tells.1 tells.2 known on
+
+  -- The disk told its content before a step behind which it does.
+  pub told_earlier : (old new : Back D) → KeepsTelling told old.store new.store → IsBack moment_of left_since told image faults_of origin.start origin.opening old
+      → TellsNow told new → TellsNow told old
+  told_earlier old new keeps known tells =
+      let at = disk_of _ old known in
+      (at.0, at.1, told_before (told at.0) (told tells.0) (keeps at.0 tells.0 at.1 tells.1) tells.2)
 
   abbrev pub One : Back D → Both Entry → Both Notice → Both Sent → Type 0
-  One back line notices out = IsOneOf moment_of left_since told image faults_of script start opening front inbox back line notices out
+  One back line notices out = IsOneOf moment_of left_since told image faults_of script origin front inbox back line notices out
 
   -- What is left to show of a step of the back: that the halves stay a pair.
   abbrev pub StaysPair : (old new : Back D) (line later_line : Both Entry) (notices later : Both Notice) (out : Both Sent) → One old line notices out → (lost : List Entry) → Type 0
-  StaysPair old new line later_line notices later out one lost = AllTell told → (k : Kind) → ArePaired k (opened_map start) one.st front (seen_of (opened_map start) old) (one.lost ++ line.waiting) notices.waiting
-      → ArePaired k (opened_map start) one.st front (seen_of (opened_map start) new) (lost ++ later_line.waiting) later.waiting
+  StaysPair old new line later_line notices later out one lost = TellsNow told new → (k : Kind) → ArePaired k (opened_map origin.start) one.st front (seen_of (opened_map origin.start) old) (one.lost ++ line.waiting) notices.waiting
+      → ArePaired k (opened_map origin.start) one.st front (seen_of (opened_map origin.start) new) (lost ++ later_line.waiting) later.waiting
 
   pub rebuilt : (old new : Back D) (line later_line : Both Entry) (notices later : Both Notice) (out later_out : Both Sent) (one : One old line notices out)
-      → IsBack moment_of left_since told image faults_of start opening new
+      → IsBack moment_of left_since told image faults_of origin.start origin.opening new → KeepsTelling told old.store new.store → IsNamed origin.object new
       → (lost : List Entry) → (new.stuck ≡ false → is_stopped new ≡ false → lost ≡ [])
-      → front.log.sent.items ≡ new.log.taken.items ++ lost ++ later_line.waiting → messages new.log.released.items ≡ one.before ++ sent_on later_out
+      → front.log.sent.items ≡ new.log.taken.items ++ lost ++ later_line.waiting → messages new.log.released.items ≡ origin.left ++ sent_on later_out
       → StaysPair old new line later_line notices later out one lost → One new later_line later later_out
-  rebuilt old new line later_line notices later out later_out one stands lost none is_line left pair = record {
+  rebuilt old new line later_line notices later out later_out one stands telling named lost none is_line left pair = record {
     back_stands = stands;
     alarm = one.alarm;
     st = one.st;
     front_stands = one.front_stands;
     has_taken = one.has_taken;
+    classed = one.classed;
+    named = named;
     has_got = one.has_got;
     lost = lost;
     none_lost = none;
     is_line = is_line;
-    before = one.before;
     left = left;
-    pair = λ tells class is. pair tells (kind_in script class) (one.pair tells class is);
+    pair = λ tells class is. pair tells (kind_in script class) (one.pair (told_earlier old new telling one.back_stands tells) class is);
   }
 
   module _ (keeps : BackStepsKeep) (old new : Back D) (line : Both Entry) (notices later : Both Notice) (out later_out : Both Sent) (one : One old line notices out)
-      (known : IsBack moment_of left_since told image faults_of start opening new)
+      (known : IsBack moment_of left_since told image faults_of origin.start origin.opening new) (telling : KeepsTelling told old.store new.store)
+      (same : new.identity ≡ old.identity)
       (none : new.stuck ≡ false → is_stopped new ≡ false → one.lost ≡ []) where
     -- What was sent is taken as it was.
     still_line : new.log.taken.items ≡ old.log.taken.items → front.log.sent.items ≡ new.log.taken.items ++ one.lost ++ line.waiting
     still_line taken = one.is_line ∙ ap (λ (x : List Entry). x ++ one.lost ++ line.waiting) (sym taken)
 
     -- A step that takes nothing of the line.
-    pub stepped : new.log.taken.items ≡ old.log.taken.items → messages new.log.released.items ≡ one.before ++ sent_on later_out
-        → (AllTell told → Hears (seen_of (opened_map start) old) (seen_of (opened_map start) new) [] notices.waiting later.waiting) → One new line later later_out
+    pub stepped : new.log.taken.items ≡ old.log.taken.items → messages new.log.released.items ≡ origin.left ++ sent_on later_out
+        → (TellsNow told new → Hears (seen_of (opened_map origin.start) old) (seen_of (opened_map origin.start) new) [] notices.waiting later.waiting) → One new line later later_out
     stepped taken left steps =
-        rebuilt old new line line notices later out later_out one known one.lost none (still_line taken) left
+        rebuilt old new line line notices later out later_out one known telling (named_still origin.object old new same taken one.named) one.lost none (still_line taken) left
         (λ tells k paired.
-        paired_on keeps k (opened_map start) one.st front (seen_of (opened_map start) old) (seen_of (opened_map start) new)
+        paired_on keeps k (opened_map origin.start) one.st front (seen_of (opened_map origin.start) old) (seen_of (opened_map origin.start) new)
         (one.lost ++ line.waiting) (one.lost ++ line.waiting) [] notices.waiting later.waiting (steps tells)
-        (seen_is_rear moment_of left_since told image faults_of start opening old one.back_stands)
-        (seen_is_rear moment_of left_since told image faults_of start opening new known) refl paired)
+        (seen_is_rear moment_of left_since told image faults_of origin.start origin.opening old one.back_stands)
+        (seen_is_rear moment_of left_since told image faults_of origin.start origin.opening new known) refl paired)
 
     -- Nothing that is seen has changed.
     pub unseen : backed new.log ≡ backed old.log → new.held.items ≡ old.held.items → new.mode ≡ old.mode → new.before ≡ old.before → new.durable ≡ old.durable
         → later.got ≡ notices.got → sent_on later ≡ sent_on notices → later_out ≡ out → One new line later later_out
     unseen log held mode before durable got said left =
-        rebuilt old new line line notices later out later_out one known one.lost none (still_line (ap (λ (x : Backed). x.taken) log))
-        (ap (λ (x : Backed). messages x.released) log ∙ one.left ∙ ap (λ (x : Both Sent). one.before ++ sent_on x) (sym left))
+        rebuilt old new line line notices later out later_out one known telling
+        (named_still origin.object old new same (ap (λ (x : Backed). x.taken) log) one.named) one.lost none (still_line (ap (λ (x : Backed). x.taken) log))
+        (ap (λ (x : Backed). messages x.released) log ∙ one.left ∙ ap (λ (x : Both Sent). origin.left ++ sent_on x) (sym left))
         (λ tells k paired.
-        paired_as k (opened_map start) one.st front (seen_of (opened_map start) old) (seen_of (opened_map start) new)
+        paired_as k (opened_map origin.start) one.st front (seen_of (opened_map origin.start) old) (seen_of (opened_map origin.start) new)
         (one.lost ++ line.waiting) (one.lost ++ line.waiting) notices.waiting later.waiting
-        (seen_same (opened_map start) old new log held mode before durable) refl (sym (took_none notices later got said)) paired)
+        (seen_same (opened_map origin.start) old new log held mode before durable) refl (sym (took_none notices later got said)) paired)

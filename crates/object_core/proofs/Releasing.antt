@@ -16,7 +16,9 @@ use Rattle.timeline.specs.declared.notice.Stepped.{Stepped}
 use Rattle.timeline.specs.declared.notice.Stepped.TheVariants.{Did, Nothing}
 use Rattle.object_front.specs.declared.evaluated.Evaluated.{Evaluated}
 use Rattle.object_front.specs.declared.half.Half.{Half}
+use Rattle.output_gate.proofs.Stored.{still_tells}
 use Rattle.output_gate.specs.Releasing.{IsIdleRelease, Releases, Stays, may_release, released_log, released_messages, released_notices}
+use Rattle.output_gate.specs.Storing.{KeepsDisk}
 use Rattle.output_gate.specs.Serving.{IsBack, KeepsBack, StopsBy, is_stopped}
 use Rattle.output_gate.specs.Telling.{opened_map}
 use Rattle.output_gate.specs.declared.back.Back.{Back}
@@ -28,8 +30,8 @@ use Rattle.object_history.specs.Seen.{rear_of}
 use Rattle.front_history.specs.Turns.{BackStepsKeep}
 use Rattle.object_core.proofs.Due.{steps_as_due}
 use Rattle.object_core.proofs.Lanes.{took_none, sent_last}
-use Rattle.object_core.proofs.Rebuilding.{One, disk_of, due_of_all, stepped, unseen, same_queue}
-use Rattle.object_core.specs.One.{messages}
+use Rattle.object_core.proofs.Rebuilding.{One, disk_of, due_now, told_earlier, stepped, unseen, same_queue}
+use Rattle.object_core.specs.One.{Origin, messages}
 
 -- What the back's own contract says of a release over two queues.
 pub record ReleasesBy {D : Type 0} (moment_of : D → ℕ) (left_since : D → ℕ → List ℕ → Type 0) (told : D → Option (List ℕ)) (image : D → List ℕ → Type 0) (faults_of : D → ℕ)
@@ -41,6 +43,7 @@ pub record ReleasesBy {D : Type 0} (moment_of : D → ℕ) (left_since : D → �
   pub released : result ≡ Ok Did → Releases moment_of old new (sent_on notices) (sent_on later) (sent_on out) (sent_on later_out)
   pub stays : OnErr result (Stays old new (sent_on notices) (sent_on later) (sent_on out) (sent_on later_out))
   pub stops : StopsBy result new
+  pub disk : KeepsDisk old.store new.store
   pub outlet : later.got ≡ notices.got
   pub left : later_out.got ≡ out.got
   pub back : KeepsBack moment_of left_since told image faults_of old new
@@ -58,51 +61,53 @@ log_taken back moment held (Sync number) = refl
 log_taken back moment held (Halt cause) = refl
 
 module _ {D : Type 0} (moment_of : D → ℕ) (left_since : D → ℕ → List ℕ → Type 0) (told : D → Option (List ℕ)) (image : D → List ℕ → Type 0) (faults_of : D → ℕ)
-    (keeps : BackStepsKeep) (script : Script) (start : List (List Op)) (opening : ℕ) (front : Half Evaluated) (inbox : Both Event) (old new : Back D) (line : Both Entry)
-    (notices later : Both Notice) (out later_out : Both Sent) (one : One moment_of left_since told image faults_of script start opening front inbox old line notices out) where
+    (keeps : BackStepsKeep) (script : Script) (origin : Origin) (front : Half Evaluated) (inbox : Both Event) (old new : Back D) (line : Both Entry)
+    (notices later : Both Notice) (out later_out : Both Sent) (one : One moment_of left_since told image faults_of script origin front inbox old line notices out) where
   abbrev After : Type 0
-  After = One moment_of left_since told image faults_of script start opening front inbox new line later later_out
+  After = One moment_of left_since told image faults_of script origin front inbox new line later later_out
 
   idle : new ≡ old → later.got ≡ notices.got → sent_on later ≡ sent_on notices → later_out.got ≡ out.got → sent_on later_out ≡ sent_on out → After
   idle same got said out_got out_said =
-      subst (λ (b : Back D). One moment_of left_since told image faults_of script start opening front inbox b line later later_out) (sym same)
-      (subst (λ (n : Both Notice). One moment_of left_since told image faults_of script start opening front inbox old line n later_out)
+      subst (λ (b : Back D). One moment_of left_since told image faults_of script origin front inbox b line later later_out) (sym same)
+      (subst (λ (n : Both Notice). One moment_of left_since told image faults_of script origin front inbox old line n later_out)
       (sym (same_queue notices later got (sym (took_none notices later got said))))
-      (subst (λ (o : Both Sent). One moment_of left_since told image faults_of script start opening front inbox old line notices o)
+      (subst (λ (o : Both Sent). One moment_of left_since told image faults_of script origin front inbox old line notices o)
       (sym (same_queue out later_out out_got (sym (took_none out later_out out_got out_said)))) one))
 
-  let_go : is_stopped old ≡ false → is_stopped new ≡ false → IsBack moment_of left_since told image faults_of start opening new
-      → later.got ≡ notices.got → Releases moment_of old new (sent_on notices) (sent_on later) (sent_on out) (sent_on later_out) → After
-  let_go on goes known got r =
-      let disk = disk_of moment_of left_since told image faults_of script start opening front inbox _ old one.back_stands in
+  let_go : is_stopped old ≡ false → is_stopped new ≡ false → IsBack moment_of left_since told image faults_of origin.start origin.opening new
+      → KeepsDisk old.store new.store → later.got ≡ notices.got → Releases moment_of old new (sent_on notices) (sent_on later) (sent_on out) (sent_on later_out) → After
+  let_go on goes known same_disk got r =
+      let telling = still_tells told old.store new.store same_disk in
+      let disk = disk_of moment_of left_since told image faults_of script origin front inbox _ old one.back_stands in
       let log = r.log disk.0 disk.1 in
-      stepped moment_of left_since told image faults_of script start opening front inbox keeps old new line notices later out later_out one known
+      stepped moment_of left_since told image faults_of script origin front inbox keeps old new line notices later out later_out one known telling r.identity
       (λ free off. one.none_lost (sym r.stuck ∙ free) on)
       (ap (λ (x : Backed). x.taken) log ∙ log_taken old (moment_of disk.0) r.first r.first.body)
       (ap (λ (x : Backed). messages x.released) log ∙ log_left old (moment_of disk.0) r.first r.first.body
-      ∙ ap (λ (x : List Sent). x ++ released_messages r.first.body) one.left ∙ append_assoc one.before (sent_on out) (released_messages r.first.body)
-      ∙ ap (λ (x : List Sent). one.before ++ x) (sym r.left))
+      ∙ ap (λ (x : List Sent). x ++ released_messages r.first.body) one.left ∙ append_assoc origin.left (sent_on out) (released_messages r.first.body)
+      ∙ ap (λ (x : List Sent). origin.left ++ x) (sym r.left))
       (λ tells. record {
         heard = released_notices old r.first.body;
         given = released_notices old r.first.body;
-        steps = steps_as_due (opened_map start) (rear_of old) (rear_of new) [] (released_notices old r.first.body)
-            (gate.release_steps moment_of left_since told image faults_of start opening (not (is_stopped old)) old new (sent_on notices) (sent_on later)
+        steps = steps_as_due (opened_map origin.start) (rear_of old) (rear_of new) [] (released_notices old r.first.body)
+            (gate.release_steps moment_of left_since told image faults_of origin.start origin.opening (not (is_stopped old)) old new (sent_on notices) (sent_on later)
             (sent_on out) (sent_on later_out) one.back_stands r)
-            (due_of_all moment_of left_since told image faults_of script start opening front inbox old tells one.back_stands on)
-            (due_of_all moment_of left_since told image faults_of script start opening front inbox new tells known goes);
+            (due_now moment_of left_since told image faults_of script origin front inbox old
+            (told_earlier moment_of left_since told image faults_of script origin front inbox old new telling one.back_stands tells) one.back_stands on)
+            (due_now moment_of left_since told image faults_of script origin front inbox new tells known goes);
         are = inl refl;
         come = sent_last notices later (released_notices old r.first.body) got r.told;
       })
 
-  may_as : (may : Bool) → may_release old ≡ may → is_stopped old ≡ false → IsBack moment_of left_since told image faults_of start opening new
+  may_as : (may : Bool) → may_release old ≡ may → is_stopped old ≡ false → IsBack moment_of left_since told image faults_of origin.start origin.opening new
       → (result : Result Stepped NoMemory) → ReleasesBy moment_of left_since told image faults_of old new notices later out later_out result → After
-  may_as may is on known (Ok Did) by = let_go on by.stops.good known by.outlet (by.released refl)
+  may_as may is on known (Ok Did) by = let_go on by.stops.good known by.disk by.outlet (by.released refl)
   may_as may is on known (Ok Nothing) by =
       let i = by.barred on (by.nothing refl) in
       idle i.back by.outlet i.told by.left i.left
   may_as may is on known (Err fault) by =
       let s = by.stays in
-      unseen moment_of left_since told image faults_of script start opening front inbox keeps old new line notices later out later_out one known
+      unseen moment_of left_since told image faults_of script origin front inbox keeps old new line notices later out later_out one known (still_tells told old.store new.store by.disk) s.identity
       (λ free off. absurd (true≢false (sym by.stops.wanting ∙ off))) s.log (ap (λ h. h.items) s.held) s.mode s.before s.durable by.outlet s.told
       (same_queue out later_out by.left (sym (took_none out later_out by.left s.left)))
 
@@ -111,7 +116,7 @@ module _ {D : Type 0} (moment_of : D → ℕ) (left_since : D → ℕ → List �
   stopped_as true off result by =
       let s = by.stopped off in
       idle s.1 by.outlet s.2 by.left s.3
-  stopped_as false on result by = may_as (may_release old) refl on (by.back start opening one.back_stands) result by
+  stopped_as false on result by = may_as (may_release old) refl on (by.back origin.start origin.opening one.back_stands) result by
 
   pub release_keeps : (result : Result Stepped NoMemory) → ReleasesBy moment_of left_since told image faults_of old new notices later out later_out result → After
   release_keeps result by = stopped_as (is_stopped old) refl result by

@@ -15,9 +15,11 @@ use Rattle.timeline.specs.declared.notice.Stepped.{Stepped}
 use Rattle.timeline.specs.declared.notice.Stepped.TheVariants.{Did, Nothing}
 use Rattle.object_front.specs.declared.evaluated.Evaluated.{Evaluated}
 use Rattle.object_front.specs.declared.half.Half.{Half}
-use Rattle.output_gate.proofs.Unfit.{unfit_log, unfit_held, unfit_notice, unfit_mode, unfit_before, fit_taken, released_still}
+use Rattle.output_gate.proofs.Stored.{still_tells}
+use Rattle.output_gate.proofs.Unfit.{unfit_identity, unfit_log, unfit_held, unfit_notice, unfit_mode, unfit_before, fit_taken, released_still}
 use Rattle.output_gate.specs.Entering.{Enters, IsIdle, Takes, LosesEntry, is_unfit, notice_at}
 use Rattle.output_gate.specs.Serving.{IsBack, KeepsBack, StopsBy, IsAsBefore, is_stopped}
+use Rattle.output_gate.specs.Storing.{KeepsDisk, KeepsTelling}
 use Rattle.output_gate.specs.Taking.{may_take, fit_of}
 use Rattle.output_gate.specs.Telling.{opened_map}
 use Rattle.output_gate.specs.declared.back.Back.{Back}
@@ -28,9 +30,10 @@ use Rattle.object_history.specs.Stepping.{BackSteps}
 use Rattle.front_history.specs.Turns.{BackStepsKeep}
 use Rattle.object_core.proofs.Due.{steps_as_due, steps_unheard, seen_is_rear}
 use Rattle.object_core.proofs.Lanes.{took_first, took_none, sent_last}
+use Rattle.object_core.proofs.Naming.{named_enters, named_still}
 use Rattle.object_core.proofs.Pairing.{Hears, paired_on, paired_as}
-use Rattle.object_core.proofs.Rebuilding.{One, StaysPair, due_of_all, rebuilt, seen_same, same_queue}
-use Rattle.object_core.specs.One.{AllTell, messages}
+use Rattle.object_core.proofs.Rebuilding.{One, StaysPair, due_now, told_earlier, rebuilt, seen_same, same_queue}
+use Rattle.object_core.specs.One.{Origin, TellsNow, messages}
 use Rattle.object_core.specs.Seen.{seen_of}
 
 -- What the back's own contract says of a take over two queues.
@@ -45,6 +48,7 @@ pub record TakesBy {D : Type 0} (moment_of : D → ℕ) (left_since : D → ℕ 
   pub stops : StopsBy result new
   pub inlet : sent_on later_line ≡ sent_on line
   pub outlet : later.got ≡ notices.got
+  pub disk : KeepsDisk old.store new.store
   pub back : KeepsBack moment_of left_since told image faults_of old new
 
 free_of : (stuck wanted few : Bool) → (not stuck && wanted && few) ≡ true → stuck ≡ false
@@ -70,31 +74,34 @@ pub err_not : {A : Type 0} (fault : NoMemory) → fault_so fault ≡ nothing_so 
 err_not fault is = absurd cc
 
 module _ {D : Type 0} (moment_of : D → ℕ) (left_since : D → ℕ → List ℕ → Type 0) (told : D → Option (List ℕ)) (image : D → List ℕ → Type 0) (faults_of : D → ℕ)
-    (keeps : BackStepsKeep) (script : Script) (start : List (List Op)) (opening : ℕ) (front : Half Evaluated) (inbox : Both Event) (old new : Back D) (line later_line : Both Entry) (notices later : Both Notice) (out : Both Sent)
-    (one : One moment_of left_since told image faults_of script start opening front inbox old line notices out) where
+    (keeps : BackStepsKeep) (script : Script) (origin : Origin) (front : Half Evaluated) (inbox : Both Event) (old new : Back D) (line later_line : Both Entry) (notices later : Both Notice) (out : Both Sent)
+    (one : One moment_of left_since told image faults_of script origin front inbox old line notices out) where
   abbrev opened : Contents
-  opened = opened_map start
+  opened = opened_map origin.start
 
   abbrev After : Type 0
-  After = One moment_of left_since told image faults_of script start opening front inbox new later_line later out
+  After = One moment_of left_since told image faults_of script origin front inbox new later_line later out
 
   abbrev Stays : List Entry → Type 0
-  Stays lost = StaysPair moment_of left_since told image faults_of script start opening front inbox old new line later_line notices later out one lost
+  Stays lost = StaysPair moment_of left_since told image faults_of script origin front inbox old new line later_line notices later out one lost
 
   abbrev Known : Type 0
-  Known = IsBack moment_of left_since told image faults_of start opening new
+  Known = IsBack moment_of left_since told image faults_of origin.start origin.opening new
 
   -- Nothing is done.
   idle : new ≡ old → later_line.got ≡ line.got → sent_on later_line ≡ sent_on line → sent_on later ≡ sent_on notices → later.got ≡ notices.got → After
   idle same got sent told_same told_got =
-      subst (λ (b : Back D). One moment_of left_since told image faults_of script start opening front inbox b later_line later out) (sym same)
-      (subst (λ (l : Both Entry). One moment_of left_since told image faults_of script start opening front inbox old l later out)
+      subst (λ (b : Back D). One moment_of left_since told image faults_of script origin front inbox b later_line later out) (sym same)
+      (subst (λ (l : Both Entry). One moment_of left_since told image faults_of script origin front inbox old l later out)
       (sym (same_queue line later_line got (sym (took_none line later_line got sent))))
-      (subst (λ (n : Both Notice). One moment_of left_since told image faults_of script start opening front inbox old line n out)
+      (subst (λ (n : Both Notice). One moment_of left_since told image faults_of script origin front inbox old line n out)
       (sym (same_queue notices later told_got (sym (took_none notices later told_got told_same)))) one))
 
-  module _ (e : Entry) (none : one.lost ≡ []) (known : Known)
+  module _ (e : Entry) (none : one.lost ≡ []) (known : Known) (same_disk : KeepsDisk old.store new.store)
       (took : later_line.got ≡ line.got ++ e ∷ []) (sent : sent_on later_line ≡ sent_on line) (kept : later.got ≡ notices.got) where
+    telling : KeepsTelling told old.store new.store
+    telling = still_tells told old.store new.store same_disk
+
     waits_first : one.lost ++ line.waiting ≡ e ∷ later_line.waiting
     waits_first = ap (λ (x : List Entry). x ++ line.waiting) none ∙ took_first line later_line e took sent
 
@@ -103,9 +110,10 @@ module _ {D : Type 0} (moment_of : D → ℕ) (left_since : D → ℕ → List �
 
     -- The entry isn't logged, and nothing else that is seen changes.
     unlogged : backed new.log ≡ backed old.log → new.held.items ≡ old.held.items → new.mode ≡ old.mode → new.before ≡ old.before → new.durable ≡ old.durable
-        → (new.stuck ≡ false → is_stopped new ≡ false → ⊥) → sent_on later ≡ sent_on notices → After
-    unlogged log held mode before durable bad told_same =
-        rebuilt moment_of left_since told image faults_of script start opening front inbox old new line later_line notices later out out one known (e ∷ [])
+        → new.identity ≡ old.identity → (new.stuck ≡ false → is_stopped new ≡ false → ⊥) → sent_on later ≡ sent_on notices → After
+    unlogged log held mode before durable same bad told_same =
+        rebuilt moment_of left_since told image faults_of script origin front inbox old new line later_line notices later out out one known telling
+        (named_still origin.object old new same (ap (λ (x : Backed). x.taken) log) one.named) (e ∷ [])
         (λ free on. absurd (bad free on))
         (sent_so ∙ sym (append_assoc old.log.taken.items (e ∷ []) later_line.waiting) ∙ ap (λ (x : Backed). x.taken ++ e ∷ [] ++ later_line.waiting) (sym log))
         (ap (λ (x : Backed). messages x.released) log ∙ one.left)
@@ -117,28 +125,29 @@ module _ {D : Type 0} (moment_of : D → ℕ) (left_since : D → ℕ → List �
         unlogged (enters.log ∙ unfit_log (fit_of old e) (backed old.log) e is)
         (enters.held ∙ ap (λ (x : List BackHeld). old.held.items ++ x) (unfit_held (fit_of old e) old e is) ∙ append-nil old.held.items)
         (enters.mode ∙ unfit_mode (fit_of old e) old.mode e.body is) (enters.before ∙ unfit_before (fit_of old e) old.before e.body is) enters.durable
+        (enters.identity ∙ unfit_identity (fit_of old e) old.identity e.body is)
         (λ free on. true≢false (sym is ∙ sym enters.stuck ∙ free)) told_same
 
     -- The entry is logged.
     logs : Enters old new e → is_unfit (fit_of old e) ≡ false
-        → (AllTell told → Hears (seen_of opened old) (seen_of opened new) (e ∷ []) notices.waiting later.waiting) → After
+        → (TellsNow told new → Hears (seen_of opened old) (seen_of opened new) (e ∷ []) notices.waiting later.waiting) → After
     logs enters is steps =
         let taken : new.log.taken.items ≡ old.log.taken.items ++ e ∷ [] = ap (λ (x : Backed). x.taken) enters.log ∙ fit_taken (fit_of old e) (backed old.log) e is in
-        rebuilt moment_of left_since told image faults_of script start opening front inbox old new line later_line notices later out out one known []
+        rebuilt moment_of left_since told image faults_of script origin front inbox old new line later_line notices later out out one known telling (named_enters origin.object old new e taken one.named enters) []
         (λ free on. refl)
         (sent_so ∙ sym (append_assoc old.log.taken.items (e ∷ []) later_line.waiting) ∙ ap (λ (x : List Entry). x ++ later_line.waiting) (sym taken)
         ∙ ap (λ (x : List Entry). x ++ later_line.waiting) (sym (append-nil new.log.taken.items)))
         (ap (λ (x : Backed). messages x.released) enters.log ∙ ap messages (released_still (fit_of old e) (backed old.log) e) ∙ one.left)
         (λ tells k paired.
         paired_on keeps k opened one.st front (seen_of opened old) (seen_of opened new) (one.lost ++ line.waiting) later_line.waiting (e ∷ []) notices.waiting later.waiting
-        (steps tells) (seen_is_rear moment_of left_since told image faults_of start opening old one.back_stands)
-        (seen_is_rear moment_of left_since told image faults_of start opening new known) waits_first paired)
+        (steps tells) (seen_is_rear moment_of left_since told image faults_of origin.start origin.opening old one.back_stands)
+        (seen_is_rear moment_of left_since told image faults_of origin.start origin.opening new known) waits_first paired)
 
     -- The step of which the laws speak.
     steps_so : Enters old new e → is_unfit (fit_of old e) ≡ false → may_take old ≡ true
         → BackSteps (rear_of old) (rear_of new) (e ∷ []) (option_to_list (notice_at old e))
     steps_so enters is may =
-        gate.take_steps moment_of left_since told image faults_of start opening (not (is_stopped old)) old new one.back_stands may e enters is
+        gate.take_steps moment_of left_since told image faults_of origin.start origin.opening (not (is_stopped old)) old new one.back_stands may e enters is
 
     -- It is taken, and the front is told.
     entered_as : (unfit : Bool) → is_unfit (fit_of old e) ≡ unfit → Enters old new e → may_take old ≡ true → is_stopped old ≡ false → is_stopped new ≡ false
@@ -150,8 +159,9 @@ module _ {D : Type 0} (moment_of : D → ℕ) (left_since : D → ℕ → List �
           heard = option_to_list (notice_at old e);
           given = option_to_list (notice_at old e);
           steps = steps_as_due opened (rear_of old) (rear_of new) (e ∷ []) (option_to_list (notice_at old e)) (steps_so enters is may)
-              (due_of_all moment_of left_since told image faults_of script start opening front inbox old tells one.back_stands on)
-              (due_of_all moment_of left_since told image faults_of script start opening front inbox new tells known goes);
+              (due_now moment_of left_since told image faults_of script origin front inbox old
+              (told_earlier moment_of left_since told image faults_of script origin front inbox old new telling one.back_stands tells) one.back_stands on)
+              (due_now moment_of left_since told image faults_of script origin front inbox new tells known goes);
           are = inl refl;
           come = sent_last notices later (option_to_list (notice_at old e)) kept said;
         })
@@ -173,7 +183,7 @@ module _ {D : Type 0} (moment_of : D → ℕ) (left_since : D → ℕ → List �
     loses : LosesEntry old new line.got later_line.got (sent_on notices) (sent_on later) → may_take old ≡ true → is_stopped new ≡ true
         → (IsAsBefore old new ⊎ Enters old new e) → sent_on later ≡ sent_on notices → After
     loses lost may off (inl same) said =
-        unlogged same.log same.held same.mode same.before same.durable (λ free on. true≢false (sym off ∙ on)) said
+        unlogged same.log same.held same.mode same.before same.durable same.identity (λ free on. true≢false (sym off ∙ on)) said
     loses lost may off (inr enters) said = unheard_as (is_unfit (fit_of old e)) refl enters may said
 
   may_not : may_take old ≡ true → old.stuck ≡ false
@@ -192,17 +202,17 @@ module _ {D : Type 0} (moment_of : D → ℕ) (left_since : D → ℕ → List �
       idle i.back i.took by.inlet i.told by.outlet
   may_as true may on known (Ok Did) by =
       let t = by.took refl in
-      entered_as t.entry (one.none_lost (may_not may) on) known t.took by.inlet by.outlet (is_unfit (fit_of old t.entry)) refl t.enters may on by.stops.good t.told
+      entered_as t.entry (one.none_lost (may_not may) on) known by.disk t.took by.inlet by.outlet (is_unfit (fit_of old t.entry)) refl t.enters may on by.stops.good t.told
   may_as true may on known (Err fault) by =
       let l = by.lost on in
-      loses l.entry (one.none_lost (may_not may) on) known l.took by.inlet by.outlet l may by.stops.wanting l.entered l.told
+      loses l.entry (one.none_lost (may_not may) on) known by.disk l.took by.inlet by.outlet l may by.stops.wanting l.entered l.told
 
   stopped_as : (off : Bool) → is_stopped old ≡ off → (result : Result Stepped NoMemory)
       → TakesBy moment_of left_since told image faults_of old new line later_line notices later result → After
   stopped_as true off result by =
       let s = by.stopped off in
       idle s.1 s.2 by.inlet s.3 by.outlet
-  stopped_as false on result by = may_as (may_take old) refl on (by.back start opening one.back_stands) result by
+  stopped_as false on result by = may_as (may_take old) refl on (by.back origin.start origin.opening one.back_stands) result by
 
   pub take_keeps : (result : Result Stepped NoMemory) → TakesBy moment_of left_since told image faults_of old new line later_line notices later result → After
   take_keeps result by = stopped_as (is_stopped old) refl result by

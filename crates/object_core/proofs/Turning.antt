@@ -12,6 +12,7 @@ use Rattle.timeline.specs.declared.event.Event.{Event}
 use Rattle.timeline.specs.declared.message.Message.{Message as Sent}
 use Rattle.timeline.specs.declared.notice.Notice.{Notice}
 use Rattle.object_front.specs.Came.{HasGot, EventsCome}
+use Rattle.object_front.specs.Classed.{ClassComes, IsClassed}
 use Rattle.object_front.specs.Evaluated.{seen}
 use Rattle.object_front.specs.Sending.{AreSentToo}
 use Rattle.object_front.specs.Standing.{Stood, IsClass, IsHalf, IsTakenBy, is_stopped, kind_in}
@@ -26,13 +27,13 @@ use Rattle.output_gate.specs.declared.back.Back.{Back}
 use Rattle.front_history.proofs.Lanes.{under_way}
 use Rattle.front_history.specs.Turns.{AreUnderWay, TurnSteps}
 use Rattle.object_core.proofs.Due.{seen_is_rear}
-use Rattle.object_core.specs.One.{HasTaken, IsOneOf, TellOfPair}
+use Rattle.object_core.specs.One.{HasTaken, IsOneOf, Origin, TellOfPair, class_in}
 use Rattle.object_core.specs.Seen.{seen_of}
 
 -- A front of an object can turn.
 module _ {D : Type 0} (moment_of : D → ℕ) (left_since : D → ℕ → List ℕ → Type 0) (told : D → Option (List ℕ)) (image : D → List ℕ → Type 0) (faults_of : D → ℕ)
-    (script : Script) (start : List (List Op)) (opening : ℕ) (front : Half Evaluated) (inbox : Both Event) (back : Back D) (line : Both Entry) (notices : Both Notice) (out : Both Sent)
-    (one : IsOneOf moment_of left_since told image faults_of script start opening front inbox back line notices out) where
+    (script : Script) (origin : Origin) (front : Half Evaluated) (inbox : Both Event) (back : Back D) (line : Both Entry) (notices : Both Notice) (out : Both Sent)
+    (one : IsOneOf moment_of left_since told image faults_of script origin front inbox back line notices out) where
   can_as : (off : Bool) → is_stopped front ≡ off → CanTurn seen script front
   can_as true off = inl off
   can_as false on = inr (one.st, one.front_stands on)
@@ -63,11 +64,11 @@ pub record TurnsBy (script : Script) (old new : Half Evaluated) (inbox later_inb
   pub said : later_line.got ≡ line.got
 
 module _ {D : Type 0} (moment_of : D → ℕ) (left_since : D → ℕ → List ℕ → Type 0) (told : D → Option (List ℕ)) (image : D → List ℕ → Type 0) (faults_of : D → ℕ)
-    (laws : TurnSteps) (come : EventsCome) (script : Script) (start : List (List Op)) (opening : ℕ) (old new : Half Evaluated) (back : Back D)
+    (laws : TurnSteps) (come : EventsCome) (classes : ClassComes) (script : Script) (origin : Origin) (old new : Half Evaluated) (back : Back D)
     (inbox later_inbox : Both Event) (line later_line : Both Entry) (notices later : Both Notice) (out : Both Sent)
-    (one : IsOneOf moment_of left_since told image faults_of script start opening old inbox back line notices out) where
+    (one : IsOneOf moment_of left_since told image faults_of script origin old inbox back line notices out) where
   abbrev After : Type 0
-  After = IsOneOf moment_of left_since told image faults_of script start opening new later_inbox back later_line later out
+  After = IsOneOf moment_of left_since told image faults_of script origin new later_inbox back later_line later out
 
   module _ (result : Result Turned NoMemory) (by : TurnsBy script old new inbox later_inbox line later_line notices later result) where
     way : AreUnderWay old new notices.got later.got (one.lost ++ line.waiting) (one.lost ++ later_line.waiting) notices.waiting later.waiting
@@ -81,18 +82,19 @@ module _ {D : Type 0} (moment_of : D → ℕ) (left_since : D → ℕ → List �
         ∙ sym (append_assoc taken one.lost later_line.waiting)
 
     turned : (st : Stood) → (is_stopped new ≡ false → IsHalf seen script new st) → (is_stopped new ≡ false → HasTaken script one.alarm new st)
-        → HasGot new st later_inbox.got → TellOfPair told script start st new back (one.lost ++ later_line.waiting) later.waiting → After
-    turned st stands has_taken has_got pair = record {
+        → IsClassed script (class_in script origin.object) new st → HasGot new st later_inbox.got → TellOfPair told script origin.start st new back (one.lost ++ later_line.waiting) later.waiting → After
+    turned st stands has_taken classed has_got pair = record {
       back_stands = one.back_stands;
       alarm = one.alarm;
       st = st;
       front_stands = stands;
       has_taken = has_taken;
+      classed = classed;
+      named = one.named;
       has_got = has_got;
       lost = one.lost;
       none_lost = one.none_lost;
       is_line = is_line;
-      before = one.before;
       left = one.left;
       pair = pair;
     }
@@ -102,9 +104,10 @@ module _ {D : Type 0} (moment_of : D → ℕ) (left_since : D → ℕ → List �
         turned one.st
         (λ on. subst (λ (h : Half Evaluated). IsHalf seen script h one.st) (sym still.half) (one.front_stands (sym (ap is_stopped still.half) ∙ on)))
         (λ on. subst (λ (h : Half Evaluated). HasTaken script one.alarm h one.st) (sym still.half) (one.has_taken (sym (ap is_stopped still.half) ∙ on)))
+        (subst (λ (h : Half Evaluated). IsClassed script (class_in script origin.object) h one.st) (sym still.half) one.classed)
         (come.rests old new one.st (inbox.got, notices.got, sent_on line) (later_inbox.got, later.got, sent_on later_line) one.has_got still)
-        (λ tells class is. laws.rests (kind_in script class) (opened_map start) old new one.st (inbox.got, notices.got, sent_on line)
-        (later_inbox.got, later.got, sent_on later_line) (seen_of (opened_map start) back) (one.lost ++ line.waiting) (one.lost ++ later_line.waiting)
+        (λ tells class is. laws.rests (kind_in script class) (opened_map origin.start) old new one.st (inbox.got, notices.got, sent_on line)
+        (later_inbox.got, later.got, sent_on later_line) (seen_of (opened_map origin.start) back) (one.lost ++ line.waiting) (one.lost ++ later_line.waiting)
         notices.waiting later.waiting (one.pair tells class is) way still)
 
     -- what it had taken before
@@ -122,10 +125,11 @@ module _ {D : Type 0} (moment_of : D → ℕ) (left_since : D → ℕ → List �
         (λ on_then class is.
         let t = had_taken on turns.led turns.taken class is in
         (t.0 ++ turns.led.item, turns.moves.taken class (opened one.alarm) t.0 is t.1))
+        (classes.goes_on script k.0 (class_in script origin.object) (opened one.alarm) had.0 old new one.st inbox.got later_inbox.got notices.got later.got (sent_on notices) on one.classed had.1 turns k.1)
         (come.goes_on script k.0 (opened one.alarm) had.0 old new one.st inbox.got later_inbox.got notices.got later.got (sent_on notices) on one.has_got had.1 turns k.1)
-        (λ tells class is. laws.goes_on script class (opened_map start) old new one.st inbox.got later_inbox.got notices.got later.got (sent_on notices)
-        (seen_of (opened_map start) back) (one.lost ++ line.waiting) (one.lost ++ later_line.waiting) notices.waiting later.waiting
-        (seen_is_rear moment_of left_since told image faults_of start opening back one.back_stands) on
+        (λ tells class is. laws.goes_on script class (opened_map origin.start) old new one.st inbox.got later_inbox.got notices.got later.got (sent_on notices)
+        (seen_of (opened_map origin.start) back) (one.lost ++ line.waiting) (one.lost ++ later_line.waiting) notices.waiting later.waiting
+        (seen_is_rear moment_of left_since told image faults_of origin.start origin.opening back one.back_stands) on
         (one.pair tells class (laws.class script class one.st inbox.got later_inbox.got notices.got later.got (sent_on notices) turns.led turns.taken is)) way turns is)
 
     halts : is_stopped old ≡ false → Halts script old new one.st inbox.got later_inbox.got notices.got later.got (sent_on notices) → After
@@ -133,10 +137,11 @@ module _ {D : Type 0} (moment_of : D → ℕ) (left_since : D → ℕ → List �
         let k = class_for stops.led.stood.class in
         let had = had_taken on stops.led stops.taken k.0 k.1 in
         turned stops.led.stood (λ on_then. absurd (true≢false (sym stops.stops.stopped ∙ on_then))) (λ on_then. absurd (true≢false (sym stops.stops.stopped ∙ on_then)))
+        (classes.halts script k.0 (class_in script origin.object) (opened one.alarm) had.0 old new one.st inbox.got later_inbox.got notices.got later.got (sent_on notices) on one.classed had.1 stops k.1)
         (come.halts script k.0 (opened one.alarm) had.0 old new one.st inbox.got later_inbox.got notices.got later.got (sent_on notices) on one.has_got had.1 stops k.1)
-        (λ tells class is. laws.halts script class (opened_map start) old new one.st inbox.got later_inbox.got notices.got later.got (sent_on notices)
-        (seen_of (opened_map start) back) (one.lost ++ line.waiting) (one.lost ++ later_line.waiting) notices.waiting later.waiting
-        (seen_is_rear moment_of left_since told image faults_of start opening back one.back_stands) on
+        (λ tells class is. laws.halts script class (opened_map origin.start) old new one.st inbox.got later_inbox.got notices.got later.got (sent_on notices)
+        (seen_of (opened_map origin.start) back) (one.lost ++ line.waiting) (one.lost ++ later_line.waiting) notices.waiting later.waiting
+        (seen_is_rear moment_of left_since told image faults_of origin.start origin.opening back one.back_stands) on
         (one.pair tells class (laws.class script class one.st inbox.got later_inbox.got notices.got later.got (sent_on notices) stops.led stops.taken is)) way stops is)
 
   ran : is_stopped old ≡ false → (result : Result Turned NoMemory) → TurnsBy script old new inbox later_inbox line later_line notices later result → After

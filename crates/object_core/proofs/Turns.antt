@@ -1,5 +1,5 @@
 -- What a turn of an object's front answers, and what giving it an event does.
-use Rattle.std.proofs.Common.{◌≡◌, ◌∙◌, ap, sym, refl, inl, inr, true≢false, ℕ, zero, suc, List, [], ◌∷◌, ◌++◌, Option, Some, None}
+use Rattle.std.proofs.Common.{◌≡◌, ◌∙◌, ap, sym, refl, inl, inr, true≢false, ℕ, zero, suc, List, [], ◌∷◌, ◌++◌, append-nil, append_assoc, Option, Some, None}
 use Rattle.std.specs.Prelude.{Bool, true, false, ◌||◌, ◌⊎◌, Result, Ok, Err, OnOk, OnErr, slice_get}
 use Rattle.std.specs.List.{list_any}
 use Rattle.do_tree.specs.Tree.{Script}
@@ -17,7 +17,7 @@ use Rattle.object_front.specs.declared.half.Half.{Half}
 use Rattle.object_front.specs.declared.front.Front.{Front}
 use Rattle.object_front.specs.declared.turning.Turned.{Turned}
 use Rattle.object_front.specs.declared.turning.Turned.TheVariants.{Ran, Idle}
-use Rattle.object_core.proofs.Choosing.{none_waits, true_not, false_not, fault_not, no_first}
+use Rattle.object_core.proofs.Choosing.{none_waits, sent_none, true_not, false_not, fault_not, no_first}
 use Rattle.object_core.proofs.Lanes.{took_first, took_none}
 use Rattle.object_core.proofs.Rebuilding.{same_queue}
 use Rattle.object_core.proofs.Turning.{TurnsBy}
@@ -47,6 +47,12 @@ module _ {D : Type 0} (moment_of : D → ℕ) (faults_of : D → ℕ) (script : 
       → Steps moment_of faults_of script old (record old { inbox = inbox }) (Give event) (Ok true)
   give_steps got waiting = record {
     touches = refl;
+    passes = record {
+      given = ap (λ (es : List Event). es ++ inbox.waiting) got ∙ ap (λ (es : List Event). old.inbox.got ++ es) waiting
+          ∙ sym (append_assoc old.inbox.got old.inbox.waiting (event ∷ []));
+      collected = refl;
+      left = sent_none old.out old.out refl;
+    };
     nothing = λ is. true_not is;
     something = λ is none. none;
     did = λ is. same_queue (record old.inbox { waiting = old.inbox.waiting ++ event ∷ [] }) inbox got waiting;
@@ -57,6 +63,7 @@ module _ {D : Type 0} (moment_of : D → ℕ) (faults_of : D → ℕ) (script : 
   pub give_fails : (fault : NoMemory) → inbox ≡ old.inbox → Steps moment_of faults_of script old (record old { inbox = inbox }) (Give event) (Err fault)
   give_fails fault same = record {
     touches = refl;
+    passes = record { given = ap (λ (q : Both Event). sent_on q) same ∙ sym (append-nil (sent_on old.inbox)); collected = refl; left = sent_none old.out old.out refl };
     nothing = λ is. fault_not fault false is;
     something = λ is none. fault_not fault true is;
     did = λ is. fault_not fault true is;
@@ -133,6 +140,7 @@ module _ {D : Type 0} (moment_of : D → ℕ) (faults_of : D → ℕ) (script : 
     pub turn_steps : (result : Result Turned NoMemory) → By result → Steps moment_of faults_of script old after Turn (turn_of result)
     turn_steps (Ok Ran) by = record {
       touches = refl;
+      passes = record { given = by.events ∙ sym (append-nil (sent_on old.inbox)); collected = refl; left = sent_none old.out old.out refl };
       nothing = λ is. true_not is;
       something = λ is none. idle_not none.0 none.1 by none.2;
       did = λ is. by.ran refl;
@@ -141,6 +149,7 @@ module _ {D : Type 0} (moment_of : D → ℕ) (faults_of : D → ℕ) (script : 
     }
     turn_steps (Ok Idle) by = record {
       touches = refl;
+      passes = record { given = by.events ∙ sym (append-nil (sent_on old.inbox)); collected = refl; left = sent_none old.out old.out refl };
       nothing = λ is. (idle_there (is_stopped old.front.half) refl by, rests (Ok Idle) by (by.still refl));
       something = λ is none. false_not is;
       did = λ is. false_not is;
@@ -149,6 +158,7 @@ module _ {D : Type 0} (moment_of : D → ℕ) (faults_of : D → ℕ) (script : 
     }
     turn_steps (Err fault) by = record {
       touches = refl;
+      passes = record { given = by.events ∙ sym (append-nil (sent_on old.inbox)); collected = refl; left = sent_none old.out old.out refl };
       nothing = λ is. fault_not fault false is;
       something = λ is none. fault_not fault true is;
       did = λ is. fault_not fault true is;

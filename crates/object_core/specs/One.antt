@@ -1,17 +1,22 @@
 -- What holds of one object, both of whose halves run on one thread, after each of its steps.
-use Rattle.std.specs.Prelude.{◌≡◌, ℕ, ℤ, false, List, [], ◌++◌, map, Option}
+use Rattle.std.specs.Prelude.{◌≡◌, ◌⊎◌, ℕ, ℤ, false, List, [], ◌++◌, map, Option, Some, None}
+use Rattle.std.specs.List.{Contains}
 use Rattle.batch_journal.specs.Moments.{IsTold}
+use Rattle.do_tree.specs.Lookup.{class_named}
 use Rattle.do_tree.specs.Tree.{Script}
 use Rattle.lane.specs.Lanes.{Both, sent_on}
+use Rattle.storage_map.specs.Limits.{Object}
 use Rattle.storage_map.specs.declared.op.Op.{Op}
 use Rattle.timeline.specs.Intake.{Taken, opened}
 use Rattle.timeline.specs.Logs.{fronted, backed}
+use Rattle.timeline.specs.declared.entry.Body.TheVariants as body
 use Rattle.timeline.specs.declared.entry.Entry.{Entry}
 use Rattle.timeline.specs.declared.event.Event.{Event}
 use Rattle.timeline.specs.declared.message.Message.{Message as Sent}
 use Rattle.timeline.specs.declared.notice.Notice.{Notice}
 use Rattle.timeline.specs.declared.back_log.Release.{Release}
 use Rattle.object_front.specs.Came.{HasGot}
+use Rattle.object_front.specs.Classed.{IsClassed}
 use Rattle.object_front.specs.Evaluated.{seen}
 use Rattle.object_front.specs.Standing as standing
 use Rattle.object_front.specs.Standing.{Stood, IsHalf, IsClass, IsTakenBy, fresh, kind_in, nothing_logged}
@@ -20,6 +25,7 @@ use Rattle.object_front.specs.declared.half.Half.{Half}
 use Rattle.output_gate.specs.Logs.{no_log}
 use Rattle.output_gate.specs.Serving as serving
 use Rattle.output_gate.specs.Serving.{IsBack}
+use Rattle.output_gate.specs.Storing.{IsDiskOf}
 use Rattle.output_gate.specs.Telling.{opened_map}
 use Rattle.output_gate.specs.declared.back.Back.{Back}
 use Rattle.front_history.specs.Paired.{ArePaired}
@@ -33,10 +39,15 @@ unused = record { got = []; waiting = [] }
 abbrev pub messages : List Release → List Sent
 messages released = map (λ (release : Release). release.message) released
 
--- Both halves of a slot that was just mounted: nothing is logged, and the front was made with the alarm of the back's map.
+-- The class of the slot's object, where the slot has an object of one.
+abbrev pub class_in : Script → Option Object → Option ℕ
+class_in script None = None
+class_in script (Some object) = class_named script object.0
+
+-- Both halves of a slot that was just mounted: nothing is logged, and the front was made with the alarm of the back's map, and with the
+-- class of its object.
 pub record AreFresh {D : Type 0} (script : Script) (front : Half Evaluated) (back : Back D) : Type 0 where
-  pub class : Option ℕ
-  pub stands : IsHalf seen script front (fresh class back.cache.alarm)
+  pub stands : IsHalf seen script front (fresh (class_in script back.identity) back.cache.alarm)
   pub goes : standing.is_stopped front ≡ false
   pub front_log : fronted front.log ≡ nothing_logged
   pub back_log : backed back.log ≡ no_log
@@ -44,13 +55,14 @@ pub record AreFresh {D : Type 0} (script : Script) (front : Half Evaluated) (bac
   pub free : back.stuck ≡ false
   pub serves : serving.is_stopped back ≡ false
 
--- Over a kind of disk that tells its content, front and back are a pair of any class that the front may have.
-abbrev pub AllTell : {D : Type 0} → (told : D → Option (List ℕ)) → Type 0
-AllTell {D} told = (disk : D) → IsTold (told disk)
+-- A back's disk tells its content now.
+abbrev pub TellsNow : {D : Type 0} → (told : D → Option (List ℕ)) → Back D → Type 0
+TellsNow {D} told back = (disk : D) × IsDiskOf back.store disk × IsTold (told disk)
 
+-- While the back's disk tells its content, front and back are a pair of any class that the front may have.
 abbrev pub TellOfPair : {D : Type 0} → (told : D → Option (List ℕ)) → Script → (start : List (List Op)) → Stood → Half Evaluated → Back D
     → (under_way : List Entry) → (notices : List Notice) → Type 0
-TellOfPair told script start st front back under_way notices = AllTell told → (class : ℕ) → IsClass st.class class
+TellOfPair told script start st front back under_way notices = TellsNow told back → (class : ℕ) → IsClass st.class class
     → ArePaired (kind_in script class) (opened_map start) st front (seen_of (opened_map start) back) under_way notices
 
 -- A front that was made with this alarm stands at what it has taken.
@@ -58,36 +70,55 @@ abbrev pub HasTaken : Script → Option (ℤ × ℕ) → Half Evaluated → Stoo
 HasTaken script alarm front st = (class : ℕ) → IsClass st.class class
     → (taken : List Taken) × IsTakenBy (kind_in script class) (opened alarm) taken st.front (fronted front.log)
 
--- Both halves, with the lanes between them: the back stands, and the front at what it has taken unless memory was wanting; all events
--- that it got are accounted for; what it has sent is what the back has logged as taken and what waits, and between them the one entry
--- that the back took and didn't log, if it is stuck or memory was wanting; the messages that wait are the last that it has released.
+-- From what an object has run: the batches of its slot's journal at the opening, the disk's moment then, the slot's object then, and what
+-- it had released and others had taken before the halves were in one place.
+pub record Origin : Type 0 where
+  pub start : List (List Op)
+  pub opening : ℕ
+  pub object : Option Object
+  pub left : List Sent
+
+-- That of a slot that was just mounted.
+abbrev pub mounted_at : {D : Type 0} → (start : List (List Op)) → (opening : ℕ) → Back D → Origin
+mounted_at start opening back = record { start = start; opening = opening; object = back.identity; left = [] }
+
+-- The back knows the slot's object: that of the opening, or one whose binding it has taken.
+abbrev pub IsNamed : {D : Type 0} → Option Object → Back D → Type 0
+IsNamed object back = (back.identity ≡ object)
+    ⊎ ((bound : Object) × (back.identity ≡ Some bound) × Contains (map (λ (e : Entry). e.body) back.log.taken.items) (body.Bind bound))
+
+-- Both halves, with the lanes between them: the back stands, and the front at what it has taken unless memory was wanting; its class is
+-- that of the slot's object at the opening, or of the one that was bound since, which the back knows once it has taken the binding; all
+-- events that the front got are accounted for; what it has sent is what the back has logged as taken and what waits, and between them the
+-- one entry that the back took and didn't log, if it is stuck or memory was wanting; the messages that wait are the last that it has released.
 pub record IsOneOf {D : Type 0} (moment_of : D → ℕ) (left_since : D → ℕ → List ℕ → Type 0) (told : D → Option (List ℕ))
-    (image : D → List ℕ → Type 0) (faults_of : D → ℕ) (script : Script) (start : List (List Op)) (opening : ℕ)
+    (image : D → List ℕ → Type 0) (faults_of : D → ℕ) (script : Script) (origin : Origin)
     (front : Half Evaluated) (inbox : Both Event) (back : Back D) (line : Both Entry) (notices : Both Notice) (out : Both Sent) : Type 0 where
-  pub back_stands : IsBack moment_of left_since told image faults_of start opening back
+  pub back_stands : IsBack moment_of left_since told image faults_of origin.start origin.opening back
   pub alarm : Option (ℤ × ℕ)
   pub st : Stood
   pub front_stands : standing.is_stopped front ≡ false → IsHalf seen script front st
   pub has_taken : standing.is_stopped front ≡ false → HasTaken script alarm front st
+  pub classed : IsClassed script (class_in script origin.object) front st
+  pub named : IsNamed origin.object back
   pub has_got : HasGot front st inbox.got
   pub lost : List Entry
   pub none_lost : back.stuck ≡ false → serving.is_stopped back ≡ false → lost ≡ []
   pub is_line : front.log.sent.items ≡ back.log.taken.items ++ lost ++ line.waiting
-  pub before : List Sent
-  pub left : messages back.log.released.items ≡ before ++ sent_on out
-  pub pair : TellOfPair told script start st front back (lost ++ line.waiting) notices.waiting
+  pub left : messages back.log.released.items ≡ origin.left ++ sent_on out
+  pub pair : TellOfPair told script origin.start st front back (lost ++ line.waiting) notices.waiting
 
 abbrev pub IsOne : {D : Type 0} → (D → ℕ) → (D → ℕ → List ℕ → Type 0) → (D → Option (List ℕ)) → (D → List ℕ → Type 0) → (D → ℕ)
-    → Script → (start : List (List Op)) → (opening : ℕ) → Core D → Type 0
-IsOne moment_of left_since told image faults_of script start opening core =
-    IsOneOf moment_of left_since told image faults_of script start opening core.front.half core.inbox core.back core.line core.notices core.out
+    → Script → Origin → Core D → Type 0
+IsOne moment_of left_since told image faults_of script origin core =
+    IsOneOf moment_of left_since told image faults_of script origin core.front.half core.inbox core.back core.line core.notices core.out
 
 abbrev pub CanRun : {D : Type 0} → (D → ℕ) → (D → ℕ → List ℕ → Type 0) → (D → Option (List ℕ)) → (D → List ℕ → Type 0) → (D → ℕ)
     → Script → Core D → Type 0
 CanRun moment_of left_since told image faults_of script core =
-    (start : List (List Op)) × (opening : ℕ) × IsOne moment_of left_since told image faults_of script start opening core
+    (origin : Origin) × IsOne moment_of left_since told image faults_of script origin core
 
 abbrev pub KeepsOne : {D : Type 0} → (D → ℕ) → (D → ℕ → List ℕ → Type 0) → (D → Option (List ℕ)) → (D → List ℕ → Type 0) → (D → ℕ)
     → Script → (old new : Core D) → Type 0
-KeepsOne moment_of left_since told image faults_of script old new = (start : List (List Op)) (opening : ℕ)
-    → IsOne moment_of left_since told image faults_of script start opening old → IsOne moment_of left_since told image faults_of script start opening new
+KeepsOne moment_of left_since told image faults_of script old new = (origin : Origin)
+    → IsOne moment_of left_since told image faults_of script origin old → IsOne moment_of left_since told image faults_of script origin new

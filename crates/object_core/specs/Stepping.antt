@@ -1,9 +1,10 @@
 -- What one step of an object does, by its choice.
-use Rattle.std.specs.Prelude.{◌≡◌, ◌⊎◌, ℕ, Bool, true, false, [], ◌∷◌, ◌++◌, Result, Ok, Err, OnErr, OnOk}
+use Rattle.std.specs.Prelude.{◌≡◌, ◌⊎◌, ℕ, List, Bool, true, false, [], ◌∷◌, ◌++◌, Result, Ok, Err, OnErr, OnOk}
 use Rattle.std.specs.List.{list_any}
 use Rattle.do_tree.specs.Tree.{Script}
 use Rattle.do_value.specs.declared.fault.NoMemory.{NoMemory}
-use Rattle.lane.specs.Lanes.{sent_on}
+use Rattle.lane.specs.Lanes.{sent_on, StartsWith}
+use Rattle.timeline.specs.declared.event.Event.{Event}
 use Rattle.timeline.specs.declared.notice.Stepped.{Stepped}
 use Rattle.timeline.specs.declared.notice.Stepped.TheVariants.{Did, Nothing}
 use Rattle.object_front.specs.Evaluated.{seen}
@@ -88,11 +89,24 @@ IsStoppedBy old new Turn = standing.is_stopped new.front.half ≡ true
 IsStoppedBy old new Flush = ⊥
 IsStoppedBy old new choice = serving.is_stopped new.back ≡ true
 
+-- The event that is given.
+abbrev pub given_by : Choice → Result Bool NoMemory → List Event
+given_by (Give event) (Ok did) = event ∷ []
+given_by _ _ = []
+
+-- What an object is given, and what it lets go: an event that is given stands behind the others, nothing is collected, and messages that
+-- leave stand behind the others.
+pub record Passes {D : Type 0} (old new : Core D) (choice : Choice) (result : Result Bool NoMemory) : Type 0 where
+  pub given : sent_on new.inbox ≡ sent_on old.inbox ++ given_by choice result
+  pub collected : new.out.got ≡ old.out.got
+  pub left : StartsWith (sent_on new.out) (sent_on old.out)
+
 -- A step answers false exactly where there is nothing to do, and then changes nothing; true where it did what its choice says; and
 -- want of memory always behind an earlier one of its half.
 pub record Steps {D : Type 0} (moment_of faults_of : D → ℕ) (script : Script) (old new : Core D) (choice : Choice)
     (result : Result Bool NoMemory) : Type 0 where
   pub touches : Touches old new choice
+  pub passes : Passes old new choice result
   pub nothing : result ≡ Ok false → HasNothing script old choice × (new ≡ old)
   pub something : result ≡ Ok true → HasNothing script old choice → ⊥
   pub did : result ≡ Ok true → Does moment_of faults_of script old new choice

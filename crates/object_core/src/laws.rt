@@ -1,9 +1,17 @@
 //! What holds of each object, for whoever holds one. A call costs nothing and tells its caller the law.
-ghost use Rattle.object_core.specs.Laws.{OneIsHistory, OneHasGot, OneHasIntake, OneHasTold};
+ghost use Rattle.object_core.specs.Laws.{HalvesAreFresh, OneIsHistory, OneHasClass, OneHasGot, OneHasIntake, OneHasLeft, OneHasTold, OneIsWhole};
 
 use crate::object::Core;
 use do_disk::Disk;
 use front_history::laws;
+use output_gate::Back;
+
+/// The halves of a slot that was just mounted, for whoever makes an object of them.
+pub fn halves_are_fresh<D: Disk>(back: &Back<D>)
+    ensures { HalvesAreFresh back.now }
+{
+    let _ = back;
+}
 
 /// What an object's logs show is its history: what was said, taken, kept and released.
 pub fn one_is_history<D: Disk>(core: &Core<D>)
@@ -23,6 +31,28 @@ pub fn one_has_intake<D: Disk>(core: &Core<D>)
 /// What became of the events that its front got.
 pub fn one_has_got<D: Disk>(core: &Core<D>)
     ensures { OneHasGot D.moment_of D.left_since D.told D.image D.faults_of core.now }
+{
+    let _ = core;
+}
+
+/// The class by which its script runs, and the object that its slot has.
+pub fn one_has_class<D: Disk>(core: &Core<D>)
+    ensures { OneHasClass D.moment_of D.left_since D.told D.image D.faults_of core.now }
+{
+    let _ = core;
+}
+
+/// Where what was said is all that is to be said.
+pub fn one_is_whole<D: Disk>(core: &Core<D>)
+    ensures { OneIsWhole D.moment_of D.left_since D.told D.image D.faults_of core.now }
+{
+    laws::halves_are_whole();
+    let _ = core;
+}
+
+/// The messages that wait to be collected are the last that left.
+pub fn one_has_left<D: Disk>(core: &Core<D>)
+    ensures { OneHasLeft D.moment_of D.left_since D.told D.image D.faults_of core.now }
 {
     let _ = core;
 }

@@ -5,7 +5,7 @@ ghost use Rattle.do_tree.specs.Tree.{Script};
 ghost use Rattle.storage_map.specs.declared.op.Op.{Op};
 ghost use Rattle.output_gate.specs.Serving.{IsBack};
 ghost use Rattle.object_core.specs.Collecting.{Collects};
-ghost use Rattle.object_core.specs.One.{AreFresh, IsOne, IsOneOf, CanRun, KeepsOne, unused};
+ghost use Rattle.object_core.specs.One.{AreFresh, IsOne, IsOneOf, CanRun, KeepsOne, Origin, mounted_at, unused};
 ghost use Rattle.object_core.specs.Running.{Runs};
 ghost use Rattle.object_core.specs.Stepping.{Steps};
 
@@ -57,7 +57,7 @@ impl<D: Disk> Core<D> {
         ensures halves { (result.front ≡ front) × (result.back ≡ back) }
         ensures lanes { (result.inbox ≡ unused) × (result.line ≡ unused) × (result.notices ≡ unused) × (result.out ≡ unused) }
         ensures one { (script : Script) (start : List (List Op)) (opening : ℕ) → IsBack D.moment_of D.left_since D.told D.image D.faults_of start opening back
-            → AreFresh script front.half back → IsOne D.moment_of D.left_since D.told D.image D.faults_of script start opening result }
+            → AreFresh script front.half back → IsOne D.moment_of D.left_since D.told D.image D.faults_of script (mounted_at start opening back) result }
     {
         laws::front_begins();
         front_laws::events_come();
@@ -82,9 +82,9 @@ impl<D: Disk> Core<D> {
     ) -> Core<D>
         ensures halves { (result.front ≡ front) × (result.back ≡ back) }
         ensures lanes { (result.inbox ≡ inbox) × (result.line ≡ line) × (result.notices ≡ notices) × (result.out ≡ out) }
-        ensures one { (script : Script) (start : List (List Op)) (opening : ℕ)
-            → IsOneOf D.moment_of D.left_since D.told D.image D.faults_of script start opening front.half inbox back line notices out
-            → IsOne D.moment_of D.left_since D.told D.image D.faults_of script start opening result }
+        ensures one { (script : Script) (origin : Origin)
+            → IsOneOf D.moment_of D.left_since D.told D.image D.faults_of script origin front.half inbox back line notices out
+            → IsOne D.moment_of D.left_since D.told D.image D.faults_of script origin result }
     {
         Core {
             front,

@@ -33,6 +33,7 @@ impl<D: Disk> Core<D> {
     {
         laws::turn_steps();
         front_laws::events_come();
+        front_laws::class_comes();
         let turned = self.front.turn(
             alloc,
             checked,

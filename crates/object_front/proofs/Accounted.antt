@@ -1,7 +1,7 @@
 -- Where an event goes, of what is accounted for.
-use Rattle.std.proofs.Common.{sym, subst, List, [], ◌∷◌, ◌++◌, append_assoc}
+use Rattle.std.proofs.Common.{◌∙◌, sym, ap, subst, List, [], ◌∷◌, ◌++◌, append_assoc}
 use Rattle.std.specs.Prelude.{IsPermutation}
-use Rattle.std.proofs.lemmas.List.Sorted.{IsPermutation-sym, IsPermutation-to_front, IsPermutation-trans, IsPermutation-append_left, IsPermutation-append_right, IsPermutation-middle}
+use Rattle.std.proofs.lemmas.List.Sorted.{IsPermutation-sym, IsPermutation-to_front, IsPermutation-trans, IsPermutation-append_comm, IsPermutation-append_left, IsPermutation-append_right, IsPermutation-middle}
 use Rattle.object_front.specs.Came.{IsPartOf, nothing, shares, skips}
 
 module _ {X : Type 0} where
@@ -50,6 +50,32 @@ module _ {X : Type 0} where
   pub out_of_kept : (d w x k l : List X) (e : X) → IsPermutation (all_of d w x (e ∷ k) l) (e ∷ all_of d w x k l)
   out_of_kept d w x k l e = IsPermutation-sym _ _ (to_kept d w x k l e)
 
+  -- What would have been logged, and wasn't, is lost.
+  aside : (a b c : List X) → IsPermutation ((a ++ b) ++ c) (a ++ (c ++ b))
+  aside a b c = subst (λ (l : List X). IsPermutation l (a ++ (c ++ b))) (sym (append_assoc a b c)) (IsPermutation-append_right a _ _ (IsPermutation-append_comm b c))
+
+  first_aside : (d d' w x k l : List X) → IsPermutation (all_of (d ++ d') w x k l) (all_of d w x k (l ++ d'))
+  first_aside d d' w x k l =
+      subst (IsPermutation (all_of (d ++ d') w x k l))
+      (λ i. d ++ (append_assoc w (x ++ (k ++ l)) d' ∙ ap (λ (m : List X). w ++ m) (append_assoc x (k ++ l) d' ∙ ap (λ (m : List X). x ++ m) (append_assoc k l d'))) i)
+      (aside d d' (w ++ (x ++ (k ++ l))))
+
+  second_aside : (w w' x k l : List X) → IsPermutation ((w ++ w') ++ (x ++ (k ++ l))) (w ++ (x ++ (k ++ (l ++ w'))))
+  second_aside w w' x k l =
+      subst (IsPermutation ((w ++ w') ++ (x ++ (k ++ l))))
+      (λ i. w ++ (append_assoc x (k ++ l) w' ∙ ap (λ (m : List X). x ++ m) (append_assoc k l w')) i)
+      (aside w w' (x ++ (k ++ l)))
+
+  third_aside : (x x' k l : List X) → IsPermutation ((x ++ x') ++ (k ++ l)) (x ++ (k ++ (l ++ x')))
+  third_aside x x' k l = subst (IsPermutation ((x ++ x') ++ (k ++ l))) (λ i. x ++ append_assoc k l x' i) (aside x x' (k ++ l))
+
+  pub all_aside : (d d' w w' x x' k l : List X)
+      → IsPermutation (all_of (d ++ d') (w ++ w') (x ++ x') k l) (all_of d w x k (((l ++ d') ++ w') ++ x'))
+  all_aside d d' w w' x x' k l =
+      IsPermutation-trans _ _ _ (first_aside d d' (w ++ w') (x ++ x') k l)
+      (IsPermutation-append_right d _ _ (IsPermutation-trans _ _ _ (second_aside w w' (x ++ x') k (l ++ d'))
+      (IsPermutation-append_right w _ _ (third_aside x x' k ((l ++ d') ++ w')))))
+
   -- A list is part of itself, of one that has it, and of what that is part of.
   pub part_itself : (xs : List X) → IsPartOf xs xs
   part_itself [] = nothing
@@ -80,3 +106,7 @@ module _ {X : Type 0} where
 
   pub part_longer : (xs ys more : List X) → IsPartOf xs ys → IsPartOf xs (ys ++ more)
   part_longer xs ys more p = part_trans xs ys (ys ++ more) p (part_before ys more)
+
+  -- What stands between may be left out.
+  pub part_around : (a b c : List X) → IsPartOf (a ++ c) ((a ++ b) ++ c)
+  part_around a b c = subst (IsPartOf (a ++ c)) (sym (append_assoc a b c)) (part_behind a c (b ++ c) (part_more [] b c (part_none b)))

@@ -13,105 +13,44 @@ use Rattle.timeline.specs.declared.event.Event.{Event}
 use Rattle.timeline.specs.declared.event.Event.TheVariants as event
 use Rattle.object_front.specs.Kinds.{is_call}
 use Rattle.object_front.specs.Standing.{Stood}
-use Rattle.object_front.specs.Taking.{IsFirst, stale, at_down, at_mode, doing, may_enter, waits, without}
-use Rattle.object_front.specs.declared.testing.Doing.{Doing}
+use Rattle.object_front.specs.Taking.{IsFirst, stale, at_mode, doing, may_enter, waits, without}
 use Rattle.object_front.specs.declared.testing.Doing.TheVariants.{Delivers, Wants, Defers, Drops, Sticks}
+use Rattle.object_front.proofs.Decided.{IsDelivery, delivery_of, mode_of_wanted}
+use Rattle.object_front.proofs.Doings.{no_defers, of_two, of_stale, of_down}
 use Rattle.object_front.proofs.Accounted.{all_of, part_itself, part_behind, part_more, part_longer, part_trans, out_of_kept, keeps_as}
 use Rattle.object_front.specs.Came.{IsPartOf, skips, calls, wanting, kept}
 use Rattle.std.proofs.lemmas.List.Sorted.{IsPermutation-to_front, IsPermutation-trans, IsPermutation-cons, IsPermutation-middle}
-
--- What is done is one of five.
-abbrev is_delivers : Doing → Bool
-is_delivers Delivers = true
-is_delivers _ = false
-
-abbrev is_wants : Doing → Bool
-is_wants Wants = true
-is_wants _ = false
-
-abbrev is_defers : Doing → Bool
-is_defers Defers = true
-is_defers _ = false
-
-no_delivers : (P : Type 0) (d : Doing) → is_delivers d ≡ false → d ≡ Delivers → P
-no_delivers P d other same = absurd (true≢false (ap is_delivers (sym same) ∙ other))
-
-no_wants : (P : Type 0) (d : Doing) → is_wants d ≡ false → d ≡ Wants → P
-no_wants P d other same = absurd (true≢false (ap is_wants (sym same) ∙ other))
-
-no_defers : (P : Type 0) (d : Doing) → is_defers d ≡ false → d ≡ Defers → P
-no_defers P d other same = absurd (true≢false (ap is_defers (sym same) ∙ other))
-
--- Of two that may be done, one is, and the test tells which.
-of_two : (P : Type 0) (b : Bool) (x y d : Doing) → (b ≡ true → x ≡ d → P) → (b ≡ false → y ≡ d → P) → (if b then x else y) ≡ d → P
-of_two P true x y d first second is = first refl is
-of_two P false x y d first second is = second refl is
-
-not_stale : (P : Type 0) (early : Bool) (d : Doing) → (Drops ≡ d → P) → (Sticks ≡ d → P) → stale early ≡ d → P
-not_stale P true d first second is = second is
-not_stale P false d first second is = first is
-
-at_down_as : (P : Type 0) (now : ℕ) (e : Event) (d : Doing) → (Wants ≡ d → P) → (Drops ≡ d → P) → (Sticks ≡ d → P) → at_down now e ≡ d → P
-at_down_as P now (event.Call from method args depth at) d first second third is = first is
-at_down_as P now (event.Bind identity) d first second third is = not_stale P (is_early now 0 (event.Bind identity)) d second third is
-at_down_as P now (event.Answer incarnation number result at) d first second third is =
-    not_stale P (is_early now 0 (event.Answer incarnation number result at)) d second third is
-at_down_as P now (event.Tick at) d first second third is = not_stale P (is_early now 0 (event.Tick at)) d second third is
-at_down_as P now (event.Evict at) d first second third is = not_stale P (is_early now 0 (event.Evict at)) d second third is
 
 -- What is delivered is eligible for an object that serves, a call asks for a mounting only of one that is down, and what isn't eligible alone is
 -- deferred.
 abbrev IsDeliveredAt : Mode → Event → Type 0
 IsDeliveredAt m e = (o : Object) × (m ≡ serves (idle o)) × (is_eligible o e ≡ true)
 
-delivers_at : (now : ℕ) (m : Mode) (e : Event) → at_mode now m e ≡ Delivers → IsDeliveredAt m e
-delivers_at now (serves (idle o)) e is =
-    of_two (IsDeliveredAt (serves (idle o)) e) (is_stale now o e) (stale (is_early now o.made e)) (if is_eligible o e then Delivers else Defers) Delivers
-    (λ _ so. not_stale (IsDeliveredAt (serves (idle o)) e) (is_early now o.made e) Delivers (no_delivers _ Drops refl) (no_delivers _ Sticks refl) so)
-    (λ _ so. of_two (IsDeliveredAt (serves (idle o)) e) (is_eligible o e) Delivers Defers Delivers (λ may _. (o, refl, may)) (λ _ x. no_delivers _ Defers refl x) so)
-    is
-delivers_at now (serves (waiting o t b)) e is = no_delivers _ Defers refl is
-delivers_at now (serves (ended c)) e is = no_delivers _ Defers refl is
-delivers_at now (down call) e is = at_down_as (IsDeliveredAt (down call) e) now e Delivers (no_delivers _ Wants refl) (no_delivers _ Drops refl) (no_delivers _ Sticks refl) is
+is_delivered : (script : Script) (st : Stood) (e : Event) → doing script st e ≡ Delivers → IsDeliveredAt st.front.mode e
+is_delivered script st e is = let by : IsDelivery script st e = delivery_of script st e is in (by.object, by.mode, by.eligible)
 
 abbrev IsDown : Mode → Type 0
 IsDown m = (call : Option Event) × (m ≡ down call)
 
-wants_at : (now : ℕ) (m : Mode) (e : Event) → at_mode now m e ≡ Wants → IsDown m
-wants_at now (serves (idle o)) e is =
-    of_two (IsDown (serves (idle o))) (is_stale now o e) (stale (is_early now o.made e)) (if is_eligible o e then Delivers else Defers) Wants
-    (λ _ so. not_stale (IsDown (serves (idle o))) (is_early now o.made e) Wants (no_wants _ Drops refl) (no_wants _ Sticks refl) so)
-    (λ _ so. of_two (IsDown (serves (idle o))) (is_eligible o e) Delivers Defers Wants (λ _ x. no_wants _ Delivers refl x) (λ _ x. no_wants _ Defers refl x) so)
-    is
-wants_at now (serves (waiting o t b)) e is = no_wants _ Defers refl is
-wants_at now (serves (ended c)) e is = no_wants _ Defers refl is
-wants_at now (down call) e is = (call, refl)
+is_wanted : (script : Script) (st : Stood) (e : Event) → waits st.front.mode ≡ false → doing script st e ≡ Wants → IsDown st.front.mode
+is_wanted script st e free is = (None, mode_of_wanted script st e free is)
 
 defers_at : (now : ℕ) (m : Mode) (e : Event) → may_enter m e ≡ true → at_mode now m e ≡ Defers → ⊥
 defers_at now (serves (idle o)) e may is =
     of_two ⊥ (is_stale now o e) (stale (is_early now o.made e)) (if is_eligible o e then Delivers else Defers) Defers
-    (λ _ so. not_stale ⊥ (is_early now o.made e) Defers (no_defers _ Drops refl) (no_defers _ Sticks refl) so)
+    (λ _ so. of_stale ⊥ (is_early now o.made e) Defers (no_defers _ Drops refl) (no_defers _ Sticks refl) so)
     (λ _ so. of_two ⊥ (is_eligible o e) Delivers Defers Defers (λ _ x. no_defers _ Delivers refl x) (λ unfit _. absurd (true≢false (sym may ∙ unfit))) so)
     is
 defers_at now (serves (waiting o t b)) e may is = absurd (true≢false (sym may))
 defers_at now (serves (ended c)) e may is = absurd (true≢false (sym may))
-defers_at now (down call) e may is = at_down_as ⊥ now e Defers (no_defers _ Wants refl) (no_defers _ Drops refl) (no_defers _ Sticks refl) is
-
--- The same of what becomes of an event.
-by_mode : (P : Type 0) (script : Script) (st : Stood) (e : Event) (d : Doing) → (Drops ≡ d → P)
-    → (at_mode st.front.incarnation st.front.mode e ≡ d → P) → doing script st e ≡ d → P
-by_mode P script st e d other same is =
-    of_two P (is_fit script st.class e) (at_mode st.front.incarnation st.front.mode e) Drops d (λ _ so. same so) (λ _ so. other so) is
-
-is_delivered : (script : Script) (st : Stood) (e : Event) → doing script st e ≡ Delivers → IsDeliveredAt st.front.mode e
-is_delivered script st e is =
-    by_mode (IsDeliveredAt st.front.mode e) script st e Delivers (no_delivers _ Drops refl) (λ so. delivers_at st.front.incarnation st.front.mode e so) is
-
-is_wanted : (script : Script) (st : Stood) (e : Event) → doing script st e ≡ Wants → IsDown st.front.mode
-is_wanted script st e is = by_mode (IsDown st.front.mode) script st e Wants (no_wants _ Drops refl) (λ so. wants_at st.front.incarnation st.front.mode e so) is
+defers_at now (down call) e may is = of_down ⊥ now e Defers (no_defers _ Wants refl) (no_defers _ Drops refl) (no_defers _ Sticks refl) is
 
 not_deferred : (script : Script) (st : Stood) (e : Event) → may_enter st.front.mode e ≡ true → doing script st e ≡ Defers → ⊥
-not_deferred script st e may is = by_mode ⊥ script st e Defers (no_defers _ Drops refl) (λ so. defers_at st.front.incarnation st.front.mode e may so) is
+not_deferred script st e may is =
+    of_two ⊥ (is_fit script st.class e) (at_mode st.front.incarnation st.front.mode e) Drops Defers
+    (λ _ so. defers_at st.front.incarnation st.front.mode e may so)
+    (λ _ so. no_defers _ Drops refl so)
+    is
 
 -- Where a call is eligible each is.
 blocked_call : (b resumes rests : Bool) (e : Event) → is_call e ≡ true → is_eligible_while b resumes rests e ≡ true → b ≡ false
@@ -219,7 +158,7 @@ module _ (script : Script) (st : Stood) (e : Event) (before d w x lost : List Ev
             (λ call. ap calls kept_is ∙ no_calls_at st.front.mode e st.deferred (is_delivered script st e is) call no_other) order));
         none_waits = none;
         wants = λ is.
-            let empty : st.deferred ≡ [] = none_at_down st.front.mode st.deferred (is_wanted script st e is) no_other in
+            let empty : st.deferred ≡ [] = none_at_down st.front.mode st.deferred (is_wanted script st e free is) no_other in
             let shorter : IsPartOf (calls d) (calls before) =
             subst (λ (l : List Event). IsPartOf l (calls before)) (ap (λ (l : List Event). calls d ++ calls l) (kept_is ∙ empty) ∙ append-nil (calls d)) order in
             subst (IsPartOf (calls d ++ calls (e ∷ st.deferred))) (sym now)
@@ -253,7 +192,7 @@ module _ (script : Script) (st : Stood) (e : Event) (before d w x lost : List Ev
             ∙ same_call (is_call e) (calls d) (calls front) (calls rest) e (λ call. no_calls_at st.front.mode e front at call first.before))) in_order;
         none_waits = none;
         wants = λ is.
-            let empty : front ≡ [] = none_at_down st.front.mode front (is_wanted script (without st place) e is) first.before in
+            let empty : front ≡ [] = none_at_down st.front.mode front (is_wanted script (without st place) e free is) first.before in
             subst (λ (l : List Event). IsPartOf (calls d ++ l) (calls before))
             (ap (λ (l : List Event). calls l ++ if_call (is_call e) e (calls rest)) empty ∙ ap (λ (l : List Event). calls (e ∷ (l ++ rest))) (sym empty)) in_order;
         defers = λ is. absurd (not_deferred script (without st place) e first.may is);

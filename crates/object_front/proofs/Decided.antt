@@ -1,5 +1,5 @@
 -- What is found of an event that is delivered, and of one that asks for a mounting.
-use Rattle.std.proofs.Common.{◌≡◌, ◌∙◌, sym, refl, ap, ℕ, Bool, true, false, true≢false, Some}
+use Rattle.std.proofs.Common.{◌≡◌, refl, ℕ, Bool, true, false, true≢false, Some}
 use Rattle.std.specs.Prelude.{if◌then◌else◌, None}
 use Rattle.do_tree.specs.Tree.{Script}
 use Rattle.timeline.specs.Eligible.{is_eligible, is_stale, is_early, is_fit}
@@ -7,11 +7,10 @@ use Rattle.timeline.specs.Intake.{Mode, serves, down}
 use Rattle.timeline.specs.Object as seen
 use Rattle.timeline.specs.Object.{idle, waiting, ended}
 use Rattle.timeline.specs.declared.event.Event.{Event}
-use Rattle.timeline.specs.declared.event.Event.TheVariants as event
 use Rattle.object_front.specs.Standing.{Stood}
-use Rattle.object_front.specs.Taking.{at_down, at_mode, doing, stale, waits}
-use Rattle.object_front.specs.declared.testing.Doing.{Doing}
+use Rattle.object_front.specs.Taking.{at_mode, doing, stale, waits}
 use Rattle.object_front.specs.declared.testing.Doing.TheVariants.{Delivers, Wants, Defers, Drops, Sticks}
+use Rattle.object_front.proofs.Doings.{no_delivers, no_wants, of_stale, of_down}
 
 -- What was found of an event that is delivered.
 pub record IsDelivery (script : Script) (st : Stood) (e : Event) : Type 0 where
@@ -21,39 +20,7 @@ pub record IsDelivery (script : Script) (st : Stood) (e : Event) : Type 0 where
   pub fresh : is_stale st.front.incarnation object e ≡ false
   pub fit : is_fit script st.class e ≡ true
 
-is_delivered : Doing → Bool
-is_delivered Delivers = true
-is_delivered Wants = false
-is_delivered Defers = false
-is_delivered Drops = false
-is_delivered Sticks = false
-
-is_wanted : Doing → Bool
-is_wanted Wants = true
-is_wanted Delivers = false
-is_wanted Defers = false
-is_wanted Drops = false
-is_wanted Sticks = false
-
-stale_not_delivered : (b : Bool) → is_delivered (stale b) ≡ false
-unfolding is_delivered
-stale_not_delivered true = refl
-stale_not_delivered false = refl
-
-down_not_delivered : (now : ℕ) (e : Event) → is_delivered (at_down now e) ≡ false
-unfolding is_delivered
-down_not_delivered now (event.Call from method args depth at) = refl
-down_not_delivered now (event.Bind identity) = stale_not_delivered (is_early now 0 (event.Bind identity))
-down_not_delivered now (event.Answer incarnation number result at) = stale_not_delivered (is_early now 0 (event.Answer incarnation number result at))
-down_not_delivered now (event.Tick at) = stale_not_delivered (is_early now 0 (event.Tick at))
-down_not_delivered now (event.Evict at) = stale_not_delivered (is_early now 0 (event.Evict at))
-
-not_delivered : {P : Type 0} (d : Doing) → is_delivered d ≡ false → d ≡ Delivers → P
-unfolding is_delivered
-not_delivered d other is = absurd (true≢false (sym (ap is_delivered is) ∙ other))
-
 pub delivery_of : (script : Script) (st : Stood) (e : Event) → doing script st e ≡ Delivers → IsDelivery script st e
-unfolding is_delivered
 delivery_of script st e is = by_fit (is_fit script st.class e) refl is
   where
     now : ℕ
@@ -61,41 +28,31 @@ delivery_of script st e is = by_fit (is_fit script st.class e) refl is
 
     by_stale : (o : seen.Object) → is_fit script st.class e ≡ true → st.front.mode ≡ serves (idle o) → (b c : Bool) → is_stale now o e ≡ b → is_eligible o e ≡ c
         → (if b then stale (is_early now o.made e) else (if c then Delivers else Defers)) ≡ Delivers → IsDelivery script st e
-    by_stale o fit mode true c old may d = not_delivered (stale (is_early now o.made e)) (stale_not_delivered (is_early now o.made e)) d
+    by_stale o fit mode true c old may d = of_stale _ (is_early now o.made e) Delivers (no_delivers _ Drops refl) (no_delivers _ Sticks refl) d
     by_stale o fit mode false true old may d = record { object = o; mode = mode; eligible = may; fresh = old; fit = fit }
-    by_stale o fit mode false false old may d = not_delivered Defers refl d
+    by_stale o fit mode false false old may d = no_delivers _ Defers refl d
 
     by_mode : (m : Mode) → is_fit script st.class e ≡ true → st.front.mode ≡ m → at_mode now m e ≡ Delivers → IsDelivery script st e
     by_mode (serves (idle o)) fit mode d = by_stale o fit mode (is_stale now o e) (is_eligible o e) refl refl d
-    by_mode (serves (waiting o t b)) fit mode d = not_delivered Defers refl d
-    by_mode (serves (ended cause)) fit mode d = not_delivered Defers refl d
-    by_mode (down call) fit mode d = not_delivered (at_down now e) (down_not_delivered now e) d
+    by_mode (serves (waiting o t b)) fit mode d = no_delivers _ Defers refl d
+    by_mode (serves (ended cause)) fit mode d = no_delivers _ Defers refl d
+    by_mode (down call) fit mode d = of_down _ now e Delivers (no_delivers _ Wants refl) (no_delivers _ Drops refl) (no_delivers _ Sticks refl) d
 
     by_fit : (b : Bool) → is_fit script st.class e ≡ b → (if b then at_mode now st.front.mode e else Drops) ≡ Delivers → IsDelivery script st e
     by_fit true fit d = by_mode st.front.mode fit refl d
-    by_fit false fit d = not_delivered Drops refl d
+    by_fit false fit d = no_delivers _ Drops refl d
 
 -- A call that asks for a mounting finds the object down, and no other call that waits.
-stale_not_wanted : (b : Bool) → is_wanted (stale b) ≡ false
-unfolding is_wanted
-stale_not_wanted true = refl
-stale_not_wanted false = refl
-
-not_wanted : {P : Type 0} (d : Doing) → is_wanted d ≡ false → d ≡ Wants → P
-unfolding is_wanted
-not_wanted d other is = absurd (true≢false (sym (ap is_wanted is) ∙ other))
-
 pub mode_of_wanted : (script : Script) (st : Stood) (e : Event) → waits st.front.mode ≡ false → doing script st e ≡ Wants → st.front.mode ≡ down None
-unfolding is_wanted
 mode_of_wanted script st e free is = by_fit (is_fit script st.class e) is
   where
     now : ℕ
     now = st.front.incarnation
 
     by_stale : (o : seen.Object) → (b c : Bool) → (if b then stale (is_early now o.made e) else (if c then Delivers else Defers)) ≡ Wants → ⊥
-    by_stale o true c d = not_wanted (stale (is_early now o.made e)) (stale_not_wanted (is_early now o.made e)) d
-    by_stale o false true d = not_wanted Delivers refl d
-    by_stale o false false d = not_wanted Defers refl d
+    by_stale o true c d = of_stale ⊥ (is_early now o.made e) Wants (no_wants _ Drops refl) (no_wants _ Sticks refl) d
+    by_stale o false true d = no_wants _ Delivers refl d
+    by_stale o false false d = no_wants _ Defers refl d
 
     by_mode : (m : Mode) → waits m ≡ false → at_mode now m e ≡ Wants → m ≡ down None
     by_mode (serves (idle o)) free_at d = absurd (by_stale o (is_stale now o e) (is_eligible o e) d)
@@ -106,4 +63,4 @@ mode_of_wanted script st e free is = by_fit (is_fit script st.class e) is
 
     by_fit : (b : Bool) → (if b then at_mode now st.front.mode e else Drops) ≡ Wants → st.front.mode ≡ down None
     by_fit true d = by_mode st.front.mode free d
-    by_fit false d = not_wanted Drops refl d
+    by_fit false d = no_wants _ Drops refl d

@@ -1,5 +1,5 @@
 -- What becomes of an event that is taken: it is one item of the intake, or none, and the class stays what it was.
-use Rattle.std.proofs.Common.{◌≡◌, ◌∙◌, ap, sym, subst, refl, true≢false, ℕ, Bool, true, false, List, [], ◌∷◌, Option, Some, None}
+use Rattle.std.proofs.Common.{◌≡◌, sym, refl, true≢false, ℕ, Bool, true, false, List, [], ◌∷◌, Option, Some, None}
 use Rattle.std.specs.Prelude.{if◌then◌else◌}
 use Rattle.do_tree.specs.Tree.{Script}
 use Rattle.timeline.specs.Eligible.{is_eligible, is_stale, is_early, is_fit}
@@ -12,28 +12,11 @@ use Rattle.object_front.specs.Standing.{Stood, IsClass}
 use Rattle.object_front.specs.Taking.{stale, at_down, at_mode, doing, does, on_event, class_after}
 use Rattle.object_front.specs.declared.testing.Doing.{Doing}
 use Rattle.object_front.specs.declared.testing.Doing.TheVariants.{Delivers, Wants, Defers, Drops, Sticks}
-
--- Of two that may be done, one is.
-of_two : (P : Type 0) (b : Bool) (x y d : Doing) → (x ≡ d → P) → (y ≡ d → P) → (if b then x else y) ≡ d → P
-of_two P true x y d first second is = first is
-of_two P false x y d first second is = second is
-
--- What is done is no other thing.
-abbrev is_wants : Doing → Bool
-is_wants Wants = true
-is_wants _ = false
-
-abbrev is_delivers : Doing → Bool
-is_delivers Delivers = true
-is_delivers _ = false
-
-not_wanted : (P : Type 0) (d : Doing) → is_wants d ≡ false → d ≡ Wants → P
-not_wanted P d other is = absurd (true≢false (sym (ap is_wants is) ∙ other))
+use Rattle.object_front.proofs.Doings.{no_delivers, no_wants, of_two, of_stale}
 
 -- A call alone asks for a mounting.
 stale_wants : (P : Type 0) (early : Bool) → stale early ≡ Wants → P
-stale_wants P true is = not_wanted P Sticks refl is
-stale_wants P false is = not_wanted P Drops refl is
+stale_wants P early is = of_stale P early Wants (no_wants P Drops refl) (no_wants P Sticks refl) is
 
 down_wants : (now : ℕ) (e : Event) → at_down now e ≡ Wants → is_call e ≡ true
 down_wants now (event.Call from method args depth at) is = refl
@@ -45,19 +28,19 @@ down_wants now (event.Evict at) is = stale_wants (false ≡ true) (is_early now 
 mode_wants : (now : ℕ) (m : Mode) (e : Event) → at_mode now m e ≡ Wants → is_call e ≡ true
 mode_wants now (serves (idle o)) e is =
     of_two (is_call e ≡ true) (is_stale now o e) (stale (is_early now o.made e)) (if is_eligible o e then Delivers else Defers) Wants
-    (λ so. stale_wants (is_call e ≡ true) (is_early now o.made e) so)
-    (λ so. of_two (is_call e ≡ true) (is_eligible o e) Delivers Defers Wants (not_wanted (is_call e ≡ true) Delivers refl)
-    (not_wanted (is_call e ≡ true) Defers refl) so)
+    (λ _ so. stale_wants (is_call e ≡ true) (is_early now o.made e) so)
+    (λ _ so. of_two (is_call e ≡ true) (is_eligible o e) Delivers Defers Wants (λ _ x. no_wants (is_call e ≡ true) Delivers refl x)
+    (λ _ x. no_wants (is_call e ≡ true) Defers refl x) so)
     is
-mode_wants now (serves (waiting o t b)) e is = not_wanted (is_call e ≡ true) Defers refl is
-mode_wants now (serves (ended c)) e is = not_wanted (is_call e ≡ true) Defers refl is
+mode_wants now (serves (waiting o t b)) e is = no_wants (is_call e ≡ true) Defers refl is
+mode_wants now (serves (ended c)) e is = no_wants (is_call e ≡ true) Defers refl is
 mode_wants now (down call) e is = down_wants now e is
 
 wants_call : (script : Script) (st : Stood) (e : Event) → doing script st e ≡ Wants → is_call e ≡ true
 wants_call script st e is =
     of_two (is_call e ≡ true) (is_fit script st.class e) (at_mode st.front.incarnation st.front.mode e) Drops Wants
-    (λ so. mode_wants st.front.incarnation st.front.mode e so)
-    (not_wanted (is_call e ≡ true) Drops refl)
+    (λ _ so. mode_wants st.front.incarnation st.front.mode e so)
+    (λ _ so. no_wants (is_call e ≡ true) Drops refl so)
     is
 
 -- No item, its delivery, or that a call asks for a mounting.
@@ -87,8 +70,7 @@ fit_class script (Some class) (event.Evict at) c fit is = is
 
 -- What isn't fit isn't delivered.
 delivers_fit : (b : Bool) (x : Doing) → (if b then x else Drops) ≡ Delivers → b ≡ true
-delivers_fit true x is = refl
-delivers_fit false x is = absurd (true≢false (sym (ap is_delivers is)))
+delivers_fit b x is = of_two (b ≡ true) b x Drops Delivers (λ fit _. fit) (λ _ so. no_delivers (b ≡ true) Drops refl so) is
 
 doing_class : (script : Script) (st : Stood) (e : Event) (d : Doing) (c : ℕ) → (d ≡ Delivers → is_fit script st.class e ≡ true)
     → IsClass (does script st e d).stood.class c → IsClass st.class c

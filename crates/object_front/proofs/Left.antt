@@ -1,5 +1,5 @@
 -- What is left is found by how the front stands.
-use Rattle.std.proofs.Common.{◌≡◌, ◌∙◌, sym, refl, ap, subst, ℕ, Bool, true, false, List, ◌++◌, map, drop, option_to_list, Option, Some, None, unwrap_or, Result, Ok, Err, IfOk}
+use Rattle.std.proofs.Common.{◌≡◌, ◌∙◌, sym, refl, ap, subst, inl, inr, true≢false, ℕ, ◌≤◌, Bool, true, false, List, ◌++◌, length, map, drop, option_to_list, Option, Some, None, unwrap_or, Result, Ok, Err, IfOk}
 use Rattle.do_tree.specs.Tree.{Script}
 use Rattle.timeline.specs.Intake.{Mode, serves, down}
 use Rattle.timeline.specs.Left.{left}
@@ -15,8 +15,9 @@ use Rattle.front_turns.specs.declared.object.State.{State as HeldState}
 use Rattle.front_turns.specs.declared.object.State.TheVariants as state
 use Rattle.object_front.proofs.Held.{class_there}
 use Rattle.object_front.specs.Remaining.{left_at, object_at, object_in}
-use Rattle.object_front.specs.Standing.{Stood, IsHalf, IsMode}
+use Rattle.object_front.specs.Standing.{Stood, IsHalf, IsMode, is_stopped_mode}
 use Rattle.object_front.specs.Taking.{waits, waits_in}
+use Rattle.object_front.specs.Turning.{CanTurn, is_held}
 use Rattle.object_front.specs.declared.half.Half.{Half}
 use Rattle.object_front.specs.declared.half.Mode.{Mode as HeldMode}
 use Rattle.object_front.specs.declared.half.Mode.TheVariants as held
@@ -57,3 +58,19 @@ left_stands see script h st deferred v is free same found =
     ∙ ap (λ (events : List Event). left l (object_at st.front.mode) events (map (λ e. e.body) (drop h.first_sent h.log.sent.items)) deferred) is.events
     ∙ ap (λ (said : List Body). left l (object_at st.front.mode) st.front.events said deferred) is.said
     ∙ ap (λ (events : List Event). left l (object_at st.front.mode) st.front.events st.front.said events) (same ∙ is.deferred)
+
+-- A front that waits for nothing isn't stopped, and the newest incarnation's parts of its log begin within it.
+held_goes : {T : Type 0} (m : HeldMode T) → is_held m ≡ false → is_stopped_mode m ≡ false
+held_goes (held.Serves s) free = refl
+held_goes (held.Down call) free = refl
+held_goes held.Stopped free = absurd (true≢false free)
+
+pub from_delivered : {T : Type 0} (see : T → Paused) (script : Script) (h : Half T) → CanTurn see script h → is_held h.mode ≡ false
+    → h.first_delivered ≤ length h.log.delivered.items
+from_delivered see script h (inl stopped) free = absurd (true≢false (sym stopped ∙ held_goes h.mode free))
+from_delivered see script h (inr stands) free = stands.1.delivered_from
+
+pub from_sent : {T : Type 0} (see : T → Paused) (script : Script) (h : Half T) → CanTurn see script h → is_held h.mode ≡ false
+    → h.first_sent ≤ length h.log.sent.items
+from_sent see script h (inl stopped) free = absurd (true≢false (sym stopped ∙ held_goes h.mode free))
+from_sent see script h (inr stands) free = stands.1.sent_from

@@ -4,8 +4,10 @@ pub mod Answered
 pub mod Arriving
 pub mod Blocks
 pub mod ByCallers
+pub mod Classes
 pub mod Coming
 pub mod Decided
+pub mod Doings
 pub mod Endings
 pub mod Entered
 pub mod First
@@ -20,6 +22,7 @@ pub mod Leading
 pub mod Left
 pub mod Noticed
 pub mod Sent
+pub mod SentFront
 pub mod Serving
 pub mod Spoken
 pub mod Stepping

@@ -1,5 +1,5 @@
 -- What became of the events that a front got from its inbox.
-use Rattle.std.specs.Prelude.{◌≡◌, ℕ, ℤ, Option, Bool, true, false, List, [], ◌∷◌, ◌++◌, map, option_to_list, IsPermutation}
+use Rattle.std.specs.Prelude.{◌≡◌, ◌≤◌, ℕ, ℤ, Option, false, List, [], ◌∷◌, ◌++◌, length, map, option_to_list, IsPermutation}
 use Rattle.std.specs.List.{filter}
 use Rattle.do_tree.specs.Tree.{Script}
 use Rattle.timeline.specs.Intake as intake
@@ -40,15 +40,13 @@ pub record AreCome (got : List Event) (log : Fronted) (keeps lost : List Event) 
   pub each : IsPermutation got (events log.delivered ++ (events log.downed ++ (log.dropped ++ (keeps ++ lost))))
   pub order : IsPartOf (calls (events log.delivered) ++ calls keeps) (calls got)
 
--- A front that is stopped keeps nothing, and has lost what it hadn't logged; another has lost at most the event at which it stands still.
-abbrev pub keeps_now : Bool → Stood → List Event
-keeps_now true st = []
-keeps_now false st = kept st
-
+-- At most one event is lost: where a front stands still, the one at which it does; where memory was wanting, the one that it took then
+-- and hadn't logged. What a stopped front keeps is what it would keep had it gone on: it takes none of it any more.
 pub record HasGot (half : Half Evaluated) (st : Stood) (got : List Event) : Type 0 where
   pub lost : List Event
+  pub few : length lost ≤ 1
   pub none_lost : is_stopped half ≡ false → st.stuck ≡ false → lost ≡ []
-  pub come : AreCome got (fronted half.log) (keeps_now (is_stopped half) st) lost
+  pub come : AreCome got (fronted half.log) (kept st) lost
 
 -- A front that has taken nothing has got nothing; and a turn accounts for what it gets, also where memory was wanting.
 pub record EventsCome : Type 0 where

@@ -1,6 +1,7 @@
 pub mod Answering
 pub mod ByCallers
 pub mod Came
+pub mod Classed
 pub mod Ending
 pub mod Evaluated
 pub mod Gated

@@ -108,9 +108,9 @@ impl Front {
     }
 
     /// The caller of each call that was delivered in this incarnation, or is deferred, and has no reply, in the order in which they were
-    /// taken, with what it waits for.
+    /// taken, with what it waits for. A front that waits for an answer of its back, or is stopped, answers `NoMemory`.
     pub fn left(&self, alloc: Global) -> Mem<Vec<(Caller, Waits)>>
-        requires { (script : Script) × (st : Stood) × IsHalf seen script self.now.half st × (taking.waits st.front.mode ≡ false) }
+        requires { (script : Script) × CanTurn seen script self.now.half }
         ensures { IfOk result (λ left. (script : Script) (st : Stood) → IsHalf seen script self.now.half st → taking.waits st.front.mode ≡ false
             → left.items ≡ left_at script st) }
     {

@@ -8,6 +8,7 @@ ghost use Rattle.front_turns.specs.Held.{Holds, IsState, object_of};
 ghost use Rattle.object_front.specs.Remaining.{left_at, object_at, object_in};
 ghost use Rattle.object_front.specs.Standing.{Stood, IsHalf, IsMode};
 ghost use Rattle.object_front.specs.Taking as taking;
+ghost use Rattle.object_front.specs.Turning.{CanTurn};
 
 use crate::half::{Half, Mode};
 use crate::leaving::find_left;
@@ -137,12 +138,15 @@ impl<T: Task + Drop> Half<T> {
         }
     }
 
-    // The callers that have no reply, with what each waits for.
+    // The callers that have no reply, with what each waits for. It isn't said while an answer of the back is waited for.
     pub(crate) fn remaining(&self, alloc: Global) -> Mem<Vec<(Caller, Waits)>>
-        requires { (script : Script) × (st : Stood) × IsHalf T.seen script self.now st × (taking.waits st.front.mode ≡ false) }
+        requires { (script : Script) × CanTurn T.seen script self.now }
         ensures { IfOk result (λ left. (script : Script) (st : Stood) → IsHalf T.seen script self.now st → taking.waits st.front.mode ≡ false
             → left.items ≡ left_at script st) }
     {
+        if self.waits() {
+            return Err(NoMemory);
+        }
         let deferred = copy_waiting(alloc, &self.due, &self.deferred)?;
         let left = self.remaining_at(alloc, deferred.as_slice())?;
         Ok(left)

@@ -94,8 +94,8 @@ impl<T: Task + Drop> Half<T> {
         matches!(self.mode, Mode::Stopped)
     }
 
-    // Whether an answer of the back is waited for.
-    fn waits(&self) -> bool
+    // Whether an answer of the back is waited for, or memory was wanting.
+    pub(crate) fn waits(&self) -> bool
         ensures { result ≡ is_held self.now.mode }
     {
         match &self.mode {

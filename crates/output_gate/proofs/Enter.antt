@@ -1,15 +1,17 @@
 -- What an entry of the newest incarnation does to a back.
 use Rattle.std.proofs.Common.{◌≡◌, ◌∙◌, ap, sym, refl, ℕ, ◌<◌, List, [], ◌∷◌, ◌++◌, Option, inl, inr, append-nil, length, ◌-◌}
 use Rattle.std.proofs.lemmas.Bool.{ltb-true}
-use Rattle.std.specs.Prelude.{◌⊎◌, Bool, true, false, not, ◌&&◌, nat_lt, Result, Ok, Err, OnErr, slice_get}
+use Rattle.std.specs.Prelude.{◌⊎◌, Bool, true, false, not, ◌&&◌, nat_lt, Result, Ok, Err, OnOk, OnErr, slice_get}
+use Rattle.do_value.specs.declared.fault.NoMemory.{NoMemory}
 use Rattle.storage_map.specs.declared.op.Op.{Op}
 use Rattle.timeline.specs.Logs.{Backed, backed}
 use Rattle.timeline.specs.declared.back_log.BackLog.{BackLog}
 use Rattle.timeline.specs.declared.entry.Entry.{Entry}
 use Rattle.timeline.specs.declared.notice.Notice.{Notice}
-use Rattle.output_gate.specs.Entering.{CanTake, TakesOwn, CanTakeDown, TakesDown, TakesLate, Enters, LosesEntry, logged_as, is_unfit, held_as, late_by, mode_after, before_after, identity_after}
+use Rattle.output_gate.specs.Entering.{CanTake, TakesOwn, FailsOwn, CanTakeDown, TakesDown, TakesLate, Enters, LosesEntry, logged_as, is_unfit, held_as, late_by, mode_after, before_after, identity_after}
 use Rattle.output_gate.specs.Fits.{comes_behind, last_of}
 use Rattle.output_gate.specs.Serving.{IsMounted, IsUnmounted, IsBackAs, IsAsBefore}
+use Rattle.output_gate.specs.Storing.{KeepsDisk}
 use Rattle.output_gate.specs.Taking.{LogSame, LogRoom, may_take, is_wanted, fit_of, most_unflushed}
 use Rattle.output_gate.specs.declared.back.Back.{Back}
 use Rattle.output_gate.specs.declared.fit.Fit.{Fit}
@@ -109,6 +111,12 @@ module _ {D : Type 0} (moment_of : D → ℕ) (left_since : D → ℕ → List �
         durable = t.durable;
         limit = t.limit;
       }
+
+  -- The same disk is in the store, whatever memory sufficed for.
+  pub own_disk : {A : Type 0} (r : Result A NoMemory) (old new : Back D) (e : Entry) → OnOk r (TakesOwn moment_of left_since told image faults_of old new e.number e.body)
+      → OnErr r (FailsOwn moment_of left_since told image faults_of old new) → KeepsDisk old.store new.store
+  own_disk (Ok x) old new e took failed = took.disk
+  own_disk (Err fault) old new e took failed = failed.disk
 
   pub down_unmounted : (start : List (List Op)) (opening : ℕ) (old : Back D) (log : BackLog) (e : Entry) → LogSame old.log log → fit_of old e ≡ fit.Down
       → IsBackAs moment_of left_since told image faults_of start opening true old → IsUnmounted moment_of left_since told image faults_of start opening (record old { log = log })

@@ -34,6 +34,7 @@ use Rattle.output_gate.specs.declared.back.Back.{Back}
 use Rattle.output_gate.specs.declared.held.Held.{Held}
 use Rattle.output_gate.specs.declared.held.HeldBody.{HeldBody}
 use Rattle.output_gate.specs.declared.held.HeldBody.TheVariants as held_body
+use Rattle.output_gate.proofs.Stored.{still_disk, staged_disk}
 use Rattle.output_gate.proofs.Takings.{HoldsMore, mounted_silent, mounted_message, mounted_bind, mounted_batch, mounted_same, kept_fails, same_log}
 
 -- all that changed are the store, the cache and the room of the lists
@@ -59,12 +60,14 @@ module _ {D : Type 0} (moment_of : D → ℕ) (left_since : D → ℕ → List �
   pub failed_hold : (old new : Back D) → new.held.items ≡ old.held.items → new ≡ record old { held = new.held } → FailsOwn moment_of left_since told image faults_of old new
   failed_hold old new items same = record {
     same = as_before old new old.store old.cache new.held old.log same refl items;
+    disk = still_disk old.store new.store (ap (λ (x : Back D). x.store) same);
     back = λ start opening m. kept_fails moment_of left_since told image faults_of start opening true old new old.cache new.held old.log same (same_log moment_of left_since told image faults_of start opening true old.log) items m;
   }
 
   pub failed_same : (old : Back D) → FailsOwn moment_of left_since told image faults_of old old
   failed_same old = record {
     same = as_before old old old.store old.cache old.held old.log refl refl refl;
+    disk = λ disk at. at;
     back = λ start opening m. kept_fails moment_of left_since told image faults_of start opening true old old old.cache old.held old.log refl (same_log moment_of left_since told image faults_of start opening true old.log) refl m;
   }
 
@@ -103,6 +106,7 @@ module _ {D : Type 0} (moment_of : D → ℕ) (left_since : D → ℕ → List �
         before = ap (λ (x : Back D). x.before) same ∙ even;
         durable = ap (λ (x : Back D). x.durable) same;
         limit = ap (λ (x : Back D). x.limit) same;
+        disk = still_disk old.store new.store (ap (λ (x : Back D). x.store) same);
         back = λ start opening m. subst (IsMounted moment_of left_since told image faults_of start opening true) (sym same)
             (mounted_silent moment_of left_since told image faults_of start opening true old new.log new.held (entry_of old number b) m took refl comes other silent nothing
             (HoldsMore.one_more (held_now old h) held (sym (says old.before old.number)) (λ yes. (refl, well yes)) halts));
@@ -125,6 +129,7 @@ module _ {D : Type 0} (moment_of : D → ℕ) (left_since : D → ℕ → List �
         before = ap (λ (x : Back D). x.before) same;
         durable = ap (λ (x : Back D). x.durable) same;
         limit = ap (λ (x : Back D). x.limit) same;
+        disk = still_disk old.store new.store (ap (λ (x : Back D). x.store) same);
         back = λ start opening m. subst (IsMounted moment_of left_since told image faults_of start opening true) (sym same)
             (mounted_message moment_of left_since told image faults_of start opening true old new.log new.held (entry_of old number (body.Message sent)) sent m took refl comes refl
             (HoldsMore.one_more (held_now old (held_body.Message sent)) held refl (λ yes. absurd (true_false (sym yes))) refl));
@@ -143,6 +148,7 @@ module _ {D : Type 0} (moment_of : D → ℕ) (left_since : D → ℕ → List �
     before = ap (λ (x : Back D). x.before) same ∙ even;
     durable = ap (λ (x : Back D). x.durable) same;
     limit = ap (λ (x : Back D). x.limit) same;
+    disk = still_disk old.store new.store (ap (λ (x : Back D). x.store) same);
     back = λ start opening m. subst (IsMounted moment_of left_since told image faults_of start opening true) (sym same)
         (mounted_silent moment_of left_since told image faults_of start opening true old new.log old.held (entry_of old number b) m took refl comes other silent nothing
         (HoldsMore.nothing_more refl refl halts));
@@ -164,6 +170,7 @@ module _ {D : Type 0} (moment_of : D → ℕ) (left_since : D → ℕ → List �
     before = ap (λ (x : Back D). x.before) same;
     durable = ap (λ (x : Back D). x.durable) same;
     limit = ap (λ (x : Back D). x.limit) same;
+    disk = still_disk old.store new.store (ap (λ (x : Back D). x.store) same);
     back = λ start opening m. subst (IsMounted moment_of left_since told image faults_of start opening true) (ap (λ o. record old { identity = Some o; log = new.log }) (sym equal) ∙ sym same)
         (mounted_bind moment_of left_since told image faults_of start opening true old new.log number object m took (is_nobody old.identity known) comes);
   }
@@ -176,15 +183,17 @@ module _ {D : Type 0} (moment_of : D → ℕ) (left_since : D → ℕ → List �
   pub failed_cache : (old : Back D) (cache : Contents) → FailsOwn moment_of left_since told image faults_of old (record old { cache = cache })
   failed_cache old cache = record {
     same = as_before old (record old { cache = cache }) old.store cache old.held old.log refl refl refl;
+    disk = λ disk at. at;
     back = λ start opening m. kept_fails moment_of left_since told image faults_of start opening true old (record old { cache = cache }) cache old.held old.log refl
         (same_log moment_of left_since told image faults_of start opening true old.log) refl m;
   }
 
-  pub failed_stage : (old new : Back D) (cache : Contents) (object : Object) (ops : List Op) (e : NoMemory)
+  pub failed_stage : (old new : Back D) (cache : Contents) (object : Object) (ops : List Op) (e : NoMemory) (journal : Journal D) → old.store ≡ store.Journal journal
       → ((journal : Journal D) → old.store ≡ store.Journal journal → Stages told image journal new.store object ops (Err e))
       → new ≡ record old { cache = cache; store = new.store } → FailsOwn moment_of left_since told image faults_of old new
-  failed_stage old new cache object ops e stages same = record {
+  failed_stage old new cache object ops e journal at stages same = record {
     same = as_before old new new.store cache old.held old.log same refl refl;
+    disk = let st = stages journal at in staged_disk old.store new.store journal st.new at st.is st.disk;
     back = λ start opening m.
         let st = stages m.journal m.safe.store in
         subst (IsMounted moment_of left_since told image faults_of start opening false)
@@ -194,11 +203,11 @@ module _ {D : Type 0} (moment_of : D → ℕ) (left_since : D → ℕ → List �
   }
 
   pub took_batch : (old mid add : Back D) (number : ℕ) (ops : List Op) (tail : Option ℕ) (cache : Contents) (size : ℕ) (object : Object) → old.identity ≡ Some object
-      → comes_behind (last_of old.log.taken.items) (entry_of old number (body.Batch ops tail)) ≡ true → cache ≡ apply old.cache ops → size ≡ length (batch_bytes ops)
+      → (journal : Journal D) → old.store ≡ store.Journal journal → comes_behind (last_of old.log.taken.items) (entry_of old number (body.Batch ops tail)) ≡ true → cache ≡ apply old.cache ops → size ≡ length (batch_bytes ops)
       → ((journal : Journal D) → old.store ≡ store.Journal journal → Stages told image journal mid.store object ops (Ok tt))
       → mid ≡ record old { cache = cache; store = mid.store } → LogTook mid.log add.log (entry_of mid number (body.Batch ops tail)) → add ≡ record mid { log = add.log }
       → TakesOwn moment_of left_since told image faults_of old (record add { before = add.before + 1; own = add.own + 1; unflushed = add.unflushed + size }) number (body.Batch ops tail)
-  took_batch old mid add number ops tail cache size object named comes wrote is_size stages first log then =
+  took_batch old mid add number ops tail cache size object named journal at comes wrote is_size stages first log then =
       let e : Entry = entry_of old number (body.Batch ops tail) in
       let f : Back D → Back D = λ x. record x { before = x.before + 1; own = x.own + 1; unflushed = x.unflushed + size } in
       let same : add ≡ record old { cache = cache; store = mid.store; log = add.log } = then ∙ ap (λ (x : Back D). record x { log = add.log }) first in
@@ -216,6 +225,7 @@ module _ {D : Type 0} (moment_of : D → ℕ) (left_since : D → ℕ → List �
         before = ap (λ (x : Back D). x.before + 1) same;
         durable = ap (λ (x : Back D). x.durable) same;
         limit = ap (λ (x : Back D). x.limit) same;
+        disk = let st = stages journal at in staged_disk old.store add.store journal st.new at (ap (λ (x : Back D). x.store) then ∙ st.is) st.disk;
         back = λ start opening m.
             let st = stages m.journal m.safe.store in
             subst (IsMounted moment_of left_since told image faults_of start opening true)
@@ -228,6 +238,7 @@ module _ {D : Type 0} (moment_of : D → ℕ) (left_since : D → ℕ → List �
   pub failed_down : (old new : Back D) → new.held.items ≡ old.held.items → new ≡ record old { held = new.held } → FailsDown moment_of left_since told image faults_of old new
   failed_down old new items same = record {
     same = as_before old new old.store old.cache new.held old.log same refl items;
+    disk = still_disk old.store new.store (ap (λ (x : Back D). x.store) same);
     back = λ start opening u. subst (IsUnmounted moment_of left_since told image faults_of start opening) (sym same) (unmounted_held moment_of left_since told image faults_of start opening old new.held u items);
   }
 
@@ -264,6 +275,7 @@ module _ {D : Type 0} (moment_of : D → ℕ) (left_since : D → ℕ → List �
         before = ap (λ (x : Back D). x.before) same;
         durable = ap (λ (x : Back D). x.durable) same;
         limit = ap (λ (x : Back D). x.limit) same;
+        disk = still_disk old.store new.store (ap (λ (x : Back D). x.store) same);
         back = λ start opening u. subst (IsUnmounted moment_of left_since told image faults_of start opening)
             (ap (λ (e : Ending). record old { mode = Wanted e; log = new.log }) (same_ending u.ending ending old.mode u.safe.mode down) ∙ sym same)
             (unmounted_mend moment_of left_since told image faults_of start opening old new.log (entry_of old number body.Mend) u took refl refl);
@@ -286,6 +298,7 @@ module _ {D : Type 0} (moment_of : D → ℕ) (left_since : D → ℕ → List �
         before = ap (λ (x : Back D). x.before) same;
         durable = ap (λ (x : Back D). x.durable) same;
         limit = ap (λ (x : Back D). x.limit) same;
+        disk = still_disk old.store new.store (ap (λ (x : Back D). x.store) same);
         back = λ start opening u. subst (IsUnmounted moment_of left_since told image faults_of start opening) (sym same)
             (unmounted_message moment_of left_since told image faults_of start opening old new.log new.held (entry_of old number (body.Message sent)) sent u took refl refl
             (down ∙ ap Down (sym (same_ending u.ending ending old.mode u.safe.mode down))) held);

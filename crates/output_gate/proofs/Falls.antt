@@ -25,7 +25,8 @@ use Rattle.output_gate.specs.declared.back.Ending.{Ending}
 use Rattle.output_gate.specs.declared.back.Mode.{Mode}
 use Rattle.output_gate.specs.declared.back.Mode.TheVariants.{Mounted as IsMountedMode, Wanted}
 use Rattle.output_gate.proofs.Mends.{found_one}
-use Rattle.output_gate.proofs.Remounts.{same_disk, known}
+use Rattle.output_gate.proofs.Remounts.{known}
+use Rattle.output_gate.proofs.Stored.{same_disk}
 
 abbrev is_recovered : Verdict → Type 0
 is_recovered (Verdict.recovered frames) = Unit {0}

@@ -1,8 +1,9 @@
 -- What a release does to a back, whether its newest incarnation is mounted or not.
 use Rattle.std.proofs.Common.{◌≡◌, ◌∙◌, ap, sym, refl, subst, inl, inr, ℕ, ◌+◌, ◌≤◌, List, [], ◌∷◌, ◌++◌, append-nil, map, Option, Global}
-use Rattle.std.specs.Prelude.{true, false, ◌||◌, length, Some}
+use Rattle.std.specs.Prelude.{true, false, ◌||◌, length, Some, Result, Ok, Err, OnErr}
 use Rattle.std.specs.declared.collections.VecDeque.{VecDeque}
 use Rattle.batch_journal.specs.Rest.{disk_in}
+use Rattle.do_value.specs.declared.fault.NoMemory.{NoMemory}
 use Rattle.storage_map.specs.declared.op.Op.{Op}
 use Rattle.timeline.specs.Logs.{Backed, backed}
 use Rattle.timeline.specs.declared.back_log.BackLog.{BackLog}
@@ -10,10 +11,12 @@ use Rattle.timeline.specs.declared.back_log.Release.{Release}
 use Rattle.timeline.specs.declared.caller.Cause.{Cause}
 use Rattle.timeline.specs.declared.message.Message.{Message as Sent}
 use Rattle.timeline.specs.declared.notice.Notice.{Notice}
+use Rattle.timeline.specs.declared.notice.Stepped.{Stepped}
+use Rattle.timeline.specs.declared.notice.Stepped.TheVariants.{Did, Nothing}
 use Rattle.output_gate.specs.Held.{passed_by, passed_of, is_held_halt, has_halt}
-use Rattle.output_gate.specs.Releasing.{release_at, released_log, released_notices, released_messages, Releases, StaysPut, Goes, LogReleases, LogHalts}
+use Rattle.output_gate.specs.Releasing.{may_release, release_at, released_log, released_notices, released_messages, IsIdleRelease, Releases, Stays, StaysPut, Goes, LogReleases, LogHalts}
 use Rattle.output_gate.specs.Serving.{IsMounted, IsUnmounted, IsBackAs}
-use Rattle.output_gate.specs.Storing.{IsDiskOf}
+use Rattle.output_gate.specs.Storing.{IsDiskOf, KeepsDisk}
 use Rattle.output_gate.specs.Taking.{LogSame}
 use Rattle.output_gate.specs.declared.back.Back.{Back}
 use Rattle.output_gate.specs.declared.held.Held.{Held}
@@ -23,6 +26,7 @@ use Rattle.output_gate.specs.declared.store.Store.{Store}
 use Rattle.output_gate.proofs.Helds.{true_false}
 use Rattle.output_gate.proofs.Releasings.{LogReleased, mounted_release}
 use Rattle.output_gate.proofs.Restarts.{LogRestarts, restarted, mounted_restart}
+use Rattle.output_gate.proofs.Stored.{still_disk}
 use Rattle.output_gate.proofs.Takings.{kept_fails, same_log, mounted_same}
 use Rattle.output_gate.proofs.Unmounting.{unmounted_same, unmounted_release}
 
@@ -62,7 +66,7 @@ module _ {D : Type 0} (moment_of : D → ℕ) (left_since : D → ℕ → List �
   pub stays_put : (old : Back D) (log : BackLog) (s0 s : List Notice) (o0 o : List Sent) → LogSame old.log log → s ≡ s0 → o ≡ o0
       → StaysPut moment_of left_since told image faults_of old (record old { log = log }) s0 s o0 o
   stays_put old log s0 s o0 o same told_so left_so = record {
-    stays = record { told = told_so; left = left_so; log = same.same; held = refl; identity = refl; stuck = refl; mode = refl; before = refl; durable = refl; limit = refl };
+    stays = record { told = told_so; left = left_so; log = same.same; held = refl; store = refl; identity = refl; stuck = refl; mode = refl; before = refl; durable = refl; limit = refl };
     back = λ start opening b. back_stopped moment_of left_since told image faults_of start opening (record old { log = log }) (back_room moment_of left_since told image faults_of start opening old log same b);
   }
 
@@ -156,3 +160,12 @@ module _ {D : Type 0} (moment_of : D → ℕ) (left_since : D → ℕ → List �
         }) same.same);
     back = λ start opening b. halts_back start opening (record old { log = mid }) log held first c items body ready done (back_room moment_of left_since told image faults_of start opening old mid same b);
   }
+
+-- The same disk is in the store, whatever memory sufficed for.
+pub release_disk : {D : Type 0} (moment_of : D → ℕ) (r : Result Stepped NoMemory) (old new : Back D) (s0 s : List Notice) (o0 o : List Sent)
+    → (may_release old ≡ false → IsIdleRelease old new s0 s o0 o r) → (r ≡ Ok Nothing → may_release old ≡ false)
+    → (r ≡ Ok Did → Releases moment_of old new s0 s o0 o) → OnErr r (Stays old new s0 s o0 o) → KeepsDisk old.store new.store
+release_disk {D} moment_of (Ok Nothing) old new s0 s o0 o barred nothing released stays =
+    still_disk old.store new.store (ap (λ (b : Back D). b.store) (barred (nothing refl)).back)
+release_disk moment_of (Ok Did) old new s0 s o0 o barred nothing released stays = still_disk old.store new.store (released refl).store
+release_disk moment_of (Err fault) old new s0 s o0 o barred nothing released stays = still_disk old.store new.store stays.store

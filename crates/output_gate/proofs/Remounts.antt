@@ -30,12 +30,7 @@ use Rattle.output_gate.specs.declared.store.Store.TheVariants as store
 use Rattle.output_gate.proofs.Mends.{still_down, mounting_leaves, full_leaves}
 use Rattle.output_gate.proofs.Mountings.{mounted_begun, unmounted_missed}
 use Rattle.output_gate.proofs.Steps.{told_before}
-
--- a store has one disk
-pub same_disk : {D : Type 0} (s : Store D) (a b : D) → IsDiskOf s a → IsDiskOf s b → a ≡ b
-same_disk (store.Journal journal) a b one two = one ∙ sym two
-same_disk (store.Disk bare) a b one two = one ∙ sym two
-same_disk store.Away a b one two = absurd one
+use Rattle.output_gate.proofs.Stored.{same_disk}
 
 abbrev ending_in : Mode → Ending → Ending
 ending_in (Wanted ending) other = ending

@@ -25,6 +25,9 @@ use Rattle.output_gate.specs.Serving.{HasRoom, IsSafe, IsMounted, IsSafeEnded, I
 use Rattle.output_gate.specs.Standing.{AreLogs, own_entries}
 use Rattle.output_gate.specs.Storing.{Appends, IsCauseOf, IsDiskOf}
 use Rattle.output_gate.specs.declared.back.Back.{Back}
+use Rattle.output_gate.specs.declared.back.Ending.{Ending}
+use Rattle.output_gate.specs.declared.back.Mode.{Mode}
+use Rattle.output_gate.specs.declared.back.Mode.TheVariants.{Wanted}
 use Rattle.output_gate.specs.declared.store.Fault.{Fault}
 use Rattle.output_gate.specs.declared.store.Store.{Store}
 use Rattle.output_gate.specs.declared.store.Store.TheVariants as store
@@ -204,6 +207,14 @@ module _ {D : Type 0} (moment_of : D → ℕ) (left_since : D → ℕ → List �
         counts = counts_by faults_of m.journal a.new (IsTold (told (disk_in m.journal))) (IsTold (told (disk_in a.new))) (told_before (told (disk_in m.journal)) (told (disk_in a.new)) a.telling)
             (backed old.log) (backed new.log) (stop_of old fault.cause) m.counts ends_now.stops (ap (λ (log : BackLog). log.downs.items) ends_now.log) fault.cause refl a.ended.cause a.later;
       }
+
+abbrev ending_in : Mode → Ending → Ending
+ending_in (Wanted ending) other = ending
+ending_in mode other = other
+
+-- the end that is kept for a mounting
+pub end_kept : (mode : Mode) (one other : Ending) (n : ℕ) → mode ≡ Wanted one → mode ≡ Wanted other → one.end ≡ n → other.end ≡ n
+end_kept mode one other n is also kept = ap (λ (m : Mode). (ending_in m one).end) (sym also ∙ is) ∙ kept
 
 -- a store that has a disk
 pub has_disk : {D : Type 0} (moment_of : D → ℕ) (left_since : D → ℕ → List ℕ → Type 0) (told : D → Option (List ℕ)) (image : D → List ℕ → Type 0) (faults_of : D → ℕ) (start : List (List Op)) (opening : ℕ) (sound : Bool)

@@ -37,7 +37,7 @@ use Rattle.output_gate.proofs.Endings.{no_count}
 use Rattle.output_gate.proofs.Fitting.{mounted_of}
 use Rattle.output_gate.proofs.Gates.{batches_of-append}
 use Rattle.output_gate.proofs.Histories.{stands}
-use Rattle.output_gate.proofs.Remounts.{same_disk}
+use Rattle.output_gate.proofs.Stored.{same_disk}
 
 -- the releases are those of what has left
 released_as : {D : Type 0} (moment_of : D → ℕ) (left_since : D → ℕ → List ℕ → Type 0) (object : Option Object) (start : List (List Op)) (disk : D) (h : History) (released : List Release) (left : List Passed)

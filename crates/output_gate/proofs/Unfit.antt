@@ -1,11 +1,13 @@
 -- What an entry that a back may not take changes, and one that it may.
-use Rattle.std.proofs.Common.{◌≡◌, refl, ℕ, List, [], ◌∷◌, ◌++◌, Option, None}
-use Rattle.std.specs.Prelude.{true, false}
+use Rattle.std.proofs.Common.{◌≡◌, refl, inl, inr, ℕ, List, [], ◌∷◌, ◌++◌, Option, Some, None}
+use Rattle.std.specs.Prelude.{◌⊎◌, true, false}
 use Rattle.storage_map.specs.Contents.{Contents}
+use Rattle.storage_map.specs.Limits.{Object}
 use Rattle.timeline.specs.Logs.{Backed}
 use Rattle.timeline.specs.declared.entry.Body.{Body}
+use Rattle.timeline.specs.declared.entry.Body.TheVariants as body
 use Rattle.timeline.specs.declared.entry.Entry.{Entry}
-use Rattle.output_gate.specs.Entering.{is_unfit, logged_as, notice_as, held_as, mode_after, before_after}
+use Rattle.output_gate.specs.Entering.{is_unfit, logged_as, notice_as, held_as, mode_after, before_after, identity_after, identity_by}
 use Rattle.output_gate.specs.declared.back.Back.{Back}
 use Rattle.output_gate.specs.declared.back.Mode.{Mode}
 use Rattle.output_gate.specs.declared.fit.Fit.{Fit}
@@ -54,3 +56,26 @@ released_still fit.Unfit log e = refl
 released_still fit.Own log e = refl
 released_still fit.Down log e = refl
 released_still fit.Late log e = refl
+
+-- An unfit entry names nobody; and an entry leaves the object that is known, or names the one that it binds.
+pub unfit_identity : (f : Fit) (identity : Option Object) (b : Body) → is_unfit f ≡ true → identity_after f identity b ≡ identity
+unfit_identity fit.Unfit identity b is = refl
+unfit_identity fit.Own identity b is = absurd cc
+unfit_identity fit.Down identity b is = refl
+unfit_identity fit.Late identity b is = refl
+
+bound_by : (b : Body) (identity : Option Object) → (identity_by b identity ≡ identity) ⊎ ((bound : Object) × (b ≡ body.Bind bound) × (identity_by b identity ≡ Some bound))
+bound_by (body.Bind bound) identity = inr (bound, refl, refl)
+bound_by (body.Batch batch tail) identity = inl refl
+bound_by (body.Ask ask) identity = inl refl
+bound_by body.Sync identity = inl refl
+bound_by (body.Message message) identity = inl refl
+bound_by (body.Halt cause) identity = inl refl
+bound_by body.Mend identity = inl refl
+
+pub same_or_bound : (f : Fit) (identity : Option Object) (b : Body)
+    → (identity_after f identity b ≡ identity) ⊎ ((bound : Object) × (b ≡ body.Bind bound) × (identity_after f identity b ≡ Some bound))
+same_or_bound fit.Unfit identity b = inl refl
+same_or_bound fit.Own identity b = bound_by b identity
+same_or_bound fit.Down identity b = inl refl
+same_or_bound fit.Late identity b = inl refl

@@ -21,6 +21,7 @@ use Rattle.output_gate.specs.declared.back.Ending.{Ending}
 use Rattle.output_gate.specs.declared.back.Mode.{Mode}
 use Rattle.output_gate.specs.declared.back.Mode.TheVariants.{Wanted, Down}
 use Rattle.output_gate.specs.Serving.{IsMounted, IsUnmounted, IsAsBefore}
+use Rattle.output_gate.specs.Storing.{KeepsDisk}
 use Rattle.output_gate.specs.Taking.{notice_of, fit_of, LogRoom, most_unflushed}
 use Rattle.output_gate.specs.declared.back.Back.{Back}
 use Rattle.output_gate.specs.declared.fit.Fit.{Fit}
@@ -152,12 +153,14 @@ pub record TakesOwn {D : Type 0} (moment_of : D → ℕ) (left_since : D → ℕ
   pub identity : new.identity ≡ identity_by b old.identity
   pub durable : new.durable ≡ old.durable
   pub limit : new.limit ≡ old.limit
+  pub disk : KeepsDisk old.store new.store
   pub back : (start : List (List Op)) (opening : ℕ) → IsMounted moment_of left_since told image faults_of start opening true old
       → IsMounted moment_of left_since told image faults_of start opening true new
 
 pub record FailsOwn {D : Type 0} (moment_of : D → ℕ) (left_since : D → ℕ → List ℕ → Type 0) (told : D → Option (List ℕ)) (image : D → List ℕ → Type 0) (faults_of : D → ℕ)
     (old new : Back D) : Type 0 where
   pub same : IsAsBefore old new
+  pub disk : KeepsDisk old.store new.store
   pub back : (start : List (List Op)) (opening : ℕ) → IsMounted moment_of left_since told image faults_of start opening true old
       → IsMounted moment_of left_since told image faults_of start opening false new
 
@@ -182,12 +185,14 @@ pub record TakesDown {D : Type 0} (moment_of : D → ℕ) (left_since : D → �
   pub identity : new.identity ≡ old.identity
   pub durable : new.durable ≡ old.durable
   pub limit : new.limit ≡ old.limit
+  pub disk : KeepsDisk old.store new.store
   pub back : (start : List (List Op)) (opening : ℕ) → IsUnmounted moment_of left_since told image faults_of start opening old
       → IsUnmounted moment_of left_since told image faults_of start opening new
 
 pub record FailsDown {D : Type 0} (moment_of : D → ℕ) (left_since : D → ℕ → List ℕ → Type 0) (told : D → Option (List ℕ)) (image : D → List ℕ → Type 0) (faults_of : D → ℕ)
     (old new : Back D) : Type 0 where
   pub same : IsAsBefore old new
+  pub disk : KeepsDisk old.store new.store
   pub back : (start : List (List Op)) (opening : ℕ) → IsUnmounted moment_of left_since told image faults_of start opening old
       → IsUnmounted moment_of left_since told image faults_of start opening new
 

@@ -1,6 +1,7 @@
 -- What a flush does, as its caller sees it.
 use Rattle.std.specs.Prelude.{◌≡◌, ◌⊎◌, ◌-◌, ◌∷◌, [], ◌++◌, ℕ}
 use Rattle.std.specs.List.{flat_map}
+use Rattle.batch_journal.specs.Rest.{end_of}
 use Rattle.batch_journal.specs.declared.journal.Journal.{Journal}
 use Rattle.timeline.specs.Logs.{backed}
 use Rattle.timeline.specs.declared.caller.Cause.{Cause}
@@ -24,8 +25,8 @@ pub record FliesAll {D : Type 0} (old new : Back D) : Type 0 where
   pub identity : new.identity ≡ old.identity
   pub stuck : new.stuck ≡ old.stuck
 
--- The incarnation ends, by a cause that the append had, and a mounting is wanted. The batches that weren't durable don't count, and
--- of a reply that needs one of them the failure is held.
+-- The incarnation ends, by a cause that the append had, and a mounting is wanted, for which the journal's end before the append is
+-- kept. The batches that weren't durable don't count, and of a reply that needs one of them the failure is held.
 pub record Ends {D : Type 0} (faults_of : D → ℕ) (old new : Back D) : Type 0 where
   pub cause : Cause
   pub journal : Journal D
@@ -35,6 +36,7 @@ pub record Ends {D : Type 0} (faults_of : D → ℕ) (old new : Back D) : Type 0
   pub by_cause : IsCauseOf faults_of journal after cause
   pub log : backed new.log ≡ record (backed old.log) { stops = old.log.stops.items ++ stop_of old cause ∷ [] }
   pub mode : (ending : Ending) × (ending.cause ≡ cause) × (new.mode ≡ Wanted ending)
+  pub end : (ending : Ending) → new.mode ≡ Wanted ending → ending.end ≡ end_of journal
   pub held : new.held.items ≡ flat_map (stays old.durable old.number cause) old.held.items
   pub before : new.before ≡ old.durable
   pub durable : new.durable ≡ old.durable

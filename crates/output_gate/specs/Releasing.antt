@@ -75,12 +75,14 @@ pub record IsIdleRelease {D : Type 0} (old new : Back D) (sent_before sent : Lis
   pub told : sent ≡ sent_before
   pub left : out ≡ out_before
 
--- Memory was wanting: nothing is told, nothing leaves, and the log, what is held, how the back stands and what it counts are as before.
+-- Memory was wanting: nothing is told, nothing leaves, and the log, what is held, how the back stands, what it counts and its disk are as
+-- before.
 pub record Stays {D : Type 0} (old new : Back D) (sent_before sent : List Notice) (out_before out : List Sent) : Type 0 where
   pub told : sent ≡ sent_before
   pub left : out ≡ out_before
   pub log : backed new.log ≡ backed old.log
   pub held : new.held ≡ old.held
+  pub store : new.store ≡ old.store
   pub identity : new.identity ≡ old.identity
   pub stuck : new.stuck ≡ old.stuck
   pub mode : new.mode ≡ old.mode

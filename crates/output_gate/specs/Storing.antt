@@ -22,6 +22,14 @@ IsDiskOf (store.Journal journal) disk = disk ≡ disk_in journal
 IsDiskOf (store.Disk bare) disk = disk ≡ bare
 IsDiskOf store.Away disk = ⊥
 
+-- The disk that was in the store is in it still.
+abbrev pub KeepsDisk : {D : Type 0} → (old new : Store D) → Type 0
+KeepsDisk {D} old new = (disk : D) → IsDiskOf old disk → IsDiskOf new disk
+
+-- The store's disk tells its content exactly where the one before did.
+abbrev pub KeepsTelling : {D : Type 0} → (D → Option (List ℕ)) → (old new : Store D) → Type 0
+KeepsTelling {D} told old new = (disk left : D) → IsDiskOf old disk → IsDiskOf new left → TellsAsBefore (told disk) (told left)
+
 -- A batch is staged behind those that were, or memory was wanting and the same are; the journal's file is as it was.
 pub record Stages {D : Type 0} (told : D → Option (List ℕ)) (image : D → List ℕ → Type 0) (old : Journal D) (after : Store D) (object : Object) (batch : List Op)
     (result : Result (Unit {0}) NoMemory) : Type 0 where

@@ -6,6 +6,7 @@ ghost use Rattle.timeline.specs.declared.notice.Stepped.TheVariants.{Did, Nothin
 ghost use Rattle.output_gate.specs.Releasing as releasing;
 ghost use Rattle.output_gate.specs.Releasing.{IsIdleRelease, Releases, Stays, CanGo, Goes, StaysPut, LogReleases, HaltRoom, LogHalts};
 ghost use Rattle.output_gate.specs.Serving.{CanServe, CanServeAs, KeepsBack, KeepsBackAs, StopsBy, is_stopped};
+ghost use Rattle.output_gate.specs.Storing.{KeepsDisk};
 ghost use Rattle.output_gate.specs.declared.held.HeldBody.TheVariants as held_body;
 
 use crate::back::Back;
@@ -36,6 +37,7 @@ impl<D: Disk> Back<D> {
         ensures released { result ≡ Ok Did
             → Releases D.moment_of self.old self.new (N.sent notices.old) (N.sent notices.new) (O.sent out.old) (O.sent out.new) }
         ensures stays { OnErr result (Stays self.old self.new (N.sent notices.old) (N.sent notices.new) (O.sent out.old) (O.sent out.new)) }
+        ensures disk { KeepsDisk self.old.store self.new.store }
         ensures stops { StopsBy result self.new }
         ensures outlet { (N.outlet notices.new ≡ N.outlet notices.old) × (N.left notices.new ≡ N.left notices.old) }
         ensures out { (O.outlet out.new ≡ O.outlet out.old) × (O.left out.new ≡ O.left out.old) }

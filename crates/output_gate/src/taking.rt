@@ -8,7 +8,7 @@ ghost use Rattle.batch_journal.specs.declared.journal.Journal.{Journal};
 ghost use Rattle.timeline.specs.declared.notice.Stepped.TheVariants.{Did, Nothing};
 ghost use Rattle.output_gate.specs.Entering.{Enters, IsIdle, Takes, LosesEntry, CanTake, TakesOwn, FailsOwn, CanTakeDown, TakesDown, FailsDown, TakesLate, late_held, notice_at};
 ghost use Rattle.output_gate.specs.Serving.{CanServe, CanServeAs, KeepsBack, KeepsBackAs, StopsBy, is_stopped, IsAsBefore};
-ghost use Rattle.output_gate.specs.Storing.{Stages};
+ghost use Rattle.output_gate.specs.Storing.{Stages, KeepsDisk};
 ghost use Rattle.output_gate.specs.Taking as taking;
 ghost use Rattle.output_gate.specs.Taking.{LogRoom, LogTook, LogSame, notice_of};
 ghost use Rattle.output_gate.specs.declared.store.Store.TheVariants as store;
@@ -45,6 +45,7 @@ impl<D: Disk> Back<D> {
         ensures stops { StopsBy result self.new }
         ensures inlet { (L.inlet line.new ≡ L.inlet line.old) × (L.told line.new ≡ L.told line.old) }
         ensures outlet { (N.outlet notices.new ≡ N.outlet notices.old) × (N.left notices.new ≡ N.left notices.old) }
+        ensures disk { KeepsDisk self.old.store self.new.store }
         ensures back { KeepsBack D.moment_of D.left_since D.told D.image D.faults_of self.old self.new }
     {
         if self.stopped {
@@ -70,6 +71,7 @@ impl<D: Disk> Back<D> {
         ensures lost { OnErr result (LosesEntry self.old self.new (L.got line.old) (L.got line.new) (N.sent notices.old) (N.sent notices.new)) }
         ensures inlet { (L.inlet line.new ≡ L.inlet line.old) × (L.told line.new ≡ L.told line.old) }
         ensures outlet { (N.outlet notices.new ≡ N.outlet notices.old) × (N.left notices.new ≡ N.left notices.old) }
+        ensures disk { KeepsDisk self.old.store self.new.store }
         ensures back { OnOk result (KeepsBackAs D.moment_of D.left_since D.told D.image D.faults_of true true self.old self.new) }
         ensures stopped { OnErr result (KeepsBackAs D.moment_of D.left_since D.told D.image D.faults_of true false self.old self.new) }
     {
@@ -128,6 +130,7 @@ impl<D: Disk> Back<D> {
         ensures notice { IfOk result (λ notice. notice ≡ notice_at self.old entry) }
         ensures enters { OnOk result (Enters self.old self.new entry) }
         ensures kept { OnErr result (IsAsBefore self.old self.new) }
+        ensures disk { KeepsDisk self.old.store self.new.store }
         ensures back { OnOk result (KeepsBackAs D.moment_of D.left_since D.told D.image D.faults_of true true self.old self.new) }
         ensures stopped { OnErr result (KeepsBackAs D.moment_of D.left_since D.told D.image D.faults_of true false self.old self.new) }
     {
@@ -150,6 +153,7 @@ impl<D: Disk> Back<D> {
         ensures notice { IfOk result (λ notice. notice ≡ notice_at self.old entry) }
         ensures enters { OnOk result (Enters self.old self.new entry) }
         ensures kept { OnErr result (IsAsBefore self.old self.new) }
+        ensures disk { KeepsDisk self.old.store self.new.store }
         ensures back { OnOk result (KeepsBackAs D.moment_of D.left_since D.told D.image D.faults_of true true self.old self.new) }
         ensures stopped { OnErr result (KeepsBackAs D.moment_of D.left_since D.told D.image D.faults_of true false self.old self.new) }
     {
@@ -170,6 +174,7 @@ impl<D: Disk> Back<D> {
         ensures notice { IfOk result (λ notice. notice ≡ notice_at self.old entry) }
         ensures enters { OnOk result (Enters self.old self.new entry) }
         ensures kept { OnErr result (IsAsBefore self.old self.new) }
+        ensures disk { KeepsDisk self.old.store self.new.store }
         ensures back { OnOk result (KeepsBackAs D.moment_of D.left_since D.told D.image D.faults_of true true self.old self.new) }
         ensures stopped { OnErr result (KeepsBackAs D.moment_of D.left_since D.told D.image D.faults_of true false self.old self.new) }
     {
@@ -191,6 +196,7 @@ impl<D: Disk> Back<D> {
         ensures notice { IfOk result (λ notice. notice ≡ notice_at self.old entry) }
         ensures enters { OnOk result (Enters self.old self.new entry) }
         ensures kept { OnErr result (IsAsBefore self.old self.new) }
+        ensures disk { KeepsDisk self.old.store self.new.store }
         ensures back { OnOk result (KeepsBackAs D.moment_of D.left_since D.told D.image D.faults_of true true self.old self.new) }
         ensures stopped { OnErr result (KeepsBackAs D.moment_of D.left_since D.told D.image D.faults_of true false self.old self.new) }
     {

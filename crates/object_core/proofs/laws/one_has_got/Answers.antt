@@ -1,4 +1,4 @@
 use Rattle.object_core.proofs.laws.one_has_got.Goals as goal
 
 pub returns : goal.returns
-returns g c script start opening one = one.has_got
+returns g c script origin one = one.has_got

@@ -14,6 +14,6 @@ returns-clause-steps g c script =
     (give_by g.D.Disk.moment_of g.D.Disk.faults_of script c.args.self.now c.put-sent.new.inbox c.args.event c.put-sent.result c.put-sent.ensures.got c.put-sent.ensures.sent c.put-sent.ensures.same)
 
 pub returns-clause-one : goal.returns-clause-one
-returns-clause-one g c script start opening one =
-    give_keeps g.D.Disk.moment_of g.D.Disk.left_since g.D.Disk.told g.D.Disk.image g.D.Disk.faults_of script start opening c.args.self.now.front.half c.args.self.now.inbox c.put-sent.new.inbox
+returns-clause-one g c script origin one =
+    give_keeps g.D.Disk.moment_of g.D.Disk.left_since g.D.Disk.told g.D.Disk.image g.D.Disk.faults_of script origin c.args.self.now.front.half c.args.self.now.inbox c.put-sent.new.inbox
     c.args.self.now.back c.args.self.now.line c.args.self.now.notices c.args.self.now.out c.put-sent.ensures.got one

@@ -10,7 +10,7 @@ use Rattle.object_core.specs.declared.choice.Choice.{Choice}
 use Rattle.object_core.proofs.object.Core.run.Goals as goal
 
 pub loop-choice-init : goal.loop-choice-init
-loop-choice-init g c = (ends c.args.self.now, c.requires, λ start opening one. one, sym c.into_iter-choice-iterator.ensures.into_iter_gives.0)
+loop-choice-init g c = (ends c.args.self.now, c.requires, λ origin one. one, sym c.into_iter-choice-iterator.ensures.into_iter_gives.0)
 
 pub step-requires : goal.step-requires
 step-requires g c = c.loop-choice.invariant.1
@@ -21,7 +21,7 @@ loop-choice-preserved g c =
       runs_more g.D.Disk.moment_of g.D.Disk.faults_of (tree_of c.args.checked.now) c.args.self.now c.loop-choice.self c.step.new.self c.loop-choice.yielded c.in-Some.choice c.in_ok-step.field-0 i.0
           (subst (λ (r : Result Bool NoMemory). Steps g.D.Disk.moment_of g.D.Disk.faults_of (tree_of c.args.checked.now) c.loop-choice.self c.step.new.self c.in-Some.choice r) c.in_ok-step.was c.step.ensures.steps),
       c.step.ensures.again,
-      λ start opening one. c.step.ensures.one start opening (i.2 start opening one),
+      λ origin one. c.step.ensures.one origin (i.2 origin one),
       i.3 ∙ ap (λ (xs : List Choice). c.loop-choice.yielded ++ xs) c.in-Some.ensures.steps.0
           ∙ sym (append_assoc c.loop-choice.yielded (c.in-Some.choice ∷ []) c.next.new.self.rest.items),
     )
@@ -38,7 +38,7 @@ returns-in_err-step-clause-runs g c =
     (subst (λ (r : Result Bool NoMemory). Steps g.D.Disk.moment_of g.D.Disk.faults_of (tree_of c.args.checked.now) c.loop-choice.self c.step.new.self c.in-Some.choice r) c.in_err-step.was c.step.ensures.steps)))
 
 pub returns-in_err-step-clause-one : goal.returns-in_err-step-clause-one
-returns-in_err-step-clause-one g c start opening one = c.step.ensures.one start opening (c.loop-choice.invariant.2 start opening one)
+returns-in_err-step-clause-one g c origin one = c.step.ensures.one origin (c.loop-choice.invariant.2 origin one)
 
 pub returns-clause-runs : goal.returns-clause-runs
 returns-clause-runs g c =

@@ -13,7 +13,7 @@ returns-in-Take-clause-steps g c =
     (c.take.ensures.steps (tree_of c.args.checked.now))
 
 pub returns-in-Take-clause-again : goal.returns-in-Take-clause-again
-returns-in-Take-clause-again g c = let r = c.requires in (r.0, r.1, c.take.ensures.one (tree_of c.args.checked.now) r.0 r.1 r.2)
+returns-in-Take-clause-again g c = let r = c.requires in (r.0, c.take.ensures.one (tree_of c.args.checked.now) r.0 r.1)
 
 pub returns-in-Take-clause-one : goal.returns-in-Take-clause-one
 returns-in-Take-clause-one g c = c.take.ensures.one (tree_of c.args.checked.now)
@@ -27,7 +27,7 @@ returns-in-Flush-clause-steps g c =
     (c.flush.ensures.steps (tree_of c.args.checked.now))
 
 pub returns-in-Flush-clause-again : goal.returns-in-Flush-clause-again
-returns-in-Flush-clause-again g c = let r = c.requires in (r.0, r.1, c.flush.ensures.one (tree_of c.args.checked.now) r.0 r.1 r.2)
+returns-in-Flush-clause-again g c = let r = c.requires in (r.0, c.flush.ensures.one (tree_of c.args.checked.now) r.0 r.1)
 
 pub returns-in-Flush-clause-one : goal.returns-in-Flush-clause-one
 returns-in-Flush-clause-one g c = c.flush.ensures.one (tree_of c.args.checked.now)
@@ -41,7 +41,7 @@ returns-in-Release-clause-steps g c =
     (c.release.ensures.steps (tree_of c.args.checked.now))
 
 pub returns-in-Release-clause-again : goal.returns-in-Release-clause-again
-returns-in-Release-clause-again g c = let r = c.requires in (r.0, r.1, c.release.ensures.one (tree_of c.args.checked.now) r.0 r.1 r.2)
+returns-in-Release-clause-again g c = let r = c.requires in (r.0, c.release.ensures.one (tree_of c.args.checked.now) r.0 r.1)
 
 pub returns-in-Release-clause-one : goal.returns-in-Release-clause-one
 returns-in-Release-clause-one g c = c.release.ensures.one (tree_of c.args.checked.now)
@@ -55,7 +55,7 @@ returns-in-Mend-clause-steps g c =
     (c.mend.ensures.steps (tree_of c.args.checked.now))
 
 pub returns-in-Mend-clause-again : goal.returns-in-Mend-clause-again
-returns-in-Mend-clause-again g c = let r = c.requires in (r.0, r.1, c.mend.ensures.one (tree_of c.args.checked.now) r.0 r.1 r.2)
+returns-in-Mend-clause-again g c = let r = c.requires in (r.0, c.mend.ensures.one (tree_of c.args.checked.now) r.0 r.1)
 
 pub returns-in-Mend-clause-one : goal.returns-in-Mend-clause-one
 returns-in-Mend-clause-one g c = c.mend.ensures.one (tree_of c.args.checked.now)
@@ -65,7 +65,7 @@ returns-in-Turn-clause-steps g c =
     subst (λ (x : Choice). Steps g.D.Disk.moment_of g.D.Disk.faults_of (tree_of c.args.checked.now) c.args.self.now c.turn.new.self x c.turn.result) (sym c.in-Turn.is) c.turn.ensures.steps
 
 pub returns-in-Turn-clause-again : goal.returns-in-Turn-clause-again
-returns-in-Turn-clause-again g c = let r = c.requires in (r.0, r.1, c.turn.ensures.one r.0 r.1 r.2)
+returns-in-Turn-clause-again g c = let r = c.requires in (r.0, c.turn.ensures.one r.0 r.1)
 
 pub returns-in-Give-clause-steps : goal.returns-in-Give-clause-steps
 returns-in-Give-clause-steps g c =
@@ -73,7 +73,7 @@ returns-in-Give-clause-steps g c =
     (c.give.ensures.steps (tree_of c.args.checked.now))
 
 pub returns-in-Give-clause-again : goal.returns-in-Give-clause-again
-returns-in-Give-clause-again g c = let r = c.requires in (r.0, r.1, c.give.ensures.one (tree_of c.args.checked.now) r.0 r.1 r.2)
+returns-in-Give-clause-again g c = let r = c.requires in (r.0, c.give.ensures.one (tree_of c.args.checked.now) r.0 r.1)
 
 pub returns-in-Give-clause-one : goal.returns-in-Give-clause-one
 returns-in-Give-clause-one g c = c.give.ensures.one (tree_of c.args.checked.now)

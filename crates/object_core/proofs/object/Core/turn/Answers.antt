@@ -11,7 +11,7 @@ use Rattle.object_core.proofs.object.Core.turn.Goals as goal
 pub turn-turned-requires : goal.turn-turned-requires
 turn-turned-requires g c =
     let r = c.requires in
-    can_turn g.D.Disk.moment_of g.D.Disk.left_since g.D.Disk.told g.D.Disk.image g.D.Disk.faults_of (tree_of c.args.checked.now) r.0 r.1 c.args.self.now.front.half c.args.self.now.inbox c.args.self.now.back c.args.self.now.line c.args.self.now.notices c.args.self.now.out r.2
+    can_turn g.D.Disk.moment_of g.D.Disk.left_since g.D.Disk.told g.D.Disk.image g.D.Disk.faults_of (tree_of c.args.checked.now) r.0 c.args.self.now.front.half c.args.self.now.inbox c.args.self.now.back c.args.self.now.line c.args.self.now.notices c.args.self.now.out r.1
 
 pub returns-clause-steps : goal.returns-clause-steps
 returns-clause-steps g c =
@@ -22,11 +22,11 @@ returns-clause-steps g c =
     subst (λ (x : Result Bool NoMemory). Steps g.D.Disk.moment_of g.D.Disk.faults_of (tree_of c.args.checked.now) c.args.self.now (record c.args.self.now { front = c.turn-turned.new.self; inbox = c.turn-turned.new.inbox; line = c.turn-turned.new.line; notices = c.turn-turned.new.notices }) Turn x)
     (sym c.turned_so.ensures)
     (turn_steps g.D.Disk.moment_of g.D.Disk.faults_of (tree_of c.args.checked.now) c.args.self.now c.turn-turned.new.self c.turn-turned.new.inbox c.turn-turned.new.line c.turn-turned.new.notices
-    (λ on. (r.2.st, r.2.front_stands on)) c.turn-turned.result by)
+    (λ on. (r.1.st, r.1.front_stands on)) c.turn-turned.result by)
 
 pub returns-clause-one : goal.returns-clause-one
-returns-clause-one g c start opening one =
+returns-clause-one g c origin one =
     let e = c.turn-turned.ensures in
-    turn_keeps g.D.Disk.moment_of g.D.Disk.left_since g.D.Disk.told g.D.Disk.image g.D.Disk.faults_of c.turn_steps.ensures c.events_come.ensures (tree_of c.args.checked.now) start opening c.args.self.now.front.half c.turn-turned.new.self.half c.args.self.now.back
+    turn_keeps g.D.Disk.moment_of g.D.Disk.left_since g.D.Disk.told g.D.Disk.image g.D.Disk.faults_of c.turn_steps.ensures c.events_come.ensures c.class_comes.ensures (tree_of c.args.checked.now) origin c.args.self.now.front.half c.turn-turned.new.self.half c.args.self.now.back
     c.args.self.now.inbox c.turn-turned.new.inbox c.args.self.now.line c.turn-turned.new.line c.args.self.now.notices c.turn-turned.new.notices c.args.self.now.out one c.turn-turned.result
     (record { stopped = e.stopped; stuck = e.stuck; still = e.still; idle = e.idle; ran = e.ran; lost = e.lost; too = e.too; events = e.inbox.1; told = e.notices.1; said = e.line.1 })

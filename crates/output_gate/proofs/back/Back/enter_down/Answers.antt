@@ -41,3 +41,9 @@ returns-in_err-make_room-clause-kept g c = on_err _ _ (room_only c.args.self.now
 
 pub returns-in_err-take_down-clause-kept : goal.returns-in_err-take_down-clause-kept
 returns-in_err-take_down-clause-kept g c = on_err _ _ (before_room c.args.self.now c.take_down.new.self c.make_room.new.log c.make_room.ensures.same c.in_err-take_down.ensures.failed.same)
+
+pub returns-in_err-take_down-clause-disk : goal.returns-in_err-take_down-clause-disk
+returns-in_err-take_down-clause-disk g c = c.in_err-take_down.ensures.failed.disk
+
+pub returns-clause-disk : goal.returns-clause-disk
+returns-clause-disk g c = c.in_ok-take_down.ensures.took.disk

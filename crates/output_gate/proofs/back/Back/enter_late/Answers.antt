@@ -2,10 +2,12 @@ use Rattle.std.proofs.Common.{ap, sym, List, ℕ, true, false}
 use Rattle.storage_map.specs.declared.op.Op.{Op}
 use Rattle.output_gate.specs.Entering.{notice_as}
 use Rattle.output_gate.specs.Serving.{IsBackAs}
+use Rattle.output_gate.specs.declared.back.Back.{Back}
 use Rattle.output_gate.specs.declared.fit.Fit.{Fit}
 use Rattle.output_gate.proofs.Enter.{room_only, late_enters, late_back}
 use Rattle.output_gate.proofs.Entered.{on_err, as_before}
 use Rattle.output_gate.proofs.Gone.{back_room, back_stopped, back_held}
+use Rattle.output_gate.proofs.Stored.{still_disk}
 use Rattle.output_gate.proofs.back.Back.enter_late.Goals as goal
 
 pub returns-in_err-make_room-clause-stopped : goal.returns-in_err-make_room-clause-stopped
@@ -39,3 +41,10 @@ pub returns-in_err-take_late-clause-kept : goal.returns-in_err-take_late-clause-
 returns-in_err-take_late-clause-kept g c =
     let k = c.in_err-take_late.ensures.kept in
     on_err _ _ (as_before c.args.self.now c.take_late.new.self c.args.self.now.store c.args.self.now.cache c.take_late.new.self.held c.make_room.new.log k.1 c.make_room.ensures.same.same k.0)
+
+pub returns-in_err-take_late-clause-disk : goal.returns-in_err-take_late-clause-disk
+returns-in_err-take_late-clause-disk g c =
+    still_disk c.args.self.now.store c.take_late.new.self.store (ap (λ (b : Back g.row.D.Denot). b.store) c.in_err-take_late.ensures.kept.1)
+
+pub returns-clause-disk : goal.returns-clause-disk
+returns-clause-disk g c = still_disk c.args.self.now.store c.take_late.new.self.store (ap (λ (b : Back g.row.D.Denot). b.store) c.in_ok-take_late.ensures.took.same)

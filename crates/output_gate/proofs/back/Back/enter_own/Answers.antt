@@ -4,7 +4,7 @@ use Rattle.storage_map.specs.declared.op.Op.{Op}
 use Rattle.output_gate.specs.Entering.{notice_as}
 use Rattle.output_gate.specs.Serving.{IsBackAs}
 use Rattle.output_gate.specs.declared.fit.Fit.{Fit}
-use Rattle.output_gate.proofs.Enter.{err_weaker, before_room, room_only, own_mounted, own_can, own_enters}
+use Rattle.output_gate.proofs.Enter.{err_weaker, before_room, room_only, own_mounted, own_can, own_enters, own_disk}
 use Rattle.output_gate.proofs.Entered.{on_err}
 use Rattle.output_gate.proofs.Gone.{back_room, back_stopped}
 use Rattle.output_gate.proofs.back.Back.enter_own.Goals as goal
@@ -45,3 +45,7 @@ returns-in_err-make_room-clause-kept g c = on_err _ _ (room_only c.args.self.now
 pub returns-clause-kept : goal.returns-clause-kept
 returns-clause-kept g c =
     err_weaker c.take_own.result _ _ (λ t. before_room c.args.self.now c.take_own.new.self c.make_room.new.log c.make_room.ensures.same t.same) c.take_own.ensures.failed
+
+pub returns-clause-disk : goal.returns-clause-disk
+returns-clause-disk g c =
+    own_disk g.D.Disk.moment_of g.D.Disk.left_since g.D.Disk.told g.D.Disk.image g.D.Disk.faults_of c.take_own.result (record c.args.self.now { log = c.make_room.new.log }) c.take_own.new.self c.args.entry c.take_own.ensures.took c.take_own.ensures.failed

@@ -1,10 +1,12 @@
 use Rattle.std.proofs.Common.{◌∙◌, refl, ap, inl, inr, List, ℕ, not}
+use Rattle.batch_journal.specs.Rest.{disk_in, end_of}
 use Rattle.timeline.specs.Logs.{backed}
 use Rattle.timeline.specs.declared.back_log.Stop.{Stop}
 use Rattle.output_gate.specs.declared.back.Back.{Back}
 use Rattle.output_gate.specs.Serving.{is_stopped, ending_of}
 use Rattle.output_gate.proofs.Noted.{keeps_note}
-use Rattle.output_gate.proofs.Steps.{flushed_back, can_append, can_land, can_stop, mounted_lands, mounted_ends}
+use Rattle.output_gate.proofs.Steps.{flushed_back, can_append, can_land, can_stop, mounted_lands, mounted_ends, end_kept}
+use Rattle.output_gate.proofs.Stored.{in_it, still_tells, tells_in}
 use Rattle.output_gate.proofs.back.Back.flush.Goals as goal
 
 pub append-requires : goal.append-requires
@@ -42,6 +44,12 @@ returns-in-Ok g c = record {
       cache = ap (λ (b : Back g.row.D.Denot). b.cache) c.land.ensures.same;
     }),
   );
+  tells =
+      let r = c.requires in
+      let m = flushed_back g.D.Disk.moment_of g.D.Disk.left_since g.D.Disk.told g.D.Disk.image g.D.Disk.faults_of r.0 r.1 (not (is_stopped c.args.self.now)) c.args.self.now c.if-self.false r.2 in
+      let a = c.in-Ok.ensures m.journal m.safe.store in
+      tells_in g.D.Disk.told c.args.self.now.store c.land.new.self.store (disk_in m.journal) a.new (in_it c.args.self.now.store m.journal m.safe.store)
+      (ap (λ (b : Back g.row.D.Denot). b.store) c.land.ensures.same ∙ a.is) a.telling;
   stopped = ap is_stopped c.land.ensures.same;
   back = λ start opening b.
       let was = not (is_stopped c.args.self.now) in
@@ -69,6 +77,8 @@ returns-in-Err g c =
           by_cause = a.ended.cause;
           log = ap backed c.stop.ensures.log ∙ ap (λ (ss : List Stop). record (backed c.args.self.now.log) { stops = ss }) c.stop.ensures.stops;
           mode = (ending_of c.args.self.now c.in-Err.fault, refl, ap (λ (b : Back g.row.D.Denot). b.mode) c.stop.ensures.same);
+          end = λ ending is. end_kept c.stop.new.self.mode (ending_of c.args.self.now c.in-Err.fault) ending (end_of m.journal)
+              (ap (λ (b : Back g.row.D.Denot). b.mode) c.stop.ensures.same) is a.ended.end;
           held = c.stop.ensures.held;
           before = ap (λ (b : Back g.row.D.Denot). b.before) c.stop.ensures.same;
           durable = ap (λ (b : Back g.row.D.Denot). b.durable) c.stop.ensures.same;
@@ -77,6 +87,8 @@ returns-in-Err g c =
           stuck = ap (λ (b : Back g.row.D.Denot). b.stuck) c.stop.ensures.same;
         }),
       );
+      tells = tells_in g.D.Disk.told c.args.self.now.store c.stop.new.self.store (disk_in m.journal) a.new (in_it c.args.self.now.store m.journal m.safe.store)
+          (ap (λ (b : Back g.row.D.Denot). b.store) c.stop.ensures.same ∙ a.is) a.telling;
       stopped = ap is_stopped c.stop.ensures.same;
       back = λ start opening b.
           let was = not (is_stopped c.args.self.now) in
@@ -85,3 +97,6 @@ returns-in-Err g c =
           (inr (mounted_ends g.D.Disk.moment_of g.D.Disk.left_since g.D.Disk.told g.D.Disk.image g.D.Disk.faults_of g.met.D.Disk.counts_now start opening was c.args.self.now c.stop.new.self c.append.new.self
           c.in-Err.fault n c.if-self.false (c.in-Err.ensures n.journal n.safe.store) c.stop.ensures));
     }
+
+pub returns-then-self-clause-tells : goal.returns-then-self-clause-tells
+returns-then-self-clause-tells g c = still_tells g.D.Disk.told c.args.self.now.store c.args.self.now.store (λ disk at. at)

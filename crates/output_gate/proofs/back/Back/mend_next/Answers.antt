@@ -8,6 +8,7 @@ use Rattle.output_gate.proofs.Falls.{wanted_falls}
 use Rattle.output_gate.proofs.Noted.{remounts_noted}
 use Rattle.output_gate.proofs.Gone.{back_room, back_stopped}
 use Rattle.output_gate.proofs.Remounts.{remounts_from, unmounted_room, mend_can}
+use Rattle.output_gate.proofs.Stored.{still_tells}
 use Rattle.output_gate.proofs.back.Back.mend_next.Goals as goal
 
 pub returns-in_err-mend_room-clause-stopped : goal.returns-in_err-mend_room-clause-stopped
@@ -75,3 +76,6 @@ returns-in_err-notice-clause-lost g c =
     let l : LosesMend g.D.Disk.faults_of c.args.self.now c.remount.new.self (g.N.Outlet.sent c.args.notices.now) (g.N.Outlet.sent c.args.notices.now) =
     record { told = refl; log = inl (before_room c.args.self.now c.remount.new.self c.mend_room.new.log c.mend_room.ensures.same c.in_err-notice.ensures.kept) } in
     on_err _ _ l
+
+pub returns-in_err-mend_room-clause-tells : goal.returns-in_err-mend_room-clause-tells
+returns-in_err-mend_room-clause-tells g c = still_tells g.D.Disk.told c.args.self.now.store c.args.self.now.store (λ disk at. at)

@@ -5,6 +5,8 @@ use Rattle.timeline.specs.declared.notice.Notice.TheVariants as notice
 use Rattle.output_gate.specs.Mending.{Misses}
 use Rattle.output_gate.proofs.Entered.{as_before}
 use Rattle.output_gate.proofs.Remounts.{remount_begins, remount_misses, remount_fails}
+use Rattle.output_gate.proofs.Stored.{tells_in, tells_bare}
+use Rattle.output_gate.specs.declared.back.Back.{Back}
 use Rattle.output_gate.proofs.Falls.{begun_falls, wanted_falls, refused_rises, refused_falls, other_rises, other_falls}
 use Rattle.output_gate.proofs.back.Back.remount.Goals as goal
 
@@ -76,3 +78,23 @@ returns-in-NoMemory-clause-falls g c = wanted_falls g.D.Disk.faults_of g.D.Disk.
 pub returns-in-NoMemory-clause-kept : goal.returns-in-NoMemory-clause-kept
 returns-in-NoMemory-clause-kept g c =
     as_before c.args.self.now (record c.args.self.now { store = c.fill.new.self }) c.fill.new.self c.args.self.now.cache c.args.self.now.held c.args.self.now.log refl refl refl
+
+pub returns-then-may_be-clause-tells : goal.returns-then-may_be-clause-tells
+returns-then-may_be-clause-tells g c =
+    tells_in g.D.Disk.told c.args.self.now.store c.begin.new.self.store c.leave-disk.result c.in-Mounted.mounted.journal c.leave-disk.ensures.disk
+    (ap (λ (b : Back g.row.D.Denot). b.store) c.begin.ensures.begins.same) c.in-Mounted.ensures.found.3
+
+pub returns-else-may_be-clause-tells : goal.returns-else-may_be-clause-tells
+returns-else-may_be-clause-tells g c =
+    tells_bare g.D.Disk.told c.args.self.now.store c.miss.new.self.store c.leave-disk.result c.bare.result c.leave-disk.ensures.disk
+    (ap (λ (b : Back g.row.D.Denot). b.store) c.miss.ensures.misses.same)
+    (subst (λ d. TellsAsBefore (g.D.Disk.told c.leave-disk.result) (g.D.Disk.told d)) (sym c.bare.ensures) c.in-Mounted.ensures.found.3)
+
+pub returns-in-Refused-clause-tells : goal.returns-in-Refused-clause-tells
+returns-in-Refused-clause-tells g c =
+    tells_bare g.D.Disk.told c.args.self.now.store c.miss-in-Refused.new.self.store c.leave-disk.result c.in-Refused.disk c.leave-disk.ensures.disk
+    (ap (λ (b : Back g.row.D.Denot). b.store) c.miss-in-Refused.ensures.misses.same) c.in-Refused.ensures.found.1
+
+pub returns-in-NoMemory-clause-tells : goal.returns-in-NoMemory-clause-tells
+returns-in-NoMemory-clause-tells g c =
+    tells_bare g.D.Disk.told c.args.self.now.store c.fill.new.self c.leave-disk.result c.in-NoMemory.disk c.leave-disk.ensures.disk c.fill.ensures c.in-NoMemory.ensures.found.1

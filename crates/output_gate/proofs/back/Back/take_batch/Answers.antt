@@ -29,17 +29,17 @@ returns-in_err-count-clause-failed g c =
 pub returns-in_err-stage-clause-failed : goal.returns-in_err-stage-clause-failed
 returns-in_err-stage-clause-failed g c =
     let o = somebody g.D.Disk.moment_of g.D.Disk.left_since g.D.Disk.told g.D.Disk.image g.D.Disk.faults_of c.args.self.now.identity c.requires.fits in
-    on_err c.from_residual-in_err-stage.result _ (failed_stage g.D.Disk.moment_of g.D.Disk.left_since g.D.Disk.told g.D.Disk.image g.D.Disk.faults_of c.args.self.now c.stage.new.self c.take.new.self o.0 c.args.batch _
+    on_err c.from_residual-in_err-stage.result _ (failed_stage g.D.Disk.moment_of g.D.Disk.left_since g.D.Disk.told g.D.Disk.image g.D.Disk.faults_of c.args.self.now c.stage.new.self c.take.new.self o.0 c.args.batch _ c.requires.back.journal c.requires.back.safe.store
     (λ journal at. c.in_err-stage.ensures.staged o.0 journal o.1 at) c.stage.ensures.same)
 
 pub returns-in-Some-clause-took : goal.returns-in-Some-clause-took
 returns-in-Some-clause-took g c =
     let o = somebody g.D.Disk.moment_of g.D.Disk.left_since g.D.Disk.told g.D.Disk.image g.D.Disk.faults_of c.args.self.now.identity c.requires.fits in
     took_batch g.D.Disk.moment_of g.D.Disk.left_since g.D.Disk.told g.D.Disk.image g.D.Disk.faults_of c.args.self.now c.stage.new.self c.add.new.self c.args.number c.args.batch c.args.tail c.take.new.self c.batch_size-size.result o.0 o.1
-    c.requires.comes c.in_ok-count.ensures.taken c.batch_size-size.ensures.size (λ journal at. c.in_ok-stage.ensures.staged o.0 journal o.1 at) c.stage.ensures.same c.add.ensures.log c.add.ensures.same
+    c.requires.back.journal c.requires.back.safe.store c.requires.comes c.in_ok-count.ensures.taken c.batch_size-size.ensures.size (λ journal at. c.in_ok-stage.ensures.staged o.0 journal o.1 at) c.stage.ensures.same c.add.ensures.log c.add.ensures.same
 
 pub returns-in-None-clause-took : goal.returns-in-None-clause-took
 returns-in-None-clause-took g c =
     let o = somebody g.D.Disk.moment_of g.D.Disk.left_since g.D.Disk.told g.D.Disk.image g.D.Disk.faults_of c.args.self.now.identity c.requires.fits in
     took_batch g.D.Disk.moment_of g.D.Disk.left_since g.D.Disk.told g.D.Disk.image g.D.Disk.faults_of c.args.self.now c.stage.new.self c.add.new.self c.args.number c.args.batch c.args.tail c.take.new.self c.batch_size-size.result o.0 o.1
-    c.requires.comes c.in_ok-count.ensures.taken c.batch_size-size.ensures.size (λ journal at. c.in_ok-stage.ensures.staged o.0 journal o.1 at) c.stage.ensures.same c.add.ensures.log c.add.ensures.same
+    c.requires.back.journal c.requires.back.safe.store c.requires.comes c.in_ok-count.ensures.taken c.batch_size-size.ensures.size (λ journal at. c.in_ok-stage.ensures.staged o.0 journal o.1 at) c.stage.ensures.same c.add.ensures.log c.add.ensures.same

@@ -1,0 +1,13 @@
+pub mod OpenFetches
+pub mod Askers
+pub mod Placing
+pub mod Answered
+pub mod Accepted
+pub mod Ticks
+pub mod Sendings
+pub mod Takings
+pub mod Writings
+pub mod Keeping
+pub mod Serving
+pub mod Acting
+pub mod Orders
