@@ -1,7 +1,7 @@
 -- What is told of a script, from the bytes that were read of it.
 use Rattle.std.proofs.Common.{◌≡◌, ◌<◌, ◌≤◌, ◌⊎◌, ⊎_elim, inl, inr, ℕ, min, List, length, take, Option, Some, Result, Err, OnErr, Vec, Global, refl, sym, ap, subst, ◌∙◌, arith}
 use Rattle.std.proofs.lemmas.Bool.{cases_order}
-use Rattle.std.proofs.lemmas.List.{length-take}
+use Rattle.std.proofs.lemmas.List.{length-take, take_all}
 use Rattle.do_disk.specs.declared.depot.TheConstants.{MOST_TEXT_BYTES}
 use Rattle.do_check.specs.First.{IsRefusal}
 use Rattle.do_check.specs.declared.fault.CheckFault.{CheckFault}
@@ -11,14 +11,19 @@ use Rattle.do_parse.specs.declared.fault.ParseKind.{ParseKind}
 use Rattle.do_tree.specs.Faults.{IsFirstFault}
 use Rattle.do_tree.specs.Tree.{Script}
 use Rattle.do_parse.specs.declared.fault.ParseKind.TheVariants as wrong
-use Rattle.do_host.specs.EarlyEnds.{IsRefusedBy, IsBarredBy, IsStoppedBy, IsScriptEnd, IsOpeningEnd, Refuses}
+use Rattle.do_host.specs.EarlyEnds.{IsRefusedBy, IsStoppedBy, IsScriptEnd, Refuses}
 use Rattle.do_host.specs.ScriptLines.{refused_line, IsRefusalLine, IsScriptLine}
-use Rattle.do_host.specs.Scripts.{check_word, parse_word, IsRefused, IsUnread, IsFaulty, IsFirstScript, IsOtherScript}
+use Rattle.do_host.specs.Scripts.{check_word, parse_word, IsAccepted, IsRefused, IsUnread, IsFaulty}
 use Rattle.do_host.specs.declared.early_end.EarlyEnd.{EarlyEnd}
-use Rattle.do_host.specs.declared.early_end.EarlyEnd.TheVariants.{Refused, BadSlot, Stopped}
+use Rattle.do_host.specs.declared.early_end.EarlyEnd.TheVariants.{Refused, Stopped}
 use Rattle.do_host.specs.declared.run_end.RunEnd.{RunEnd}
-use Rattle.do_host.specs.declared.run_end.RunEnd.TheVariants.{DiskFailed, NoMemory, NotBuilt}
-use Rattle.do_host.proofs.Mounted.{take_is_whole}
+use Rattle.do_host.specs.declared.run_end.RunEnd.TheVariants.{DepotFailed, NoMemory}
+
+-- of the text's first bytes, which are fewer than were read, there are no more
+take_is_whole : (n : ℕ) (xs ys : List ℕ) → take n xs ≡ ys → length ys < n → xs ≡ ys
+take_is_whole n xs ys same short =
+    let least : length ys ≡ min n (length xs) = ap length (sym same) ∙ length-take n xs in
+    sym (take_all n xs (omega (arith, least, short))) ∙ same
 
 -- an answer that is an end
 abbrev ends : {T : Type 0} → EarlyEnd → Result T EarlyEnd
@@ -34,7 +39,6 @@ pub line_at : {T : Type 0} (place : ℕ) (word : Option (List ℕ)) (end : Early
 line_at {T} place word (Refused bytes) refuses line (others, same, items) =
     let is : bytes ≡ others = cc in
     record { is = refuses.0; some = refuses.1; line_is = sym items ∙ sym (ap (λ b. b.items) is) ∙ refuses.2 }
-line_at {T} place word (BadSlot bytes) refuses line (others, same, items) = absurd refuses
 line_at {T} place word (Stopped stop) refuses line (others, same, items) = cc
 
 -- a refusal of the check that has a word is for the script's first fault
@@ -44,7 +48,6 @@ checked_fault script fault word named refusal = refusal.0 (λ none. let nothing 
 -- a refusal has its line, or memory was wanting
 pub ends_early : {T : Type 0} (place : ℕ) (word : Option (List ℕ)) (end : EarlyEnd) → Refuses place word end → ((line : List ℕ) × IsRefusedBy (ends {T = T} end) line) ⊎ IsStoppedBy (ends {T = T} end) NoMemory
 ends_early {T} place word (Refused bytes) refuses = inl (bytes.items, (bytes, refl, refl))
-ends_early {T} place word (BadSlot bytes) refuses = absurd refuses
 ends_early {T} place word (Stopped stop) refuses = inr (ap (λ s. ends {T = T} (Stopped s)) refuses)
 
 -- of a text that a script may be all was read
@@ -92,11 +95,8 @@ refusal_whole whole text line front refusal = record {
 pub script_line_whole : (whole text line : List ℕ) → text ≡ take MOST_TEXT_BYTES whole → IsScriptLine text line → IsScriptLine whole line
 script_line_whole whole text line front told = subst (λ t. IsScriptLine t line) (whole_text whole text front told.accepted.short) told
 
-pub first_whole : (whole text : List ℕ) → text ≡ take MOST_TEXT_BYTES whole → IsFirstScript text → IsFirstScript whole
-first_whole whole text front first = subst IsFirstScript (whole_text whole text front first.0.1.short) first
-
-pub other_whole : (whole text : List ℕ) → text ≡ take MOST_TEXT_BYTES whole → IsOtherScript text → IsOtherScript whole
-other_whole whole text front other = subst IsOtherScript (whole_text whole text front other.0.1.short) other
+pub accepted_whole : (whole text : List ℕ) (tree : Script) → text ≡ take MOST_TEXT_BYTES whole → IsAccepted text tree → IsAccepted whole tree
+accepted_whole whole text tree front accepted = subst (λ t. IsAccepted t tree) (whole_text whole text front accepted.short) accepted
 
 -- a text that isn't too long is short
 pub short_text : (text : List ℕ) → (most_script_bytes < length text → ⊥) → length text ≤ most_script_bytes
@@ -113,10 +113,6 @@ pub same_end : {T U : Type 0} (end : EarlyEnd) → ((line : List ℕ) × IsRefus
     → ((line : List ℕ) × IsRefusedBy (ends {T = U} end) line) ⊎ IsStoppedBy (ends {T = U} end) NoMemory
 same_end {T} {U} end is = ⊎_elim (λ refused. inl (refused.0, same_refused {T = T} {U = U} end refused.0 refused.1)) (λ stopped. inr (same_stopped {T = T} {U = U} end NoMemory stopped)) is
 
-pub form_end : {T U : Type 0} (end : EarlyEnd) → ((line : List ℕ) × IsRefusedBy (ends {T = T} end) line) ⊎ IsStoppedBy (ends {T = T} end) NoMemory
-    → ((line : List ℕ) × IsRefusedBy (ends {T = U} end) line) ⊎ IsStoppedBy (ends {T = U} end) NoMemory ⊎ IsStoppedBy (ends {T = U} end) NotBuilt
-form_end {T} {U} end is = ⊎_elim (λ refused. inl (refused.0, same_refused {T = T} {U = U} end refused.0 refused.1)) (λ stopped. inr (inl (same_stopped {T = T} {U = U} end NoMemory stopped))) is
-
 -- an answer that hands an end on
 pub handed_refused : {T U : Type 0} (result : Result U EarlyEnd) (end : EarlyEnd) (line : List ℕ) → result ≡ ends {T = U} end → IsRefusedBy result line → IsRefusedBy (ends {T = T} end) line
 handed_refused {T} {U} result end line is (bytes, by, items) = same_refused {T = U} {U = T} end line (bytes, sym is ∙ by, items)
@@ -124,25 +120,7 @@ handed_refused {T} {U} result end line is (bytes, by, items) = same_refused {T =
 pub handed_stopped : {T U : Type 0} (result : Result U EarlyEnd) (end : EarlyEnd) (stop : RunEnd) → result ≡ ends {T = U} end → IsStoppedBy result stop → IsStoppedBy (ends {T = T} end) stop
 handed_stopped {T} {U} result end stop is by = same_stopped {T = U} {U = T} end stop (sym is ∙ by)
 
-same_script : {T U : Type 0} (end : EarlyEnd) → IsScriptEnd (ends {T = T} end) → IsScriptEnd (ends {T = U} end)
-same_script {T} {U} end is =
-    ⊎_elim (λ refused. inl (refused.0, same_refused {T = T} {U = U} end refused.0 refused.1))
-    (λ rest. inr (⊎_elim (λ disk. inl (same_stopped {T = T} {U = U} end DiskFailed disk))
-    (λ rest. inr (⊎_elim (λ memory. inl (same_stopped {T = T} {U = U} end NoMemory memory)) (λ built. inr (same_stopped {T = T} {U = U} end NotBuilt built)) rest)) rest)) is
-
-pub handed_opening : {T U : Type 0} (result : Result U EarlyEnd) (end : EarlyEnd) → result ≡ ends {T = U} end → IsScriptEnd (ends {T = T} end) → OnErr result (IsOpeningEnd result)
-handed_opening {T} {U} result end is script = subst (λ r. OnErr r (IsOpeningEnd r)) (sym is) (inl (same_script {T = T} {U = U} end script))
-
--- a script that isn't served is no bad slot
-refused_is_no_bar : {T : Type 0} (one other : Vec ℕ Global) → ends {T = T} (Refused one) ≡ ends {T = T} (BadSlot other) → ⊥
-refused_is_no_bar {T} one other same = cc
-
-stop_is_no_bar : {T : Type 0} (stop : RunEnd) (other : Vec ℕ Global) → ends {T = T} (Stopped stop) ≡ ends {T = T} (BadSlot other) → ⊥
-stop_is_no_bar {T} stop other same = cc
-
-pub script_not_barred : {T U : Type 0} (result : Result U EarlyEnd) (end : EarlyEnd) (line : List ℕ) → result ≡ ends {T = U} end → IsScriptEnd (ends {T = T} end) → IsBarredBy result line → ⊥
-script_not_barred {T} {U} result (Refused bytes) line is script barred = refused_is_no_bar {T = U} bytes barred.0 (sym is ∙ barred.1)
-script_not_barred {T} {U} result (BadSlot bytes) line is script barred =
-    ⊎_elim (λ refused. let e : ends {T = T} (Refused refused.1.0) ≡ ends {T = T} (BadSlot bytes) = sym refused.1.1 in refused_is_no_bar {T = T} refused.1.0 bytes e)
-    (λ rest. ⊎_elim (λ disk. stop_is_no_bar {T = T} DiskFailed bytes (sym disk)) (λ rest. ⊎_elim (λ memory. stop_is_no_bar {T = T} NoMemory bytes (sym memory)) (λ built. stop_is_no_bar {T = T} NotBuilt bytes (sym built)) rest) rest) script
-script_not_barred {T} {U} result (Stopped stop) line is script barred = stop_is_no_bar {T = U} stop barred.0 (sym is ∙ barred.1)
+-- an end of accepting a text is one of reading the script
+pub script_end : {T U : Type 0} (end : EarlyEnd) → ((line : List ℕ) × IsRefusedBy (ends {T = T} end) line) ⊎ IsStoppedBy (ends {T = T} end) NoMemory → IsScriptEnd (ends {T = U} end)
+script_end {T} {U} end is =
+    ⊎_elim (λ refused. inl (refused.0, same_refused {T = T} {U = U} end refused.0 refused.1)) (λ stopped. inr (inr (same_stopped {T = T} {U = U} end NoMemory stopped))) is

@@ -4,20 +4,13 @@ use Rattle.std.specs.List.{filter}
 use Rattle.std.proofs.lemmas.List.{append-nil, length-append, take-append-le}
 use Rattle.std.proofs.lemmas.Grind.{flat_map-append}
 use Rattle.std.proofs.Math.Seq.{take-append-add, take-length}
-use Rattle.do_disk.specs.Disk.{IfTold}
 use Rattle.serde_json.specs.Written.{has_float}
 use Rattle.do_value.specs.Seen.{tree_of}
 use Rattle.do_value.specs.declared.value.Value.{Value}
-use Rattle.storage_map.specs.Contents.{Contents}
-use Rattle.storage_map.specs.Limits.{Object}
 use Rattle.storage_map.specs.Readings.{keeps, listed}
 use Rattle.storage_map.specs.declared.options.Options.{Options}
-use Rattle.first_object.specs.Serving.{object_of, map_of}
-use Rattle.first_object.specs.declared.object.Core.{Core}
-use Rattle.do_host.specs.Dump.{pairs_text, dump_text, IsDumpOf, Writes}
-use Rattle.do_host.specs.Opened.{IsOpened}
-use Rattle.do_host.specs.Report.{object_in}
-use Rattle.do_host.specs.Served.{WritesAll, WritesFirstOf}
+use Rattle.do_host.specs.Dump.{pairs_text}
+use Rattle.do_host.specs.Written.{WritesAll, WritesFirstOf, Writes}
 use Rattle.do_host.specs.SlotLines.{pair_json, pair_line}
 use Rattle.line_server.proofs.Printing.{has_no_float}
 
@@ -74,42 +67,42 @@ pub writes_part : {T E : Type 0} (before after : Option (List ℕ)) (bytes text 
 writes_part before after bytes text result end is same was = writes_front before after text result end is (subst (λ b. WritesFirstOf before after b) same was)
 
 -- no float stands in the JSON of a pair
-pub pair_has_no_float : (key : List ℕ) (value : Value) → has_float (pair_json key value) ≡ false
-pair_has_no_float key value = rw (has_no_float (tree_of value)) refl
+pub pair_has_no_float : (slot : ℕ) (key : List ℕ) (value : Value) → has_float (pair_json slot key value) ≡ false
+pair_has_no_float slot key value = rw (has_no_float (tree_of value)) refl
 
 -- a pair more
-pub pairs_on : (pairs : List (List ℕ × Value)) (pair : List ℕ × Value) → pairs_text (pairs ++ pair ∷ []) ≡ pairs_text pairs ++ pair_line pair
-pairs_on pairs pair = flat_map-append pair_line pairs (pair ∷ []) ∙ ap (λ r. pairs_text pairs ++ r) (append-nil (pair_line pair))
+pub pairs_on : (slot : ℕ) (pairs : List (List ℕ × Value)) (pair : List ℕ × Value) → pairs_text slot (pairs ++ pair ∷ []) ≡ pairs_text slot pairs ++ pair_line slot pair
+pairs_on slot pairs pair = flat_map-append (pair_line slot) pairs (pair ∷ []) ∙ ap (λ r. pairs_text slot pairs ++ r) (append-nil (pair_line slot pair))
 
 -- the pairs that were printed, and those that are left, are all
-pub record IsPrinted (before after : Option (List ℕ)) (left all : List (List ℕ × Value)) : Type 0 where
+pub record IsPrinted (slot : ℕ) (before after : Option (List ℕ)) (left all : List (List ℕ × Value)) : Type 0 where
   pub done : List (List ℕ × Value)
   pub split : done ++ left ≡ all
-  pub written : WritesAll before after (pairs_text done)
+  pub written : WritesAll before after (pairs_text slot done)
 
-pub printed_none : (taken : Option (List ℕ)) (left all : List (List ℕ × Value)) → left ≡ all → IsPrinted taken taken left all
-printed_none taken left all same = record { done = []; split = same; written = all_none taken }
+pub printed_none : (slot : ℕ) (taken : Option (List ℕ)) (left all : List (List ℕ × Value)) → left ≡ all → IsPrinted slot taken taken left all
+printed_none slot taken left all same = record { done = []; split = same; written = all_none taken }
 
-pub printed_on : (before middle after : Option (List ℕ)) (pair : List ℕ × Value) (left rest all : List (List ℕ × Value)) → IsPrinted before middle left all → left ≡ pair ∷ rest → WritesAll middle after (pair_line pair) → IsPrinted before after rest all
-printed_on before middle after pair left rest all so_far first was = record {
+pub printed_on : (slot : ℕ) (before middle after : Option (List ℕ)) (pair : List ℕ × Value) (left rest all : List (List ℕ × Value)) → IsPrinted slot before middle left all → left ≡ pair ∷ rest → WritesAll middle after (pair_line slot pair) → IsPrinted slot before after rest all
+printed_on slot before middle after pair left rest all so_far first was = record {
   done = so_far.done ++ pair ∷ [];
   split = append_assoc so_far.done (pair ∷ []) rest ∙ ap (λ pairs. so_far.done ++ pairs) (sym first) ∙ so_far.split;
-  written = subst (λ text. WritesAll before after text) (sym (pairs_on so_far.done pair)) (all_on before middle after (pairs_text so_far.done) (pair_line pair) so_far.written was);
+  written = subst (λ text. WritesAll before after text) (sym (pairs_on slot so_far.done pair)) (all_on before middle after (pairs_text slot so_far.done) (pair_line slot pair) so_far.written was);
 }
 
-pub printed_all : (before after : Option (List ℕ)) (left all : List (List ℕ × Value)) → IsPrinted before after left all → left ≡ [] → WritesAll before after (pairs_text all)
-printed_all before after left all so_far none =
-    subst (λ pairs. WritesAll before after (pairs_text pairs)) (sym (append-nil so_far.done) ∙ ap (λ pairs. so_far.done ++ pairs) (sym none) ∙ so_far.split) so_far.written
+pub printed_all : (slot : ℕ) (before after : Option (List ℕ)) (left all : List (List ℕ × Value)) → IsPrinted slot before after left all → left ≡ [] → WritesAll before after (pairs_text slot all)
+printed_all slot before after left all so_far none =
+    subst (λ pairs. WritesAll before after (pairs_text slot pairs)) (sym (append-nil so_far.done) ∙ ap (λ pairs. so_far.done ++ pairs) (sym none) ∙ so_far.split) so_far.written
 
 -- a part of the text of a pair more is a part of that of all
-pub printed_part : (before middle after : Option (List ℕ)) (pair : List ℕ × Value) (left rest all : List (List ℕ × Value)) → IsPrinted before middle left all → left ≡ pair ∷ rest → WritesFirstOf middle after (pair_line pair)
-    → WritesFirstOf before after (pairs_text all)
-printed_part before middle after pair left rest all so_far first part =
-    let whole : pairs_text all ≡ (pairs_text so_far.done ++ pair_line pair) ++ pairs_text rest =
-    ap pairs_text (sym so_far.split ∙ ap (λ pairs. so_far.done ++ pairs) first ∙ sym (append_assoc so_far.done (pair ∷ []) rest)) ∙ flat_map-append pair_line (so_far.done ++ pair ∷ []) rest
-    ∙ ap (λ text. text ++ pairs_text rest) (pairs_on so_far.done pair) in
+pub printed_part : (slot : ℕ) (before middle after : Option (List ℕ)) (pair : List ℕ × Value) (left rest all : List (List ℕ × Value)) → IsPrinted slot before middle left all → left ≡ pair ∷ rest → WritesFirstOf middle after (pair_line slot pair)
+    → WritesFirstOf before after (pairs_text slot all)
+printed_part slot before middle after pair left rest all so_far first part =
+    let whole : pairs_text slot all ≡ (pairs_text slot so_far.done ++ pair_line slot pair) ++ pairs_text slot rest =
+    ap (pairs_text slot) (sym so_far.split ∙ ap (λ pairs. so_far.done ++ pairs) first ∙ sym (append_assoc so_far.done (pair ∷ []) rest)) ∙ flat_map-append (pair_line slot) (so_far.done ++ pair ∷ []) rest
+    ∙ ap (λ text. text ++ pairs_text slot rest) (pairs_on slot so_far.done pair) in
     subst (λ text. WritesFirstOf before after text) (sym whole)
-    (front_longer before after (pairs_text so_far.done ++ pair_line pair) (pairs_text rest) (front_on before middle after (pairs_text so_far.done) (pair_line pair) so_far.written part))
+    (front_longer before after (pairs_text slot so_far.done ++ pair_line slot pair) (pairs_text slot rest) (front_on before middle after (pairs_text slot so_far.done) (pair_line slot pair) so_far.written part))
 
 -- options without a bound list all pairs
 abbrev pub everything : Options
@@ -121,19 +114,3 @@ all_kept (pair ∷ pairs) = ap (λ rest. pair ∷ rest) (all_kept pairs)
 
 pub lists_all : (options : Options) (pairs : List (List ℕ × Value)) → options ≡ everything → listed options pairs ≡ pairs
 lists_all options pairs is = ap (λ o. listed o pairs) is ∙ all_kept pairs
-
--- the text of the slot that a core has is that of its file
-pub core_text : {D : Type 0} (moment_of : D → ℕ) (left_since : D → ℕ → List ℕ → Type 0) (told : D → Option (List ℕ)) (image : D → List ℕ → Type 0) (content : Option (List ℕ)) (core : Core D) (object : Option Object) (m : Contents)
-    → IsOpened moment_of left_since told image content core → object ≡ object_of core → m ≡ map_of core → IfTold content (λ file. IsDumpOf file (dump_text object m))
-core_text moment_of left_since told image content core object m opened named kept = λ file is. record {
-  frames = opened.start;
-  recovers = opened.recovered file is;
-  text_is = ap (λ o. dump_text o m) (named ∙ opened.object) ∙ ap (dump_text (object_in opened.start)) (kept ∙ opened.map);
-}
-
--- of which the first bytes were written, or all
-pub core_part : (before after content : Option (List ℕ)) (text : List ℕ) → IfTold content (λ file. IsDumpOf file text) → WritesFirstOf before after text → IfTold content (λ file. (t : List ℕ) × IsDumpOf file t × WritesFirstOf before after t)
-core_part before after content text is part = λ file told. (text, is file told, part)
-
-pub core_whole : (before after content : Option (List ℕ)) (text : List ℕ) → IfTold content (λ file. IsDumpOf file text) → WritesAll before after text → IfTold content (λ file. (t : List ℕ) × IsDumpOf file t × WritesAll before after t)
-core_whole before after content text is whole = λ file told. (text, is file told, whole)

@@ -1,92 +1,96 @@
--- What a run does, as facts with names: at any end, over the slot of a folder, over a script, and for each command. This
--- project's profile. A fact of what an input, an output, a text or a file holds speaks of those that are told.
-use Rattle.std.specs.Prelude.{◌≡◌, ◌≢◌, ◌⊎◌, ◌≤◌, ◌++◌, ℕ, List, [], ◌∷◌, map, length, min, Option, None, IfSome, IsSome}
-use Rattle.std.specs.List.{All}
-use Rattle.do_disk.specs.Asks.{Ask, for_text, for_slot}
+-- What a run does, as facts with names: at any end, over a script, and for each command. This project's profile. A fact of what an input, an
+-- output, a text or a file holds speaks of those that are told.
+use Rattle.std.specs.Prelude.{◌≡◌, ◌≢◌, ◌⊎◌, ◌≤◌, ◌<◌, ◌++◌, ℕ, List, [], ◌∷◌, length, Option, IfSome, IsSome}
+use Rattle.do_disk.specs.Asks.{Ask, for_text}
 use Rattle.do_disk.specs.Disk.{IfTold, Rose}
-use Rattle.line_server.specs.Cut.{lines as all_lines}
-use Rattle.line_server.specs.Going.{HasGiven, HasLookedAt, HasReadAll}
+use Rattle.do_tree.specs.Tree.{Script}
+use Rattle.host_core.specs.Opening.{Asks, HasFailedDisk, IsBad, IsRefused, LeavesFile, LeavesHanded, slot_asks}
+use Rattle.host_core.specs.Reading.{Accepts, AcceptsAllRead}
+use Rattle.host_core.specs.Report.{AsksSlots, HasCause, IsOpened, IsReport, LeavesUnopened, PrintsLines, ReadsLines}
+use Rattle.host_core.specs.declared.report.Report.{Report}
+use Rattle.host_core.specs.declared.settings.Bad.{Bad}
+use Rattle.host_core.specs.declared.settings.ServeEnd.{ServeEnd}
+use Rattle.host_core.specs.declared.settings.ServeEnd.TheVariants as ends
 use Rattle.line_server.specs.Limits.{most_lines}
-use Rattle.line_server.specs.Requests.{requests, through}
-use Rattle.line_server.specs.Seen.{seen}
-use Rattle.do_host.specs.Dump.{IsDumpOf, IsBadSlotLine, HasEmptyLogs}
-use Rattle.do_host.specs.NotBuilt.{IsNotBuilt, IsFormed}
-use Rattle.do_host.specs.Opened.{LeavesFile, LeavesHanded, Asks, both_asks}
-use Rattle.do_host.specs.Report.{IsSlotHistory, StaysWithin, IsQuiet, HasDisk, HasFailedStore}
+use Rattle.mailbox.specs.Seen.{seen_log}
+use Rattle.placement.specs.Slots.{Slots, IsOneEach}
+use Rattle.do_host.specs.Dump.{AreIdleRows, IsDumpOf}
+use Rattle.do_host.specs.Endings.{TellsEnd}
 use Rattle.do_host.specs.ScriptLines.{IsRefusalLine, IsScriptLine, IsCheckLine}
-use Rattle.do_host.specs.Scripts.{IsFirstScript, IsOtherScript}
-use Rattle.do_host.specs.Served.{HasWritten, WritesFirstOf, WritesAll}
-use Rattle.do_host.specs.Status.{most_waiting, IsStatus, IsOpeningStatus, IsCheckStatus, IsDumpStatus}
-use Rattle.do_host.specs.Switch.{text_of}
-use Rattle.do_host.specs.declared.report.Report.{Report}
+use Rattle.do_host.specs.Scripts.{IsAccepted}
+use Rattle.do_host.specs.Status.{most_waiting, IsStatus, IsEarlyStatus, IsCheckStatus, IsDumpStatus, IsSilentStatus}
+use Rattle.do_host.specs.Written.{WritesAll, WritesFirstOf}
 
--- a line of this kind that the text or the file has was written, all of it, or its first bytes
+-- a line of this kind that the text has was written, all of it, or its first bytes
 abbrev pub TellsAll : Option (List ℕ) → (List ℕ → List ℕ → Type 0) → Option (List ℕ) → Option (List ℕ) → Type 0
 TellsAll told IsLineOf before after = IfTold told (λ bytes. (line : List ℕ) × IsLineOf bytes line × WritesAll before after line)
 
 abbrev pub TellsFirst : Option (List ℕ) → (List ℕ → List ℕ → Type 0) → Option (List ℕ) → Option (List ℕ) → Type 0
 TellsFirst told IsLineOf before after = IfTold told (λ bytes. (line : List ℕ) × IsLineOf bytes line × WritesFirstOf before after line)
 
--- At any end: which statuses there are, and how many rows.
-pub record Reports {S : Type 0} (status : ℕ) (report : Report S) : Type 0 where
+-- At any end: the status; the lines that were read, looked at and accepted, from what the source had left before and what it has after; and
+-- each fault's cause.
+pub record AtAnyEnd {S R W : Type 0} (faults_of : S → ℕ) (left : R → Option (List ℕ)) (read : R → ℕ) (taken : W → Option (List ℕ)) (wrote : W → ℕ)
+    (depot depot_after : ℕ) (input input_after : R) (out out_after : W) (status : ℕ) (old report : Report S) : Type 0 where
   pub statuses : IsStatus status
-  pub one_slot : length report.slots.items ≤ 1
-  pub mounted : report.slots.items ≢ [] → report.unopened ≡ None
-  pub bad_slot_kept : status ≡ 7 → IsSome report.unopened × (report.slots.items ≡ [])
+  pub bad_slot_kept : status ≡ 7 → IsSome report.unopened
   pub line_limit : report.lines ≤ most_lines
-
--- At any end: the lines that were read, looked at and accepted, from what the source had left before and what it has after.
-pub record TakesLines {S : Type 0} (before after : Option (List ℕ)) (status : ℕ) (report : Report S) : Type 0 where
-  pub accepted : IfTold before (λ whole. HasGiven whole (map seen report.switch.accepted.items) after)
-  pub looked_at : IfTold before (λ whole. HasLookedAt whole (map seen report.switch.accepted.items) (most_waiting status) report.lines after)
+  pub accepted : IfTold (left input) (λ whole. Accepts whole (left input_after) (most_waiting status) (seen_log report.switch).accepted report.lines)
   -- at a read fault no whole line that was read is lost
-  pub all_read : status ≡ 5 → IfTold before (λ whole. HasReadAll whole (map seen report.switch.accepted.items) report.lines after)
+  pub all_read : status ≡ 5 → IfTold (left input) (λ whole. AcceptsAllRead whole (left input_after) (seen_log report.switch).accepted report.lines)
+  -- where no slot was mounted nothing was read, and but for the line of the status nothing written
+  pub unread : report.slots.items ≡ [] → (input_after ≡ input) × (report.switch ≡ old.switch) × (report.lines ≡ 0)
+  pub silent : report.slots.items ≡ [] → IsSilentStatus status → taken out_after ≡ taken out
+  pub failed : status ≡ 3 → Rose depot depot_after ⊎ HasFailedDisk faults_of report.unopened
+  pub read_failed : status ≡ 5 → Rose (read input) (read input_after) × (wrote out_after ≡ wrote out)
+  pub write_failed : status ≡ 6 → Rose (wrote out) (wrote out_after)
 
--- At any end over the slot whose file had this content when its disk was handed out.
-pub record OverSlot {S : Type 0} (told : S → Option (List ℕ)) (image : S → List ℕ → Type 0) (moment_of : S → ℕ) (left_since : S → ℕ → List ℕ → Type 0)
-    (content before after : Option (List ℕ)) (status : ℕ) (report : Report S) : Type 0 where
-  -- The report has the one actual history: at each moment since the first sync of the slot's mounting a crash leaves a prefix of
-  -- whole batches, which holds every batch that an answer follows, from the moment on at which the answer left. What was
-  -- delivered begins what the accepted lines post, what was routed begins what was released, and the output's lines begin those
-  -- of the routed messages.
-  pub history : All (IsSlotHistory moment_of left_since image content report.switch) report.slots.items
-  -- no frame that this leaves passes the limit of a journal, but those that the slot's file had
-  pub within : All (StaysWithin left_since content) report.slots.items
-  -- a disk that isn't mounted isn't written but for its header, and a refused one not at all
-  pub unopened : IfSome report.unopened (LeavesHanded told image moment_of left_since content)
-  pub untouched : status ≢ 3 → IfSome report.unopened (LeavesFile left_since content)
-  -- status 7 tells why the file is bad
-  pub bad_slot : status ≡ 7 → TellsAll content IsBadSlotLine before after
-  pub bad_slot_in_part : status ≡ 6 → report.slots.items ≡ [] → IsSome report.unopened → TellsFirst content IsBadSlotLine before after
+-- `serve` ends before a slot is asked for: memory was wanting for the words, the script can't be read, or it is refused. Nothing is read of the
+-- input, and nothing but the script was asked for.
+pub record EndsEarly {S R W : Type 0} (taken : W → Option (List ℕ)) (script : List ℕ) (text : Option (List ℕ)) (questions questions_after : List Ask)
+    (depot depot_after : ℕ) (input input_after : R) (out out_after : W) (status : ℕ) (old report : Report S) : Type 0 where
+  pub statuses : IsEarlyStatus status
+  pub unread : input_after ≡ input
+  pub same : report ≡ old
+  pub asked : Asks questions questions_after (for_text script ∷ [])
+  pub refused : status ≡ 2 → TellsAll text IsRefusalLine (taken out) (taken out_after)
+  pub refused_in_part : status ≡ 6 → TellsFirst text IsRefusalLine (taken out) (taken out_after)
+  pub refused_asked : (status ≡ 2) ⊎ (status ≡ 6) → questions_after ≡ questions ++ for_text script ∷ []
+  pub failed : status ≡ 3 → Rose depot depot_after
 
--- Status 2 over the script of this text: its first fault was told, and nothing but the script was asked for.
-pub record RefusesScript {S : Type 0} (text before after : Option (List ℕ)) (questions questions_after : List Ask) (script : List ℕ) (status : ℕ) (old report : Report S) : Type 0 where
-  pub refused : status ≡ 2 → TellsAll text IsRefusalLine before after
-  pub refused_alone : status ≡ 2 → (report ≡ old) × (questions_after ≡ questions ++ for_text script ∷ [])
+-- The slots are served over this script. They end so, and leave the sink so, behind which the line of a bad slot is told. What holds at this end
+-- is what serving promises.
+pub record ServesTree {S R W : Type 0} (moment_of : S → ℕ) (left_since : S → ℕ → List ℕ → Type 0) (told : S → Option (List ℕ)) (image : S → List ℕ → Type 0) (faults_of : S → ℕ)
+    (left : R → Option (List ℕ)) (read : R → ℕ) (taken : W → Option (List ℕ)) (wrote : W → ℕ) (tree : Script) (folder : List ℕ) (slots : ℕ) (contents : ℕ → Option (List ℕ))
+    (questions questions_after : List Ask) (depot depot_after : ℕ) (input input_after : R) (out out_after : W) (status : ℕ) (old report : Report S) : Type 0 where
+  pub end : ServeEnd
+  pub served : W
+  pub tells : TellsEnd taken wrote served out_after status end
+  pub reports : IsReport moment_of left_since told faults_of tree contents slots end report
+  pub lines : ReadsLines (left input) (left input_after) end report
+  pub output : PrintsLines (taken out) (taken served) end report
+  pub opened : IsOpened slots input input_after out served end old report
+  pub unopened : LeavesUnopened told image moment_of left_since contents end report
+  pub causes : HasCause faults_of depot depot_after (read input) (read input_after) (wrote out) (wrote served) end report
+  pub asked : AsksSlots questions questions_after folder slots report
 
--- `serve` over the script of this text and the slot whose file had this content.
-pub record ServeRun {S : Type 0} (text content input input_after before after : Option (List ℕ)) (questions questions_after : List Ask) (script folder : List ℕ) (status : ℕ)
-    (report : Report S) : Type 0 where
-  pub formed : report.slots.items ≢ [] → IsFormed content report.switch
-  pub written : report.slots.items ≢ [] → WritesFirstOf before after (text_of report.switch.lines.items)
-  -- status 0: all of it, and nothing is under way
-  pub opened : status ≡ 0 → length report.slots.items ≡ 1
-  pub quiet : status ≡ 0 → All (IsQuiet content report.switch) report.slots.items
-  pub all_accepted : status ≡ 0 → IfTold input (λ whole. map seen report.switch.accepted.items ≡ through most_lines (requests whole))
-  pub all_counted : status ≡ 0 → IfTold input (λ whole. report.lines ≡ min most_lines (length (all_lines whole)))
-  pub all_written : status ≡ 0 → HasWritten before after report.switch.lines.items
-  -- status 5: all of what was accepted, and nothing is under way
-  pub quiet_at_read_fault : status ≡ 5 → All (IsQuiet content report.switch) report.slots.items
-  pub written_at_read_fault : status ≡ 5 → HasWritten before after report.switch.lines.items
-  -- the script: what goes past the check has an accepted one
-  pub refused_in_part : status ≡ 6 → report.slots.items ≡ [] → report.unopened ≡ None → TellsFirst text IsRefusalLine before after
-  pub first_script : HasDisk report → IfTold text IsFirstScript
-  pub other_script : status ≡ 8 → report.slots.items ≡ [] → IfTold text IsOtherScript
-  pub opening_statuses : report.slots.items ≡ [] → IsOpeningStatus status
-  pub not_built : status ≡ 8 → All (IsNotBuilt content input input_after report.switch) report.slots.items
-  -- what the depot was asked
-  pub asked : Asks questions questions_after (both_asks script folder)
-  pub slot_asked : HasDisk report → questions_after ≡ questions ++ both_asks script folder
+-- `serve` over the slots, as the script is accepted; the depot was asked for the script, and then for slots alone.
+pub record ServesSlots {S R W : Type 0} (moment_of : S → ℕ) (left_since : S → ℕ → List ℕ → Type 0) (told : S → Option (List ℕ)) (image : S → List ℕ → Type 0) (faults_of : S → ℕ)
+    (left : R → Option (List ℕ)) (read : R → ℕ) (taken : W → Option (List ℕ)) (wrote : W → ℕ) (script folder : List ℕ) (slots : ℕ) (text : Option (List ℕ)) (contents : ℕ → Option (List ℕ))
+    (questions questions_after : List Ask) (depot depot_after : ℕ) (input input_after : R) (out out_after : W) (status : ℕ) (old report : Report S) : Type 0 where
+  pub tree : Script
+  pub accepted : IfTold text (λ t. IsAccepted t tree)
+  pub serves : ServesTree moment_of left_since told image faults_of left read taken wrote tree folder slots contents
+      (questions ++ for_text script ∷ []) questions_after depot depot_after input input_after out out_after status old report
+
+-- `serve`: it ends before a slot is asked for, or serves over the slots.
+abbrev pub ServeRun : {S R W : Type 0} → (S → ℕ) → (S → ℕ → List ℕ → Type 0) → (S → Option (List ℕ)) → (S → List ℕ → Type 0) → (S → ℕ)
+    → (R → Option (List ℕ)) → (R → ℕ) → (W → Option (List ℕ)) → (W → ℕ) → (script folder : List ℕ) → (slots : ℕ) → Option (List ℕ) → (ℕ → Option (List ℕ))
+    → List Ask → List Ask → ℕ → ℕ → R → R → W → W → ℕ → Report S → Report S → Type 0
+ServeRun moment_of left_since told image faults_of left read taken wrote script folder slots text contents questions questions_after depot depot_after input input_after out out_after status old report =
+    EndsEarly taken script text questions questions_after depot depot_after input input_after out out_after status old report
+    ⊎ ServesSlots moment_of left_since told image faults_of left read taken wrote script folder slots text contents questions questions_after depot depot_after
+    input input_after out out_after status old report
 
 -- `check` of the script of this text: it asks the depot for the script alone, and leaves the report.
 pub record CheckRun {S : Type 0} (text before after : Option (List ℕ)) (questions questions_after : List Ask) (script : List ℕ) (status : ℕ) (old report : Report S) : Type 0 where
@@ -94,25 +98,52 @@ pub record CheckRun {S : Type 0} (text before after : Option (List ℕ)) (questi
   pub check_alone : report ≡ old
   pub checked : status ≡ 0 → TellsAll text IsScriptLine before after
   pub checked_in_part : status ≡ 6 → TellsFirst text IsCheckLine before after
+  pub refused : status ≡ 2 → TellsAll text IsRefusalLine before after
+  pub refused_asked : status ≡ 2 → questions_after ≡ questions ++ for_text script ∷ []
   pub check_asked : Asks questions questions_after (for_text script ∷ [])
   pub checked_asked : status ≡ 0 → questions_after ≡ questions ++ for_text script ∷ []
 
--- `dump` of the slot whose file had this content: it asks the depot for the slot alone and logs nothing. What it prints is the text
--- of the object and the storage that the file recovers to, and at any end the first bytes of it.
-pub record DumpRun {S : Type 0} (content before after : Option (List ℕ)) (questions questions_after : List Ask) (folder : List ℕ) (status : ℕ) (old report : Report S) : Type 0 where
-  pub dump_statuses : IsDumpStatus status
+-- The slots of the folder, whose files had these contents, are mounted from slot 0 on, and each has this object; the depot is asked for them
+-- alone and nothing is logged. Once all are mounted the text of their objects and storages is printed, at any end the first bytes of it.
+pub record DumpsSlots {S W : Type 0} (moment_of : S → ℕ) (left_since : S → ℕ → List ℕ → Type 0) (told : S → Option (List ℕ)) (image : S → List ℕ → Type 0) (faults_of : S → ℕ)
+    (taken : W → Option (List ℕ)) (wrote : W → ℕ) (folder : List ℕ) (slots : ℕ) (contents : ℕ → Option (List ℕ))
+    (questions questions_after : List Ask) (depot depot_after : ℕ) (out dumped : W) (end : ServeEnd) (old report : Report S) : Type 0 where
   pub dump_alone : (report.switch ≡ old.switch) × (report.lines ≡ old.lines)
-  pub dump_logs : All HasEmptyLogs report.slots.items
-  pub opened : status ≡ 0 → length report.slots.items ≡ 1
-  pub dumped : status ≡ 0 → TellsAll content IsDumpOf before after
-  pub dumped_in_part : report.slots.items ≢ [] → TellsFirst content IsDumpOf before after
-  pub dump_write_failed : status ≡ 6 → HasDisk report
-  pub dump_asked : Asks questions questions_after (for_slot folder 0 ∷ [])
-  pub dump_slot_asked : HasDisk report → questions_after ≡ questions ++ for_slot folder 0 ∷ []
+  pub reads_nothing : end ≢ ends.ReadFailed
+  pub named : Slots
+  pub many : length named ≡ slots
+  pub one_each : IsOneEach named
+  pub rows : AreIdleRows left_since contents named report.slots.items
+  pub within : length report.slots.items ≤ slots
+  -- why a slot is bad, which is the one behind those that were mounted
+  pub bad : (bad : Bad) → end ≡ ends.BadSlot bad → IsBad contents named (length report.slots.items) bad × IsSome report.unopened
+  pub early : (end ≡ ends.OpenFailed) ⊎ ((bad : Bad) × (end ≡ ends.BadSlot bad)) → length report.slots.items < slots
+  pub opened : (end ≡ ends.Finished) ⊎ (end ≡ ends.WriteFailed) → length report.slots.items ≡ slots
+  pub unwritten : length report.slots.items < slots → dumped ≡ out
+  pub whole : end ≡ ends.Finished → (text : List ℕ) × IsDumpOf contents named text × WritesAll (taken out) (taken dumped) text
+  pub front : length report.slots.items ≡ slots → (text : List ℕ) × IsDumpOf contents named text × WritesFirstOf (taken out) (taken dumped) text
+  pub failed : end ≡ ends.OpenFailed → Rose depot depot_after ⊎ HasFailedDisk faults_of report.unopened
+  pub write_failed : end ≡ ends.WriteFailed → Rose (wrote out) (wrote dumped)
+  pub steady : (end ≡ ends.WriteFailed → ⊥) → wrote dumped ≡ wrote out
+  pub unopened : IfSome report.unopened (LeavesHanded told image moment_of left_since (contents (length report.slots.items)))
+  pub untouched : (bad : Bad) → end ≡ ends.BadSlot bad → IsRefused bad → IfSome report.unopened (LeavesFile left_since (contents (length report.slots.items)))
+  pub dump_asked : Asks questions questions_after (slot_asks folder slots)
+  pub all_asked : length report.slots.items ≡ slots → questions_after ≡ questions ++ slot_asks folder slots
 
--- Words that are no command: the usage is told, and nothing is asked for.
+-- `dump` of so many slots of the folder. They end so, and leave the sink so, behind which the line of a bad slot is told.
+pub record DumpRun {S W : Type 0} (moment_of : S → ℕ) (left_since : S → ℕ → List ℕ → Type 0) (told : S → Option (List ℕ)) (image : S → List ℕ → Type 0) (faults_of : S → ℕ)
+    (taken : W → Option (List ℕ)) (wrote : W → ℕ) (folder : List ℕ) (slots : ℕ) (contents : ℕ → Option (List ℕ))
+    (questions questions_after : List Ask) (depot depot_after : ℕ) (out out_after : W) (status : ℕ) (old report : Report S) : Type 0 where
+  pub dump_statuses : IsDumpStatus status
+  pub end : ServeEnd
+  pub dumped : W
+  pub tells : TellsEnd taken wrote dumped out_after status end
+  pub dumps : DumpsSlots moment_of left_since told image faults_of taken wrote folder slots contents questions questions_after depot depot_after out dumped end old report
+
+-- Words that are no command: the usage is told, or memory was wanting for them; and nothing is asked for.
 pub record UsageRun {S : Type 0} (usage : List ℕ) (before after : Option (List ℕ)) (questions questions_after : List Ask) (status : ℕ) (old report : Report S) : Type 0 where
-  pub usage_statuses : (status ≡ 1) ⊎ (status ≡ 6)
+  pub usage_statuses : (status ≡ 1) ⊎ (status ≡ 6) ⊎ (status ≡ 4)
   pub usage_alone : (report ≡ old) × (questions_after ≡ questions)
   pub usage_written : WritesFirstOf before after usage
   pub usage_whole : status ≡ 1 → WritesAll before after usage
+  pub usage_silent : status ≡ 4 → after ≡ before

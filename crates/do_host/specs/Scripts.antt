@@ -1,8 +1,5 @@
 -- Which scripts a run takes, and why it refuses the others. This project's profile.
-use Rattle.std.specs.Prelude.{◌≡◌, ◌≤◌, ◌<◌, ◌⊎◌, ℕ, List, map, length, slice_range, Option, Some, None, codes}
-use Rattle.do_lex.specs.Cut.{IsCut}
-use Rattle.do_lex.specs.declared.kind.Kind.{Kind}
-use Rattle.do_lex.specs.declared.pieces.Span.{Span}
+use Rattle.std.specs.Prelude.{◌≡◌, ◌≤◌, ◌<◌, ◌⊎◌, ℕ, List, length, Option, Some, None, codes}
 use Rattle.do_lex.specs.Limits.{most_script_bytes}
 use Rattle.do_parse.specs.Fault.{IsFaultAt}
 use Rattle.do_parse.specs.declared.fault.ParseKind.{ParseKind}
@@ -12,7 +9,6 @@ use Rattle.do_tree.specs.Faults.{IsFaultless, IsFirstFault}
 use Rattle.do_tree.specs.Tree.{Script}
 use Rattle.do_tree.specs.declared.kind.CheckKind.{CheckKind}
 use Rattle.do_tree.specs.declared.kind.CheckKind.TheVariants as kind
-use Rattle.do_host.specs.declared.script.TheConstants.{PUT_AND_READ}
 
 -- The text is this script and no other one, and the check finds no fault in it.
 pub record IsAccepted (text : List ℕ) (tree : Script) : Type 0 where
@@ -68,27 +64,3 @@ pub record IsFaulty (text : List ℕ) (place : ℕ) (word : List ℕ) : Type 0 w
 -- Why the text is refused: its first fault, by its place and the word of its kind.
 abbrev pub IsRefused : List ℕ → ℕ → List ℕ → Type 0
 IsRefused text place word = IsUnread text place word ⊎ IsFaulty text place word
-
--- What tokens say beside their places: their kinds and texts, in order.
-abbrev pub said : List ℕ → List Span → List (Kind × List ℕ)
-said text tokens = map (λ token. (token.kind, slice_range text token.at token.end)) tokens
-
--- From these places on both texts are cut into tokens to their ends, and the tokens say the same.
-pub record SaysSame (text : List ℕ) (at : ℕ) (other : List ℕ) (place : ℕ) : Type 0 where
-  pub tokens : List Span
-  pub cut : IsCut text at tokens None
-  pub others : List Span
-  pub other_cut : IsCut other place others None
-  pub same : said text tokens ≡ said other others
-
--- The text's tokens are those of the one script that is served so far, but for their places.
-abbrev pub HasFirstForm : List ℕ → Type 0
-HasFirstForm text = SaysSame text 0 PUT_AND_READ.now 0
-
--- The text is accepted, and is of the first form.
-abbrev pub IsFirstScript : List ℕ → Type 0
-IsFirstScript text = ((tree : Script) × IsAccepted text tree) × HasFirstForm text
-
--- The text is accepted, and isn't of the first form.
-abbrev pub IsOtherScript : List ℕ → Type 0
-IsOtherScript text = ((tree : Script) × IsAccepted text tree) × (HasFirstForm text → ⊥)

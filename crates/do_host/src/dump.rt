@@ -1,46 +1,72 @@
-// What the slot of a core has, as lines.
-ghost use Rattle.std.specs.Prelude.{◌≡◌, ◌⊎◌, ℕ, List, Err, IfOk, OnOk, OnErr, IsErrOf, option_map};
+//! What slots have, as lines.
+ghost use Rattle.std.specs.Prelude.{◌≡◌, ◌⊎◌, ◌<◌, ◌^◌, ℕ, List, Err, IfOk, OnErr, IsErrOf, length, map, option_map};
 ghost use Rattle.std.specs.FinMap.{entries};
 ghost use Rattle.do_disk.specs.Disk.{Rose};
-ghost use Rattle.do_host.specs.Dump.{dump_text, pairs_text, alarm_text, Writes};
+ghost use Rattle.do_host.specs.Dump.{alarm_text, dump_text, pairs_text, slots_text};
+ghost use Rattle.do_host.specs.Written.{Writes};
 
 use crate::run_end::RunEnd;
 use crate::slot_lines::{alarm_line, object_line, pair_line};
 use do_disk::Sink;
 use do_value::Mem;
+use host_core::SlotReport;
 use line_server::put;
 use std::alloc::Global;
 use storage_cache::Cache;
 use storage_map::{Alarm, Identity, Map, Options};
 
-// Writes the object, its pairs and its alarm, a line each. A slot without an object has no line.
-pub(crate) fn dump<W: Sink>(
+// Writes what each slot has, from slot 0 on.
+pub(crate) fn dump_slots<S, W: Sink>(
     alloc: Global,
+    rows: &[SlotReport<S>],
+    maps: Vec<Map>,
+    out: &mut W,
+) -> Result<(), RunEnd>
+    requires many { length rows.now ≡ length maps.items }
+    requires few { length maps.items < 2 ^ 32 }
+    ensures writes { Writes (W.taken out.old) (W.taken out.new) (slots_text 0 (map (λ row. row.identity) rows.now) maps.items) result }
+    ensures stop { OnErr result ((result ≡ Err RunEnd.WriteFailed) ⊎ (result ≡ Err RunEnd.NoMemory)) }
+    ensures failed { IsErrOf result RunEnd.WriteFailed → Rose (W.faults_of out.old) (W.faults_of out.new) }
+    ensures steady { (IsErrOf result RunEnd.WriteFailed → ⊥) → W.faults_of out.new ≡ W.faults_of out.old }
+{
+    let mut slot: u32 = 0;
+    for map in maps {
+        let object = rows[slot as usize].identity.as_ref();
+        dump(alloc, slot, object, map, out)?;
+        slot += 1;
+    }
+    Ok(())
+}
+
+// Writes the object, its pairs and its alarm, a line each. A slot without an object has no line.
+fn dump<W: Sink>(
+    alloc: Global,
+    slot: u32,
     object: Option<&Identity>,
     map: Map,
     out: &mut W,
 ) -> Result<(), RunEnd>
-    ensures writes { Writes (W.taken out.old) (W.taken out.new) (dump_text (option_map (λ object. object.now) object.entry) map) result }
+    ensures writes { Writes (W.taken out.old) (W.taken out.new) (dump_text slot (option_map (λ object. object.now) object.entry) map) result }
     ensures stop { OnErr result ((result ≡ Err RunEnd.WriteFailed) ⊎ (result ≡ Err RunEnd.NoMemory)) }
     ensures failed { IsErrOf result RunEnd.WriteFailed → Rose (W.faults_of out.old) (W.faults_of out.new) }
-    ensures steady { OnOk result (W.faults_of out.new ≡ W.faults_of out.old) }
+    ensures steady { (IsErrOf result RunEnd.WriteFailed → ⊥) → W.faults_of out.new ≡ W.faults_of out.old }
 {
     let Some(object) = object else {
         return Ok(());
     };
     let alarm = map.alarm();
     let cache = Cache::new(map);
-    put_line(object_line(alloc, object), out)?;
-    dump_pairs(alloc, &cache, out)?;
-    dump_alarm(alloc, alarm, out)
+    put_line(object_line(alloc, slot, object), out)?;
+    dump_pairs(alloc, slot, &cache, out)?;
+    dump_alarm(alloc, slot, alarm, out)
 }
 
 // Writes the pairs, ascending by key.
-fn dump_pairs<W: Sink>(alloc: Global, cache: &Cache, out: &mut W) -> Result<(), RunEnd>
-    ensures writes { Writes (W.taken out.old) (W.taken out.new) (pairs_text (entries cache.now.values)) result }
+fn dump_pairs<W: Sink>(alloc: Global, slot: u32, cache: &Cache, out: &mut W) -> Result<(), RunEnd>
+    ensures writes { Writes (W.taken out.old) (W.taken out.new) (pairs_text slot (entries cache.now.values)) result }
     ensures stop { OnErr result ((result ≡ Err RunEnd.WriteFailed) ⊎ (result ≡ Err RunEnd.NoMemory)) }
     ensures failed { IsErrOf result RunEnd.WriteFailed → Rose (W.faults_of out.old) (W.faults_of out.new) }
-    ensures steady { OnOk result (W.faults_of out.new ≡ W.faults_of out.old) }
+    ensures steady { (IsErrOf result RunEnd.WriteFailed → ⊥) → W.faults_of out.new ≡ W.faults_of out.old }
 {
     let all = Options {
         start: None,
@@ -51,19 +77,24 @@ fn dump_pairs<W: Sink>(alloc: Global, cache: &Cache, out: &mut W) -> Result<(), 
         limit: None,
     };
     for (key, value) in cache.range(&all) {
-        put_line(pair_line(alloc, key, value), out)?;
+        put_line(pair_line(alloc, slot, key, value), out)?;
     }
     Ok(())
 }
 
-fn dump_alarm<W: Sink>(alloc: Global, alarm: Option<Alarm>, out: &mut W) -> Result<(), RunEnd>
-    ensures writes { Writes (W.taken out.old) (W.taken out.new) (alarm_text alarm) result }
+fn dump_alarm<W: Sink>(
+    alloc: Global,
+    slot: u32,
+    alarm: Option<Alarm>,
+    out: &mut W,
+) -> Result<(), RunEnd>
+    ensures writes { Writes (W.taken out.old) (W.taken out.new) (alarm_text slot alarm) result }
     ensures stop { OnErr result ((result ≡ Err RunEnd.WriteFailed) ⊎ (result ≡ Err RunEnd.NoMemory)) }
     ensures failed { IsErrOf result RunEnd.WriteFailed → Rose (W.faults_of out.old) (W.faults_of out.new) }
-    ensures steady { OnOk result (W.faults_of out.new ≡ W.faults_of out.old) }
+    ensures steady { (IsErrOf result RunEnd.WriteFailed → ⊥) → W.faults_of out.new ≡ W.faults_of out.old }
 {
     match alarm {
-        Some(alarm) => put_line(alarm_line(alloc, alarm), out),
+        Some(alarm) => put_line(alarm_line(alloc, slot, alarm), out),
         None => Ok(()),
     }
 }
@@ -73,7 +104,7 @@ fn put_line<W: Sink>(line: Mem<Vec<u8>>, out: &mut W) -> Result<(), RunEnd>
     ensures writes { (text : List ℕ) → IfOk line (λ bytes. bytes.items ≡ text) → Writes (W.taken out.old) (W.taken out.new) text result }
     ensures stop { OnErr result ((result ≡ Err RunEnd.WriteFailed) ⊎ (result ≡ Err RunEnd.NoMemory)) }
     ensures failed { IsErrOf result RunEnd.WriteFailed → Rose (W.faults_of out.old) (W.faults_of out.new) }
-    ensures steady { OnOk result (W.faults_of out.new ≡ W.faults_of out.old) }
+    ensures steady { (IsErrOf result RunEnd.WriteFailed → ⊥) → W.faults_of out.new ≡ W.faults_of out.old }
 {
     let line = line?;
     put(out, line.as_slice())?;

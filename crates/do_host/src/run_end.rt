@@ -1,33 +1,26 @@
-// Why a run ends before its last line.
+//! Why a run ends early.
 use do_disk::{DepotFault, Failed};
 use do_value::NoMemory;
-use first_object::CallEnd;
-use line_server::LineFault;
 
 #[derive(Clone, Copy, Debug, Drop, PartialEq, Eq)]
 pub(crate) enum RunEnd {
-    // The depot or a disk failed.
-    DiskFailed,
+    // The depot failed.
+    DepotFailed,
     NoMemory,
-    ReadFailed,
     WriteFailed,
-    // What is asked for isn't built yet.
-    NotBuilt,
 }
 
 impl RunEnd {
     ghost use Rattle.std.specs.Prelude.{◌≡◌};
-    ghost use Rattle.do_host.specs.Status.{status_of};
+    ghost use Rattle.do_host.specs.Status.{stop_status};
 
     pub(crate) fn status(self) -> u8
-        ensures { result ≡ status_of self }
+        ensures { result ≡ stop_status self }
     {
         match self {
-            RunEnd::DiskFailed => 3,
+            RunEnd::DepotFailed => 3,
             RunEnd::NoMemory => 4,
-            RunEnd::ReadFailed => 5,
             RunEnd::WriteFailed => 6,
-            RunEnd::NotBuilt => 8,
         }
     }
 }
@@ -55,35 +48,6 @@ impl From<Failed> for RunEnd {
     }
 }
 
-impl From<LineFault> for RunEnd {
-    ghost use Rattle.std.specs.Prelude.{◌≡◌};
-    ghost use Rattle.do_host.specs.Status.{line_stop};
-
-    ghost from_gives = { λ fault stop. stop ≡ line_stop fault };
-
-    fn from(fault: LineFault) -> RunEnd {
-        match fault {
-            LineFault::ReadFailed => RunEnd::ReadFailed,
-            LineFault::NoMemory => RunEnd::NoMemory,
-        }
-    }
-}
-
-impl From<CallEnd> for RunEnd {
-    ghost use Rattle.std.specs.Prelude.{◌≡◌};
-    ghost use Rattle.do_host.specs.Status.{call_stop};
-
-    ghost from_gives = { λ end stop. stop ≡ call_stop end };
-
-    fn from(end: CallEnd) -> RunEnd {
-        match end {
-            CallEnd::DiskFailed => RunEnd::DiskFailed,
-            CallEnd::Full { .. } => RunEnd::NotBuilt,
-            CallEnd::NoMemory => RunEnd::NoMemory,
-        }
-    }
-}
-
 impl From<DepotFault> for RunEnd {
     ghost use Rattle.std.specs.Prelude.{◌≡◌};
     ghost use Rattle.do_host.specs.Status.{depot_stop};
@@ -92,7 +56,7 @@ impl From<DepotFault> for RunEnd {
 
     fn from(fault: DepotFault) -> RunEnd {
         match fault {
-            DepotFault::Failed => RunEnd::DiskFailed,
+            DepotFault::Failed => RunEnd::DepotFailed,
             DepotFault::NoMemory => RunEnd::NoMemory,
         }
     }

@@ -1,63 +1,39 @@
-// The script at a path: read, parsed and checked.
+//! The script at a path: read, parsed and checked.
 ghost use Rattle.std.specs.Prelude.{◌≡◌, ◌⊎◌, ◌++◌, ◌∷◌, [], ℕ, List, IfOk, OnOk, OnErr};
 ghost use Rattle.do_disk.specs.Disk.{IfTold, Rose};
 ghost use Rattle.do_disk.specs.Asks.{for_text};
+ghost use Rattle.do_tree.specs.Checked.{tree_of};
+ghost use Rattle.host_core.specs.Opening.{Asks};
 ghost use Rattle.do_host.specs.EarlyEnds.{IsRefusedBy, IsStoppedBy, IsScriptEnd};
-ghost use Rattle.do_host.specs.Opened.{Asks};
 ghost use Rattle.do_host.specs.ScriptLines.{IsRefusalLine, IsScriptLine};
-ghost use Rattle.do_host.specs.Scripts.{IsFirstScript, IsOtherScript};
+ghost use Rattle.do_host.specs.Scripts.{IsAccepted};
 
 use crate::accept::accept;
 use crate::early_end::EarlyEnd;
-use crate::form::has_first_form;
 use crate::run_end::RunEnd;
 use crate::script_lines::script_line;
 use do_disk::Depot;
+use do_tree::Checked;
 use std::alloc::Global;
 
-/// The one script that is served so far, but for separators and comments: a class C with `set`, which puts a value under a
-/// key and answers it, and `read`, which answers what stands under a key.
-pub const PUT_AND_READ: &str =
-    "export class C extends DurableObject {\n  async set(k, v) { this.ctx.storage.put(k, v); return v; }\n  async read(k) { return await this.ctx.storage.get(k); }\n}\n";
-
-// Reads the script, and tests that it is accepted and of the first form.
-pub(crate) fn first_script<P: Depot>(
+// Reads the script, where it is accepted.
+pub(crate) fn read_script<P: Depot>(
     alloc: Global,
     depot: &mut P,
     path: &str,
-) -> Result<(), EarlyEnd>
+) -> Result<Checked, EarlyEnd>
     ensures asked { Asks (P.asked depot.old) (P.asked depot.new) (for_text path.now ∷ []) }
     ensures whole { OnOk result (P.asked depot.new ≡ P.asked depot.old ++ for_text path.now ∷ []) }
     ensures same_slots { (folder : List ℕ) (number : ℕ) → P.slot_at depot.new folder number ≡ P.slot_at depot.old folder number }
     ensures end { OnErr result (IsScriptEnd result) }
-    ensures failed { IsStoppedBy result RunEnd.DiskFailed → Rose (P.faults_of depot.old) (P.faults_of depot.new) }
+    ensures failed { IsStoppedBy result RunEnd.DepotFailed → Rose (P.faults_of depot.old) (P.faults_of depot.new) }
     ensures steady { OnOk result (P.faults_of depot.new ≡ P.faults_of depot.old) }
-    ensures first_script { OnOk result (IfTold (P.text_at depot.old path.now) IsFirstScript) }
-    ensures not_built { IsStoppedBy result RunEnd.NotBuilt → IfTold (P.text_at depot.old path.now) IsOtherScript }
+    ensures accepted { IfOk result (λ checked. IfTold (P.text_at depot.old path.now) (λ text. IsAccepted text (tree_of checked))) }
     ensures refused { (line : List ℕ) → IsRefusedBy result line → IfTold (P.text_at depot.old path.now) (λ text. IsRefusalLine text line) }
     ensures refused_whole { (line : List ℕ) → IsRefusedBy result line → P.asked depot.new ≡ P.asked depot.old ++ for_text path.now ∷ [] }
 {
     let text = depot.text(path)?;
-    test_form(alloc, text.as_slice())
-}
-
-// Tests that a text is accepted and of the first form.
-fn test_form(alloc: Global, text: &[u8]) -> Result<(), EarlyEnd>
-    ensures first { OnOk result (IsFirstScript text.now) }
-    ensures other { IsStoppedBy result RunEnd.NotBuilt → IsOtherScript text.now }
-    ensures refused { (line : List ℕ) → IsRefusedBy result line → IsRefusalLine text.now line }
-    ensures end { OnErr result (((line : List ℕ) × IsRefusedBy result line) ⊎ IsStoppedBy result RunEnd.NoMemory ⊎ IsStoppedBy result RunEnd.NotBuilt) }
-{
-    match accept(alloc, text) {
-        Ok(_checked) => {
-            if has_first_form(text) {
-                Ok(())
-            } else {
-                Err(EarlyEnd::Stopped(RunEnd::NotBuilt))
-            }
-        }
-        Err(end) => Err(end),
-    }
+    accept(alloc, text.as_slice())
 }
 
 // Reads the script, and gives the line that tells its classes, where it is accepted.
@@ -68,8 +44,8 @@ pub(crate) fn told_script<P: Depot>(
 ) -> Result<Vec<u8>, EarlyEnd>
     ensures asked { Asks (P.asked depot.old) (P.asked depot.new) (for_text path.now ∷ []) }
     ensures whole { OnOk result (P.asked depot.new ≡ P.asked depot.old ++ for_text path.now ∷ []) }
-    ensures end { OnErr result (((line : List ℕ) × IsRefusedBy result line) ⊎ IsStoppedBy result RunEnd.DiskFailed ⊎ IsStoppedBy result RunEnd.NoMemory) }
-    ensures failed { IsStoppedBy result RunEnd.DiskFailed → Rose (P.faults_of depot.old) (P.faults_of depot.new) }
+    ensures end { OnErr result (IsScriptEnd result) }
+    ensures failed { IsStoppedBy result RunEnd.DepotFailed → Rose (P.faults_of depot.old) (P.faults_of depot.new) }
     ensures told { IfOk result (λ line. IfTold (P.text_at depot.old path.now) (λ text. IsScriptLine text line.items)) }
     ensures refused { (line : List ℕ) → IsRefusedBy result line → IfTold (P.text_at depot.old path.now) (λ text. IsRefusalLine text line) }
     ensures refused_whole { (line : List ℕ) → IsRefusedBy result line → P.asked depot.new ≡ P.asked depot.old ++ for_text path.now ∷ [] }

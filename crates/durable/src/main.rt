@@ -16,9 +16,10 @@ fn main(rt: HostRuntime) -> ExitCode {
     };
     let input = StdSource::new(rt.stdin());
     let out = StdSink::new(rt.stdout());
-    let mut depot = FolderDepot::new(rt);
+    let mut depot = FolderDepot::new(&rt);
     let mut report = Report::new(alloc);
     let ran = run(
+        &rt,
         alloc,
         &words,
         &mut depot,

@@ -14,7 +14,7 @@ use Rattle.object_history.specs.Pair.{Rear, IsPair}
 use Rattle.object_history.specs.Stepping.{IsLogOf, Grows, IsRear, WantsCall, notices_with, said_before}
 
 -- The last item of an intake was one that may be taken.
-last_may : (k : Kind) (f : Front) (taken : List Taken) (t : Taken) → IsIntake k f (taken ++ t ∷ []) → MayTake (front_after k f taken) t
+pub last_may : (k : Kind) (f : Front) (taken : List Taken) (t : Taken) → IsIntake k f (taken ++ t ∷ []) → MayTake (front_after k f taken) t
 last_may k f [] t is = is.0
 last_may k f (first ∷ taken) t is = last_may k (takes k f first) taken t is.1
 

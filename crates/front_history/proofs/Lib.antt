@@ -1,5 +1,5 @@
-mod Keeping
-mod Items
+pub mod Keeping
+pub mod Items
 mod Turning
 pub mod Lanes
 mod Backs

@@ -1,7 +1,9 @@
 //! What a run is given.
+ghost use Rattle.std.specs.Prelude.{◌≡◌, IfOk};
+ghost use Rattle.std.specs.List.{All};
+
 use do_disk::{Fails, MemDepot, MemDisk, MemSink, MemSource};
-use do_host::PUT_AND_READ;
-use sample_scripts::named;
+use sample_scripts::{PUT_AND_READ, named};
 use serde_json::Value as Json;
 use std::alloc::Global;
 use std::test::Fail;
@@ -19,6 +21,14 @@ pub(crate) fn fails_of(given: &Json, name: &str) -> Fails {
     Fails::From(number_of(given, name).unwrap_or(NEVER))
 }
 
+// The calls of slot 0 that fail: the one of the number `once`, or as `disk` says.
+fn disk_fails(alloc: Global, given: &Json) -> Result<Fails, Fail> {
+    match number_of(given, "once") {
+        Some(number) => Ok(Fails::Listed(vec![in alloc; number]?)),
+        None => Ok(fails_of(given, "disk")),
+    }
+}
+
 // The script's text as it is given, or else the sample of that name, or else the one that puts and reads.
 fn script_of(given: &Json) -> &str {
     match given.get("script").and_then(Json::as_str) {
@@ -31,16 +41,37 @@ fn script_of(given: &Json) -> &str {
     }
 }
 
-/// The script at the path s, and one disk that holds the file, or none.
-pub(crate) fn depot_of(alloc: Global, given: &Json, file: &[u8]) -> Result<MemDepot, Fail> {
+/// The script at the path s, and a disk for each file, or for the first so many of them.
+pub(crate) fn depot_of(alloc: Global, given: &Json, files: &[Vec<u8>]) -> Result<MemDepot, Fail> {
     let path = String::from_str(alloc, "s")?;
     let text = script_of(given).as_bytes().to_vec(alloc)?;
-    let mut disks = Vec::new(alloc);
-    if number_of(given, "disks") != Some(0) {
-        let disk = MemDisk::new(file.to_vec(alloc)?, fails_of(given, "disk"));
-        disks.push(disk)?;
-    }
+    let disks = disks_for(alloc, given, files)?;
     Ok(MemDepot::new(vec![in alloc; (path, text)]?, disks))
+}
+
+fn disks_for(alloc: Global, given: &Json, files: &[Vec<u8>]) -> Result<Vec<MemDisk>, Fail>
+    ensures { IfOk result (λ disks. All (λ disk. disk.moment ≡ 0) disks.items) }
+{
+    let most = number_of(given, "disks").unwrap_or(NEVER);
+    let mut disks = Vec::new(alloc);
+    for slot in 0..files.len() {
+        if (slot as u64) < most {
+            disks.push(disk_of(alloc, given, slot, &files[slot])?)?;
+        }
+    }
+    Ok(disks)
+}
+
+// The disk of a slot with this file. Calls of slot 0 alone fail.
+fn disk_of(alloc: Global, given: &Json, slot: usize, file: &[u8]) -> Result<MemDisk, Fail>
+    ensures { IfOk result (λ disk. disk.moment ≡ 0) }
+{
+    let fails = if slot == 0 {
+        disk_fails(alloc, given)?
+    } else {
+        Fails::From(NEVER)
+    };
+    Ok(MemDisk::new(file.to_vec(alloc)?, fails))
 }
 
 /// The source that gives the lines, in pieces of so many bytes, 7 where none are said.

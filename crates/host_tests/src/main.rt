@@ -8,33 +8,39 @@ mod runs;
 use runs::Runs;
 use serde_json::Value as Json;
 use std::alloc::Global;
+use std::sync::Wait;
 use std::test::Fail;
 use test_rows::{row_of, word};
 
-fn answer(alloc: Global, runs: &mut Runs, row: &Json) -> Result<String, Fail> {
+fn answer<T: Wait>(rt: &T, alloc: Global, runs: &mut Runs, row: &Json) -> Result<String, Fail> {
     let mut line = String::new(alloc);
     match word(row, 0) {
         "lines" => requests::answer(alloc, row, &mut line)?,
         "print" => requests::answer_print(alloc, row, &mut line)?,
-        _ => runs::answer(alloc, runs, row, &mut line)?,
+        _ => runs::answer(rt, alloc, runs, row, &mut line)?,
     }
     Ok(line)
 }
 
 // The answer to a line's case, or the heading that it is.
-fn answer_line(alloc: Global, runs: &mut Runs, text: &str) -> Result<String, Fail> {
+fn answer_line<T: Wait>(
+    rt: &T,
+    alloc: Global,
+    runs: &mut Runs,
+    text: &str,
+) -> Result<String, Fail> {
     match row_of(alloc, text) {
-        Some(row) => answer(alloc, runs, &row),
+        Some(row) => answer(rt, alloc, runs, &row),
         None => Ok(String::from_str(alloc, text)?),
     }
 }
 
 fn main(rt: HostRuntime) -> Result<(), Fail> {
     let alloc = rt.alloc();
-    let mut runs = Runs::new(alloc);
+    let mut runs = Runs::new(alloc)?;
     for line in rt.lines(alloc) {
         let line = line?;
-        let told = answer_line(alloc, &mut runs, line.as_str())?;
+        let told = answer_line(&rt, alloc, &mut runs, line.as_str())?;
         println!(rt; "{told}")?;
     }
     Ok(())

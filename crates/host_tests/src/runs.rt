@@ -1,48 +1,71 @@
-//! Runs over a disk, one after the other, with crashes between them.
+//! Runs over the disks of some slots, one after the other, with crashes between them.
 use crate::given::{depot_of, sink_of, source_of, tell_bytes};
 use do_disk::{FreeGate, MemDisk, MemSink, MemSource, Pick};
 use do_host::{Ran, Report, run};
 use serde_json::Value as Json;
 use std::alloc::Global;
+use std::sync::Wait;
 use std::test::Fail;
 use test_rows::{count, word};
 
-/// The file that the next run's disk holds, and the disk that the last one left.
+/// How many slots there are.
+const SLOTS: usize = 16;
+
+/// The file that the next run's disk of each slot holds, and the disks that the last run left, from slot 0 on.
 #[derive(Drop)]
 pub(crate) struct Runs {
-    file: Vec<u8>,
-    disk: Option<MemDisk>,
+    files: Vec<Vec<u8>>,
+    disks: Vec<MemDisk>,
 }
 
 impl Runs {
-    /// No file, and no run yet.
-    pub(crate) fn new(alloc: Global) -> Runs {
-        Runs {
-            file: Vec::new(alloc),
-            disk: None,
-        }
+    /// Empty files, and no run yet.
+    pub(crate) fn new(alloc: Global) -> Result<Runs, Fail> {
+        Ok(Runs {
+            files: no_files(alloc)?,
+            disks: Vec::new(alloc),
+        })
     }
 }
 
-/// `file HEX` makes the file, `run WORDS GIVEN` runs over it, and `crash PICK` or `keep PICK` makes it what a crash after that
-/// run leaves. The file is told in hexadecimal, but behind `run` and `keep`.
-pub(crate) fn answer(
+fn no_files(alloc: Global) -> Result<Vec<Vec<u8>>, Fail> {
+    let mut files = Vec::new(alloc);
+    for _ in 0..SLOTS {
+        files.push(Vec::new(alloc))?;
+    }
+    Ok(files)
+}
+
+/// `file HEX SLOT` makes the slot's file, `empty` makes all empty, `run WORDS GIVEN` runs over them, and `crash PICK` or `keep PICK`
+/// makes them what a crash after that run leaves. Slot 0's file is told in hexadecimal behind `crash`.
+pub(crate) fn answer<T: Wait>(
+    rt: &T,
     alloc: Global,
     runs: &mut Runs,
     row: &Json,
     line: &mut String,
 ) -> Result<(), Fail> {
     match word(row, 0) {
-        "file" => runs.file = hex::decode(alloc, word(row, 1).as_bytes())?,
-        "crash" => crash(alloc, runs, row)?,
+        "empty" => runs.files = no_files(alloc)?,
+        "file" => set_file(alloc, runs, row)?,
         "keep" => {
             crash(alloc, runs, row)?;
             line.push_str("kept")?;
         }
-        _ => tell_run(alloc, runs, row, line)?,
+        "crash" => {
+            crash(alloc, runs, row)?;
+            let file = runs.files.first().map_or(&[][..], |file| file.as_slice());
+            line.push_str(hex::encode(alloc, file)?.as_str())?;
+        }
+        _ => tell_run(rt, alloc, runs, row, line)?,
     }
-    if line.is_empty() {
-        line.push_str(hex::encode(alloc, runs.file.as_slice())?.as_str())?;
+    Ok(())
+}
+
+fn set_file(alloc: Global, runs: &mut Runs, row: &Json) -> Result<(), Fail> {
+    let bytes = hex::decode(alloc, word(row, 1).as_bytes())?;
+    if let Some(file) = runs.files.get_mut(count(row, 2) as usize) {
+        *file = bytes;
     }
     Ok(())
 }
@@ -55,11 +78,18 @@ fn pick_of(row: &Json) -> Pick {
     }
 }
 
-// The file is what a crash after the last run leaves.
+// Each file is what a crash after the last run leaves of its disk.
 fn crash(alloc: Global, runs: &mut Runs, row: &Json) -> Result<(), Fail> {
-    let disk = runs.disk.take().ok_or("no disk")?;
-    let left = disk.crash(pick_of(row))?;
-    runs.file = left.content().to_vec(alloc)?;
+    let many = runs.disks.len();
+    for last in 0..many {
+        let Some(disk) = runs.disks.pop() else {
+            return Ok(());
+        };
+        let left = disk.crash(pick_of(row))?;
+        if let Some(file) = runs.files.get_mut(many - 1 - last) {
+            *file = left.content().to_vec(alloc)?;
+        }
+    }
     Ok(())
 }
 
@@ -73,16 +103,23 @@ fn words_of(alloc: Global, row: &Json) -> Result<Vec<String>, Fail> {
     Ok(words)
 }
 
-// Runs the words over the file, and tells the status, the output and how many slots were mounted.
-fn tell_run(alloc: Global, runs: &mut Runs, row: &Json, line: &mut String) -> Result<(), Fail> {
+// Runs the words over the files, and tells the status, how many slots were mounted, and the output.
+fn tell_run<T: Wait>(
+    rt: &T,
+    alloc: Global,
+    runs: &mut Runs,
+    row: &Json,
+    line: &mut String,
+) -> Result<(), Fail> {
     let words = words_of(alloc, row)?;
     let nothing = Json::Null;
     let given = row.get(2).unwrap_or(&nothing);
-    let mut depot = depot_of(alloc, given, &runs.file)?;
+    let mut depot = depot_of(alloc, given, &runs.files)?;
     let source = source_of(alloc, given)?;
     let sink = sink_of(alloc, given);
     let mut report = Report::new(alloc);
     let ran = run(
+        rt,
         alloc,
         &words,
         &mut depot,
@@ -92,7 +129,7 @@ fn tell_run(alloc: Global, runs: &mut Runs, row: &Json, line: &mut String) -> Re
         &mut report,
     );
     tell_end(alloc, &ran, &report, line)?;
-    runs.disk = disk_of(report);
+    runs.disks = disks_of(alloc, report)?;
     Ok(())
 }
 
@@ -107,15 +144,18 @@ fn tell_end(
     tell_bytes(line, ran.out.taken())
 }
 
-// The disk of slot 0 after a run, mounted or not.
-fn disk_of(report: Report<MemDisk>) -> Option<MemDisk> {
-    let Report {
-        mut slots,
-        unopened,
-        ..
-    } = report;
-    match slots.pop() {
-        Some(row) => Some(row.store),
-        None => unopened,
+// The disks of the slots after a run, that of the one that wasn't mounted last.
+fn disks_of(alloc: Global, report: Report<MemDisk>) -> Result<Vec<MemDisk>, Fail> {
+    let mut report = report;
+    let mut disks = Vec::new(alloc);
+    for _ in 0..report.slots.len() {
+        let Some(row) = report.slots.pop() else {
+            return Ok(disks);
+        };
+        disks.insert(0, row.store)?;
     }
+    if let Some(disk) = report.unopened.take() {
+        disks.push(disk)?;
+    }
+    Ok(disks)
 }

@@ -1,6 +1,6 @@
 -- An object whose slot was just mounted.
-use Rattle.std.proofs.Common.{◌≡◌, ◌∙◌, ap, sym, refl, subst, inl, inr, ℕ, suc, List, [], ◌++◌, length, arith, Option}
-use Rattle.std.specs.Prelude.{Bool}
+use Rattle.std.proofs.Common.{◌≡◌, ◌∙◌, ap, sym, refl, subst, inl, inr, true≢false, ℕ, suc, List, [], ◌++◌, length, arith, Option}
+use Rattle.std.specs.Prelude.{Bool, is_some}
 use Rattle.std.specs.List.{flat_map}
 use Rattle.do_tree.specs.Tree.{Script}
 use Rattle.lane.specs.Lanes.{Both}
@@ -26,6 +26,7 @@ use Rattle.object_history.specs.Seen.{held_of, stand_of}
 use Rattle.front_history.specs.Turns.{FrontBegins}
 use Rattle.object_core.proofs.Due.{seen_is_rear}
 use Rattle.object_core.proofs.Rebuilding.{One, due_now}
+use Rattle.object_core.specs.Fitting.{known_over}
 use Rattle.object_core.specs.One.{AreFresh, Origin, class_in, messages, mounted_at, unused}
 use Rattle.object_core.specs.Seen.{due_map, seen_of}
 
@@ -63,7 +64,7 @@ module _ {D : Type 0} (moment_of : D → ℕ) (left_since : D → ℕ → List �
     alarm = back.cache.alarm;
     st = fresh (class_in script back.identity) back.cache.alarm;
     front_stands = λ on. are.stands;
-    has_taken = λ on class is. ([], none_taken class);
+    has_taken = λ on class is. ([], none_taken class, tt);
     classed = record {
       now = λ on. ap (λ (x : Fronted). class_by script (class_in script back.identity) x) (sym are.front_log);
       stays = λ class is. ap (λ (x : Fronted). class_by script (class_in script back.identity) x) (sym are.front_log) ∙ is;
@@ -81,6 +82,11 @@ module _ {D : Type 0} (moment_of : D → ℕ) (left_since : D → ℕ → List �
         (ap (λ (x : Backed). x.taken) are.back_log) (ap (λ (x : Backed). x.stops) are.back_log) (ap (λ (x : Backed). x.downs) are.back_log) are.front_log
         (ap (λ (m : Contents). opened m.alarm) (due_now moment_of left_since told image faults_of script origin front unused back tells known are.serves (ap stand_of (is_mounted _ known))
         ∙ due_first));
+    fits = λ has tells on goes. (are.free, ap (λ (x : Backed). known_over (is_some back.identity) x.taken) (sym are.back_log));
+    heard = λ tells on goes. record {
+      news = λ differs. absurd (differs (ap (λ (x : Backed). suc (length x.stops)) are.back_log));
+      answer = λ so. absurd (true≢false (sym so));
+    };
   }
 
   -- over queues through which nothing went

@@ -39,6 +39,8 @@ module _ {D : Type 0} (moment_of : D → ℕ) (left_since : D → ℕ → List �
     is_line = one.is_line;
     left = one.left ∙ ap (λ (x : List Sent). origin.left ++ x) (sym same);
     pair = one.pair;
+    fits = one.fits;
+    heard = one.heard;
   }
 
 module _ {D : Type 0} (moment_of : D → ℕ) (left_since : D → ℕ → List ℕ → Type 0) (told : D → Option (List ℕ)) (image : D → List ℕ → Type 0) (faults_of : D → ℕ)
@@ -61,4 +63,6 @@ module _ {D : Type 0} (moment_of : D → ℕ) (left_since : D → ℕ → List �
     is_line = one.is_line;
     left = one.left;
     pair = one.pair;
+    fits = one.fits;
+    heard = one.heard;
   }

@@ -1,5 +1,5 @@
 -- An object whose back appends what it has taken.
-use Rattle.std.proofs.Common.{◌≡◌, ◌≢◌, ◌∙◌, ap, sym, refl, subst, inl, inr, ⊎_elim, ℕ, List, [], append-nil, Option}
+use Rattle.std.proofs.Common.{◌≡◌, ◌≢◌, ◌∙◌, ap, sym, refl, subst, inl, inr, ⊎_elim, ℕ, List, [], ◌++◌, append-nil, Option}
 use Rattle.std.proofs.lemmas.Bool.{cases_eq}
 use Rattle.std.specs.Prelude.{not}
 use Rattle.do_tree.specs.Tree.{Script}
@@ -24,7 +24,7 @@ use Rattle.object_history.specs.Seen.{rear_of}
 use Rattle.object_history.specs.Stepping.{BackSteps}
 use Rattle.front_history.specs.Turns.{BackStepsKeep}
 use Rattle.object_core.proofs.Due.{steps_unheard}
-use Rattle.object_core.proofs.Rebuilding.{One, stepped}
+use Rattle.object_core.proofs.Rebuilding.{One, hears_on, stepped}
 use Rattle.object_core.specs.One.{Origin, messages}
 
 -- What the back's own contract says of a flush.
@@ -72,8 +72,11 @@ module _ {D : Type 0} (moment_of : D → ℕ) (left_since : D → ℕ → List �
       stepped moment_of left_since told image faults_of script origin front inbox keeps old new line notices notices out out one
       (by.back origin.start origin.opening one.back_stands) by.tells (flushed_identity faults_of old new flushes)
       (λ free on. one.none_lost (sym (flushed_stuck faults_of old new flushes) ∙ free) (sym by.stopped ∙ on))
+      (λ on. (sym by.stopped ∙ on, flushed_stuck faults_of old new flushes))
       (flushed_taken faults_of old new flushes) (ap messages (flushed_released faults_of old new flushes) ∙ one.left)
       (λ tells. record { heard = s.0; given = []; steps = s.1; are = inr refl; come = sym (append-nil notices.waiting) })
+      (hears_on moment_of left_since told image faults_of script origin front inbox old new line notices out one by.tells (λ goes. sym by.stopped ∙ goes) []
+      (one.lost ++ line.waiting) [] notices.waiting steps refl (sym (append-nil notices.waiting)))
 
   pub flush_keeps : After
   flush_keeps = ⊎_elim nothing_flown flown (cases_eq old.before old.durable)

@@ -1,4 +1,15 @@
 mod Due
+mod Alike
+mod Hearing
+mod Heeding
+mod Attending
+mod Sending
+mod SentFit
+mod DownSaid
+mod FitTaken
+mod KnownObject
+mod NextFits
+mod Fitting
 mod Lanes
 mod Naming
 mod Pairing
@@ -15,3 +26,5 @@ mod Runs
 mod Beginning
 mod Freshness
 mod Telling
+mod Emptied
+mod Quiet

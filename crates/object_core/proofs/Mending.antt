@@ -1,5 +1,5 @@
 -- An object whose back mounts the journal again.
-use Rattle.std.proofs.Common.{◌≡◌, ◌∙◌, ap, sym, refl, subst, inl, inr, true≢false, ℕ, List, [], ◌∷◌, append-nil, Option}
+use Rattle.std.proofs.Common.{◌≡◌, ◌∙◌, ap, sym, refl, subst, inl, inr, true≢false, ℕ, List, [], ◌∷◌, ◌++◌, append-nil, Option}
 use Rattle.std.specs.Prelude.{Bool, true, false, not, ◌⊎◌, Result, Ok, Err, OnOk, OnErr}
 use Rattle.do_tree.specs.Tree.{Script}
 use Rattle.do_value.specs.declared.fault.NoMemory.{NoMemory}
@@ -28,7 +28,7 @@ use Rattle.object_history.specs.Seen.{rear_of, stand_of}
 use Rattle.front_history.specs.Turns.{BackStepsKeep}
 use Rattle.object_core.proofs.Due.{steps_as_due, steps_unheard}
 use Rattle.object_core.proofs.Lanes.{took_none, sent_last}
-use Rattle.object_core.proofs.Rebuilding.{One, due_now, told_earlier, stepped, unseen, same_queue}
+use Rattle.object_core.proofs.Rebuilding.{One, hears_on, due_now, told_earlier, stepped, unseen, same_queue}
 use Rattle.object_core.specs.One.{Origin, messages}
 
 -- What the back's own contract says of a mounting.
@@ -87,6 +87,7 @@ module _ {D : Type 0} (moment_of : D → ℕ) (left_since : D → ℕ → List �
       stepped moment_of left_since told image faults_of script origin front inbox keeps old new line notices later out out one known telling
       (identity_still faults_of old new m.ending m.notice m.remounts)
       (λ free off. one.none_lost (sym (stuck_still faults_of old new m.ending m.notice m.remounts) ∙ free) on)
+      (λ off. (on, stuck_still faults_of old new m.ending m.notice m.remounts))
       (taken_still faults_of old new m.ending m.notice m.remounts)
       (ap messages (released_still faults_of old new m.ending m.notice m.remounts) ∙ one.left)
       (λ tells. record {
@@ -99,6 +100,8 @@ module _ {D : Type 0} (moment_of : D → ℕ) (left_since : D → ℕ → List �
         are = inl refl;
         come = sent_last notices later s.0 got s.1;
       })
+      (hears_on moment_of left_since told image faults_of script origin front inbox old new line notices out one telling (λ off. on) [] (one.lost ++ line.waiting) s.0
+      later.waiting s.2 refl (sent_last notices later s.0 got s.1))
 
   -- What the front is told of it is lost.
   unheard : is_stopped new ≡ true → Known → KeepsTelling told old.store new.store → later.got ≡ notices.got → sent_on later ≡ sent_on notices
@@ -111,7 +114,7 @@ module _ {D : Type 0} (moment_of : D → ℕ) (left_since : D → ℕ → List �
       (λ stand empty. not_mounted ending.cause (sym (ap stand_of wants) ∙ stand)) in
       stepped moment_of left_since told image faults_of script origin front inbox keeps old new line notices later out out one known telling
       (identity_still faults_of old noted ending notice remounts)
-      (λ free on. absurd (true≢false (sym off ∙ on)))
+      (λ free on. absurd (true≢false (sym off ∙ on))) (λ on. absurd (true≢false (sym off ∙ on)))
       (taken_still faults_of old noted ending notice remounts)
       (ap messages (released_still faults_of old noted ending notice remounts) ∙ one.left)
       (λ tells. record {
@@ -121,13 +124,14 @@ module _ {D : Type 0} (moment_of : D → ℕ) (left_since : D → ℕ → List �
         are = inr refl;
         come = sym (took_none notices later got said) ∙ sym (append-nil notices.waiting);
       })
+      (λ tells on goes. absurd (true≢false (sym off ∙ goes)))
 
   loses : is_stopped new ≡ true → Known → KeepsTelling told old.store new.store → later.got ≡ notices.got → sent_on later ≡ sent_on notices
       → IsAsBefore old new ⊎ ((ending : Ending) × (notice : Notice) × (old.mode ≡ Wanted ending) × Remounts faults_of old (record new { stopped = old.stopped }) ending notice)
       → After
   loses off known telling got said (inl same) =
       unseen moment_of left_since told image faults_of script origin front inbox keeps old new line notices later out out one known telling same.identity
-      (λ free on. absurd (true≢false (sym off ∙ on))) same.log same.held same.mode same.before same.durable got said refl
+      (λ free on. absurd (true≢false (sym off ∙ on))) (λ on. absurd (true≢false (sym off ∙ on))) same.log same.held same.mode same.before same.durable got said refl off
   loses off known telling got said (inr lost) = unheard off known telling got said lost.0 lost.1 lost.2 lost.3
 
   ran : (result : Result Stepped NoMemory) → is_stopped old ≡ false → Known → MendsBy moment_of left_since told image faults_of old new notices later result → After

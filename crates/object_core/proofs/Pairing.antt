@@ -1,15 +1,16 @@
 -- What a step of the back leaves of the pair.
-use Rattle.std.proofs.Common.{◌≡◌, sym, subst, List, ◌++◌}
+use Rattle.std.proofs.Common.{◌≡◌, sym, subst, false, List, [], ◌++◌, append-nil}
 use Rattle.storage_map.specs.Contents.{Contents}
-use Rattle.timeline.specs.Intake.{Kind}
+use Rattle.timeline.specs.Intake.{Kind, Front}
+use Rattle.timeline.specs.Logs.{Fronted, fronted}
 use Rattle.timeline.specs.declared.entry.Entry.{Entry}
 use Rattle.timeline.specs.declared.notice.Notice.{Notice}
-use Rattle.object_front.specs.Standing.{Stood}
+use Rattle.object_front.specs.Standing.{Stood, is_stopped}
 use Rattle.object_front.specs.declared.evaluated.Evaluated.{Evaluated}
 use Rattle.object_front.specs.declared.half.Half.{Half}
-use Rattle.object_history.specs.Pair.{Rear}
+use Rattle.object_history.specs.Pair.{Rear, IsPair}
 use Rattle.object_history.specs.Stepping.{IsRear, BackSteps, AreGiven}
-use Rattle.front_history.specs.Paired.{ArePaired}
+use Rattle.front_history.specs.Paired.{ArePaired, logged_with}
 use Rattle.front_history.specs.Turns.{BackStepsKeep}
 
 -- What a step of the back, as it is seen, tells of, and what of that is given.
@@ -35,3 +36,14 @@ paired_as k opened st half rear later line rest notices after same is_line is_no
     subst (λ (r : Rear). ArePaired k opened st half r rest after) (sym same)
     (subst (λ (l : List Entry). ArePaired k opened st half rear l after) (sym is_line)
     (subst (λ (n : List Notice). ArePaired k opened st half rear line n) (sym is_notices) paired))
+
+-- A front that goes on is a pair with its back as it stands.
+pub pair_now : (k : Kind) (opened : Contents) (st : Stood) (half : Half Evaluated) (rear : Rear) (line : List Entry) (notices : List Notice)
+    → is_stopped half ≡ false → ArePaired k opened st half rear line notices → IsPair k opened st.front (fronted half.log) rear line notices
+pair_now k opened st half rear line notices on paired =
+    let log : Fronted = fronted half.log in
+    subst (λ (sent : List Entry). IsPair k opened st.front (record log { sent = sent }) rear line notices) (append-nil log.sent)
+    (subst (λ (l : List Entry). IsPair k opened st.front (logged_with log []) rear l notices) (append-nil line)
+    (subst (λ (u : List Entry). IsPair k opened st.front (logged_with log u) rear (line ++ u) notices) (paired.sent_all on)
+    (subst (λ (n : List Notice). IsPair k opened st.front (logged_with log paired.unsent) rear (line ++ paired.unsent) (n ++ notices)) (paired.missed_none on)
+    (subst (λ (f : Front). IsPair k opened f (logged_with log paired.unsent) rear (line ++ paired.unsent) (paired.missed ++ notices)) (paired.stands on) paired.pair))))

@@ -1,6 +1,6 @@
 -- What a step of the back leaves of an object.
-use Rattle.std.proofs.Common.{◌≡◌, ◌∙◌, ap, sym, refl, subst, inl, inr, ℕ, List, [], ◌++◌, Option}
-use Rattle.std.specs.Prelude.{Bool, false}
+use Rattle.std.proofs.Common.{◌≡◌, ◌∙◌, ap, sym, refl, subst, inl, inr, true≢false, ℕ, List, [], ◌++◌, Option}
+use Rattle.std.specs.Prelude.{Bool, true, false, is_some}
 use Rattle.std.specs.List.{flat_map}
 use Rattle.batch_journal.specs.Rest.{disk_in}
 use Rattle.do_tree.specs.Tree.{Script}
@@ -8,7 +8,7 @@ use Rattle.lane.specs.Lanes.{Both, sent_on}
 use Rattle.storage_map.specs.Contents.{Contents}
 use Rattle.storage_map.specs.declared.op.Op.{Op}
 use Rattle.timeline.specs.Intake.{Kind}
-use Rattle.timeline.specs.Logs.{Backed, backed}
+use Rattle.timeline.specs.Logs.{Backed, backed, fronted}
 use Rattle.timeline.specs.declared.entry.Entry.{Entry}
 use Rattle.timeline.specs.declared.event.Event.{Event}
 use Rattle.timeline.specs.declared.message.Message.{Message as Sent}
@@ -24,15 +24,21 @@ use Rattle.output_gate.specs.declared.back.Back.{Back}
 use Rattle.output_gate.specs.declared.back.Mode.{Mode}
 use Rattle.output_gate.specs.declared.held.Held.{Held as BackHeld}
 use Rattle.output_gate.specs.declared.store.Store.{Store}
-use Rattle.object_history.specs.Pair.{Held, Stand, Rear}
+use Rattle.object_history.specs.Pair.{Held, Stand, Rear, IsPair}
+use Rattle.object_history.proofs.WellSaid.{delivers_well, answers_well}
 use Rattle.object_history.specs.Seen.{held_of, stand_of, rear_of}
+use Rattle.object_history.specs.Stepping.{BackSteps}
 use Rattle.front_history.specs.Paired.{ArePaired}
 use Rattle.front_history.specs.Turns.{BackStepsKeep}
+use Rattle.object_core.proofs.Alike.{class_for}
 use Rattle.object_core.proofs.Due.{IsDue, is_due, seen_is_rear}
+use Rattle.object_core.proofs.Hearing.{back_heard}
 use Rattle.object_core.proofs.Lanes.{took_none}
 use Rattle.object_core.proofs.Naming.{named_still}
-use Rattle.object_core.proofs.Pairing.{Hears, paired_on, paired_as}
-use Rattle.object_core.specs.One.{IsNamed, IsOneOf, Origin, TellsNow, messages}
+use Rattle.object_core.proofs.Pairing.{Hears, paired_on, paired_as, pair_now}
+use Rattle.object_core.specs.Heard.{IsHeard}
+use Rattle.object_core.specs.Fitting.{known_over}
+use Rattle.object_core.specs.One.{FitsItsBack, HearsOfBack, IsNamed, IsOneOf, Origin, TellsNow, messages}
 use Rattle.object_core.specs.Seen.{due_map, seen_of}
 
 abbrev looks : Contents → Backed → Stand → List Held → ℕ → ℕ → Rear
@@ -79,12 +85,43 @@ module _ {D : Type 0} (moment_of : D → ℕ) (left_since : D → ℕ → List �
   StaysPair old new line later_line notices later out one lost = TellsNow told new → (k : Kind) → ArePaired k (opened_map origin.start) one.st front (seen_of (opened_map origin.start) old) (one.lost ++ line.waiting) notices.waiting
       → ArePaired k (opened_map origin.start) one.st front (seen_of (opened_map origin.start) new) (lost ++ later_line.waiting) later.waiting
 
+  -- What is left to show besides: that the front hears of its back.
+  abbrev pub StillHears : (old new : Back D) (line : Both Entry) (notices : Both Notice) (out : Both Sent) → One old line notices out → List Entry → List Notice → Type 0
+  StillHears old new line notices out one under_way later = HearsOfBack told origin.start one.st front new under_way later
+
+  module _ (old new : Back D) (line : Both Entry) (notices : Both Notice) (out : Both Sent) (one : One old line notices out)
+      (telling : KeepsTelling told old.store new.store) (was_on : is_stopped new ≡ false → is_stopped old ≡ false) where
+    -- It does where it is told what the step tells.
+    pub hears_on : (got rest : List Entry) (tell later : List Notice) → BackSteps (rear_of old) (rear_of new) got tell → one.lost ++ line.waiting ≡ got ++ rest
+        → later ≡ notices.waiting ++ tell → StillHears old new line notices out one rest later
+    hears_on got rest tell later steps is_line come tells on goes =
+        let before : TellsNow told old = told_earlier old new telling one.back_stands tells in
+        let c = class_for one.st.class in
+        let k : Kind = kind_in script c.0 in
+        let opened : Contents = opened_map origin.start in
+        let pair = subst (λ (l : List Entry). IsPair k opened one.st.front (fronted front.log) (seen_of opened old) l notices.waiting) is_line
+        (pair_now k opened one.st front (seen_of opened old) (one.lost ++ line.waiting) notices.waiting on (one.pair before c.0 c.1)) in
+        subst (λ (n : List Notice). IsHeard one.st.front (seen_of opened new) rest n) (sym come)
+        (back_heard (record { on_event = delivers_well; on_answer = answers_well }) k opened one.st.front (fronted front.log) (rear_of old) (rear_of new)
+        got rest tell notices.waiting steps pair
+        (subst (λ (l : List Entry). IsHeard one.st.front (seen_of opened old) l notices.waiting) is_line (one.heard before on (was_on goes))))
+
+    -- So it does where nothing that is seen has changed.
+    pub hears_as : (rest : List Entry) (later : List Notice) → seen_of (opened_map origin.start) new ≡ seen_of (opened_map origin.start) old
+        → rest ≡ one.lost ++ line.waiting → later ≡ notices.waiting → StillHears old new line notices out one rest later
+    hears_as rest later same is_line is_notices tells on goes =
+        subst (λ (n : List Notice). IsHeard one.st.front (seen_of (opened_map origin.start) new) rest n) (sym is_notices)
+        (subst (λ (l : List Entry). IsHeard one.st.front (seen_of (opened_map origin.start) new) l notices.waiting) (sym is_line)
+        (subst (λ (r : Rear). IsHeard one.st.front r (one.lost ++ line.waiting) notices.waiting) (sym same)
+        (one.heard (told_earlier old new telling one.back_stands tells) on (was_on goes))))
+
   pub rebuilt : (old new : Back D) (line later_line : Both Entry) (notices later : Both Notice) (out later_out : Both Sent) (one : One old line notices out)
       → IsBack moment_of left_since told image faults_of origin.start origin.opening new → KeepsTelling told old.store new.store → IsNamed origin.object new
       → (lost : List Entry) → (new.stuck ≡ false → is_stopped new ≡ false → lost ≡ [])
       → front.log.sent.items ≡ new.log.taken.items ++ lost ++ later_line.waiting → messages new.log.released.items ≡ origin.left ++ sent_on later_out
-      → StaysPair old new line later_line notices later out one lost → One new later_line later later_out
-  rebuilt old new line later_line notices later out later_out one stands telling named lost none is_line left pair = record {
+      → StaysPair old new line later_line notices later out one lost → StillHears old new line notices out one (lost ++ later_line.waiting) later.waiting
+      → FitsItsBack told script origin.object front new → One new later_line later later_out
+  rebuilt old new line later_line notices later out later_out one stands telling named lost none is_line left pair heard fits = record {
     back_stands = stands;
     alarm = one.alarm;
     st = one.st;
@@ -98,31 +135,46 @@ module _ {D : Type 0} (moment_of : D → ℕ) (left_since : D → ℕ → List �
     is_line = is_line;
     left = left;
     pair = λ tells class is. pair tells (kind_in script class) (one.pair (told_earlier old new telling one.back_stands tells) class is);
+    fits = fits;
+    heard = heard;
   }
+
+  -- It fits still where nothing is taken.
+  pub fits_still : (old new : Back D) (line : Both Entry) (notices : Both Notice) (out : Both Sent) → One old line notices out → KeepsTelling told old.store new.store
+      → (is_stopped new ≡ false → (is_stopped old ≡ false) × (new.stuck ≡ old.stuck)) → new.identity ≡ old.identity → new.log.taken.items ≡ old.log.taken.items
+      → FitsItsBack told script origin.object front new
+  fits_still old new line notices out one telling was same taken has tells on goes =
+      let w = was goes in
+      let before = one.fits has (told_earlier old new telling one.back_stands tells) on w.0 in (
+        w.1 ∙ before.0,
+        ap is_some same ∙ before.1 ∙ ap (λ (entries : List Entry). known_over (is_some origin.object) entries) (sym taken),
+      )
 
   module _ (keeps : BackStepsKeep) (old new : Back D) (line : Both Entry) (notices later : Both Notice) (out later_out : Both Sent) (one : One old line notices out)
       (known : IsBack moment_of left_since told image faults_of origin.start origin.opening new) (telling : KeepsTelling told old.store new.store)
       (same : new.identity ≡ old.identity)
-      (none : new.stuck ≡ false → is_stopped new ≡ false → one.lost ≡ []) where
+      (none : new.stuck ≡ false → is_stopped new ≡ false → one.lost ≡ []) (was : is_stopped new ≡ false → (is_stopped old ≡ false) × (new.stuck ≡ old.stuck)) where
     -- What was sent is taken as it was.
     still_line : new.log.taken.items ≡ old.log.taken.items → front.log.sent.items ≡ new.log.taken.items ++ one.lost ++ line.waiting
     still_line taken = one.is_line ∙ ap (λ (x : List Entry). x ++ one.lost ++ line.waiting) (sym taken)
 
     -- A step that takes nothing of the line.
     pub stepped : new.log.taken.items ≡ old.log.taken.items → messages new.log.released.items ≡ origin.left ++ sent_on later_out
-        → (TellsNow told new → Hears (seen_of (opened_map origin.start) old) (seen_of (opened_map origin.start) new) [] notices.waiting later.waiting) → One new line later later_out
-    stepped taken left steps =
+        → (TellsNow told new → Hears (seen_of (opened_map origin.start) old) (seen_of (opened_map origin.start) new) [] notices.waiting later.waiting)
+        → StillHears old new line notices out one (one.lost ++ line.waiting) later.waiting → One new line later later_out
+    stepped taken left steps heard =
         rebuilt old new line line notices later out later_out one known telling (named_still origin.object old new same taken one.named) one.lost none (still_line taken) left
         (λ tells k paired.
         paired_on keeps k (opened_map origin.start) one.st front (seen_of (opened_map origin.start) old) (seen_of (opened_map origin.start) new)
         (one.lost ++ line.waiting) (one.lost ++ line.waiting) [] notices.waiting later.waiting (steps tells)
         (seen_is_rear moment_of left_since told image faults_of origin.start origin.opening old one.back_stands)
-        (seen_is_rear moment_of left_since told image faults_of origin.start origin.opening new known) refl paired)
+        (seen_is_rear moment_of left_since told image faults_of origin.start origin.opening new known) refl paired) heard
+        (fits_still old new line notices out one telling was same taken)
 
-    -- Nothing that is seen has changed.
+    -- Nothing that is seen has changed where memory was wanting.
     pub unseen : backed new.log ≡ backed old.log → new.held.items ≡ old.held.items → new.mode ≡ old.mode → new.before ≡ old.before → new.durable ≡ old.durable
-        → later.got ≡ notices.got → sent_on later ≡ sent_on notices → later_out ≡ out → One new line later later_out
-    unseen log held mode before durable got said left =
+        → later.got ≡ notices.got → sent_on later ≡ sent_on notices → later_out ≡ out → is_stopped new ≡ true → One new line later later_out
+    unseen log held mode before durable got said left off =
         rebuilt old new line line notices later out later_out one known telling
         (named_still origin.object old new same (ap (λ (x : Backed). x.taken) log) one.named) one.lost none (still_line (ap (λ (x : Backed). x.taken) log))
         (ap (λ (x : Backed). messages x.released) log ∙ one.left ∙ ap (λ (x : Both Sent). origin.left ++ sent_on x) (sym left))
@@ -130,3 +182,5 @@ module _ {D : Type 0} (moment_of : D → ℕ) (left_since : D → ℕ → List �
         paired_as k (opened_map origin.start) one.st front (seen_of (opened_map origin.start) old) (seen_of (opened_map origin.start) new)
         (one.lost ++ line.waiting) (one.lost ++ line.waiting) notices.waiting later.waiting
         (seen_same (opened_map origin.start) old new log held mode before durable) refl (sym (took_none notices later got said)) paired)
+        (λ tells on goes. absurd (true≢false (sym off ∙ goes)))
+        (fits_still old new line notices out one telling was same (ap (λ (x : Backed). x.taken) log))

@@ -30,7 +30,7 @@ use Rattle.object_history.specs.Seen.{rear_of}
 use Rattle.front_history.specs.Turns.{BackStepsKeep}
 use Rattle.object_core.proofs.Due.{steps_as_due}
 use Rattle.object_core.proofs.Lanes.{took_none, sent_last}
-use Rattle.object_core.proofs.Rebuilding.{One, disk_of, due_now, told_earlier, stepped, unseen, same_queue}
+use Rattle.object_core.proofs.Rebuilding.{One, hears_on, disk_of, due_now, told_earlier, stepped, unseen, same_queue}
 use Rattle.object_core.specs.One.{Origin, messages}
 
 -- What the back's own contract says of a release over two queues.
@@ -80,8 +80,10 @@ module _ {D : Type 0} (moment_of : D → ℕ) (left_since : D → ℕ → List �
       let telling = still_tells told old.store new.store same_disk in
       let disk = disk_of moment_of left_since told image faults_of script origin front inbox _ old one.back_stands in
       let log = r.log disk.0 disk.1 in
+      let steps = gate.release_steps moment_of left_since told image faults_of origin.start origin.opening (not (is_stopped old)) old new (sent_on notices) (sent_on later)
+      (sent_on out) (sent_on later_out) one.back_stands r in
       stepped moment_of left_since told image faults_of script origin front inbox keeps old new line notices later out later_out one known telling r.identity
-      (λ free off. one.none_lost (sym r.stuck ∙ free) on)
+      (λ free off. one.none_lost (sym r.stuck ∙ free) on) (λ off. (on, r.stuck))
       (ap (λ (x : Backed). x.taken) log ∙ log_taken old (moment_of disk.0) r.first r.first.body)
       (ap (λ (x : Backed). messages x.released) log ∙ log_left old (moment_of disk.0) r.first r.first.body
       ∙ ap (λ (x : List Sent). x ++ released_messages r.first.body) one.left ∙ append_assoc origin.left (sent_on out) (released_messages r.first.body)
@@ -89,15 +91,15 @@ module _ {D : Type 0} (moment_of : D → ℕ) (left_since : D → ℕ → List �
       (λ tells. record {
         heard = released_notices old r.first.body;
         given = released_notices old r.first.body;
-        steps = steps_as_due (opened_map origin.start) (rear_of old) (rear_of new) [] (released_notices old r.first.body)
-            (gate.release_steps moment_of left_since told image faults_of origin.start origin.opening (not (is_stopped old)) old new (sent_on notices) (sent_on later)
-            (sent_on out) (sent_on later_out) one.back_stands r)
+        steps = steps_as_due (opened_map origin.start) (rear_of old) (rear_of new) [] (released_notices old r.first.body) steps
             (due_now moment_of left_since told image faults_of script origin front inbox old
             (told_earlier moment_of left_since told image faults_of script origin front inbox old new telling one.back_stands tells) one.back_stands on)
             (due_now moment_of left_since told image faults_of script origin front inbox new tells known goes);
         are = inl refl;
         come = sent_last notices later (released_notices old r.first.body) got r.told;
       })
+      (hears_on moment_of left_since told image faults_of script origin front inbox old new line notices out one telling (λ off. on) [] (one.lost ++ line.waiting)
+      (released_notices old r.first.body) later.waiting steps refl (sent_last notices later (released_notices old r.first.body) got r.told))
 
   may_as : (may : Bool) → may_release old ≡ may → is_stopped old ≡ false → IsBack moment_of left_since told image faults_of origin.start origin.opening new
       → (result : Result Stepped NoMemory) → ReleasesBy moment_of left_since told image faults_of old new notices later out later_out result → After
@@ -108,8 +110,8 @@ module _ {D : Type 0} (moment_of : D → ℕ) (left_since : D → ℕ → List �
   may_as may is on known (Err fault) by =
       let s = by.stays in
       unseen moment_of left_since told image faults_of script origin front inbox keeps old new line notices later out later_out one known (still_tells told old.store new.store by.disk) s.identity
-      (λ free off. absurd (true≢false (sym by.stops.wanting ∙ off))) s.log (ap (λ h. h.items) s.held) s.mode s.before s.durable by.outlet s.told
-      (same_queue out later_out by.left (sym (took_none out later_out by.left s.left)))
+      (λ free off. absurd (true≢false (sym by.stops.wanting ∙ off))) (λ off. absurd (true≢false (sym by.stops.wanting ∙ off))) s.log (ap (λ h. h.items) s.held) s.mode s.before s.durable by.outlet s.told
+      (same_queue out later_out by.left (sym (took_none out later_out by.left s.left))) by.stops.wanting
 
   stopped_as : (off : Bool) → is_stopped old ≡ off → (result : Result Stepped NoMemory)
       → ReleasesBy moment_of left_since told image faults_of old new notices later out later_out result → After

@@ -1,6 +1,6 @@
 -- An object whose back takes an entry.
 use Rattle.std.proofs.Common.{◌≡◌, ◌∙◌, ap, sym, refl, subst, inl, inr, true≢false, ℕ, List, [], ◌∷◌, ◌++◌, append-nil, append_assoc, Option}
-use Rattle.std.specs.Prelude.{Bool, true, false, not, ◌&&◌, ◌⊎◌, option_to_list, Result, Ok, Err, OnOk, OnErr}
+use Rattle.std.specs.Prelude.{Bool, true, false, not, ◌&&◌, ◌⊎◌, is_some, option_to_list, Result, Ok, Err, OnOk, OnErr}
 use Rattle.do_tree.specs.Tree.{Script}
 use Rattle.do_value.specs.declared.fault.NoMemory.{NoMemory}
 use Rattle.lane.specs.Lanes.{Both, sent_on, StartsWith}
@@ -13,11 +13,12 @@ use Rattle.timeline.specs.declared.message.Message.{Message as Sent}
 use Rattle.timeline.specs.declared.notice.Notice.{Notice}
 use Rattle.timeline.specs.declared.notice.Stepped.{Stepped}
 use Rattle.timeline.specs.declared.notice.Stepped.TheVariants.{Did, Nothing}
+use Rattle.object_front.specs.Standing as standing
 use Rattle.object_front.specs.declared.evaluated.Evaluated.{Evaluated}
 use Rattle.object_front.specs.declared.half.Half.{Half}
 use Rattle.output_gate.proofs.Stored.{still_tells}
 use Rattle.output_gate.proofs.Unfit.{unfit_identity, unfit_log, unfit_held, unfit_notice, unfit_mode, unfit_before, fit_taken, released_still}
-use Rattle.output_gate.specs.Entering.{Enters, IsIdle, Takes, LosesEntry, is_unfit, notice_at}
+use Rattle.output_gate.specs.Entering.{identity_after, Enters, IsIdle, Takes, LosesEntry, is_unfit, notice_at}
 use Rattle.output_gate.specs.Serving.{IsBack, KeepsBack, StopsBy, IsAsBefore, is_stopped}
 use Rattle.output_gate.specs.Storing.{KeepsDisk, KeepsTelling}
 use Rattle.output_gate.specs.Taking.{may_take, fit_of}
@@ -29,11 +30,13 @@ use Rattle.object_history.specs.Seen.{rear_of}
 use Rattle.object_history.specs.Stepping.{BackSteps}
 use Rattle.front_history.specs.Turns.{BackStepsKeep}
 use Rattle.object_core.proofs.Due.{steps_as_due, steps_unheard, seen_is_rear}
+use Rattle.object_core.proofs.Fitting.{one_fits}
 use Rattle.object_core.proofs.Lanes.{took_first, took_none, sent_last}
 use Rattle.object_core.proofs.Naming.{named_enters, named_still}
 use Rattle.object_core.proofs.Pairing.{Hears, paired_on, paired_as}
-use Rattle.object_core.proofs.Rebuilding.{One, StaysPair, due_now, told_earlier, rebuilt, seen_same, same_queue}
-use Rattle.object_core.specs.One.{Origin, TellsNow, messages}
+use Rattle.object_core.proofs.Rebuilding.{One, StaysPair, StillHears, hears_on, hears_as, due_now, told_earlier, rebuilt, seen_same, same_queue}
+use Rattle.object_core.specs.Fitting.{known_over}
+use Rattle.object_core.specs.One.{FitsItsBack, HasItsClass, Origin, TellsNow, messages}
 use Rattle.object_core.specs.Seen.{seen_of}
 
 -- What the back's own contract says of a take over two queues.
@@ -98,7 +101,7 @@ module _ {D : Type 0} (moment_of : D → ℕ) (left_since : D → ℕ → List �
       (sym (same_queue notices later told_got (sym (took_none notices later told_got told_same)))) one))
 
   module _ (e : Entry) (none : one.lost ≡ []) (known : Known) (same_disk : KeepsDisk old.store new.store)
-      (took : later_line.got ≡ line.got ++ e ∷ []) (sent : sent_on later_line ≡ sent_on line) (kept : later.got ≡ notices.got) where
+      (took : later_line.got ≡ line.got ++ e ∷ []) (sent : sent_on later_line ≡ sent_on line) (kept : later.got ≡ notices.got) (on : is_stopped old ≡ false) where
     telling : KeepsTelling told old.store new.store
     telling = still_tells told old.store new.store same_disk
 
@@ -108,10 +111,25 @@ module _ {D : Type 0} (moment_of : D → ℕ) (left_since : D → ℕ → List �
     sent_so : front.log.sent.items ≡ old.log.taken.items ++ (e ∷ later_line.waiting)
     sent_so = one.is_line ∙ append_assoc old.log.taken.items one.lost line.waiting ∙ ap (λ (x : List Entry). old.log.taken.items ++ x) waits_first
 
+    -- It fits.
+    fits_so : HasItsClass script origin.object → TellsNow told new → standing.is_stopped front ≡ false → may_take old ≡ true
+        → (is_unfit (fit_of old e) ≡ false) × (is_some (identity_after (fit_of old e) old.identity e.body) ≡ known_over (is_some origin.object) (old.log.taken.items ++ e ∷ []))
+    fits_so has tells goes_on may =
+        let before : TellsNow told old = told_earlier moment_of left_since told image faults_of script origin front inbox old new telling one.back_stands tells in
+        one_fits moment_of left_since told image faults_of script origin front inbox old line notices out one has before goes_on on may e later_line.waiting waits_first
+
+    fits_behind : Enters old new e → is_unfit (fit_of old e) ≡ false → may_take old ≡ true → FitsItsBack told script origin.object front new
+    fits_behind enters is may has tells goes_on goes =
+        let taken : new.log.taken.items ≡ old.log.taken.items ++ e ∷ [] = ap (λ (x : Backed). x.taken) enters.log ∙ fit_taken (fit_of old e) (backed old.log) e is in (
+          enters.stuck ∙ is,
+          ap is_some enters.identity ∙ (fits_so has tells goes_on may).1 ∙ ap (λ (entries : List Entry). known_over (is_some origin.object) entries) (sym taken),
+        )
+
     -- The entry isn't logged, and nothing else that is seen changes.
     unlogged : backed new.log ≡ backed old.log → new.held.items ≡ old.held.items → new.mode ≡ old.mode → new.before ≡ old.before → new.durable ≡ old.durable
-        → new.identity ≡ old.identity → (new.stuck ≡ false → is_stopped new ≡ false → ⊥) → sent_on later ≡ sent_on notices → After
-    unlogged log held mode before durable same bad told_same =
+        → new.identity ≡ old.identity → (new.stuck ≡ false → is_stopped new ≡ false → ⊥) → FitsItsBack told script origin.object front new
+        → sent_on later ≡ sent_on notices → After
+    unlogged log held mode before durable same bad fits told_same =
         rebuilt moment_of left_since told image faults_of script origin front inbox old new line later_line notices later out out one known telling
         (named_still origin.object old new same (ap (λ (x : Backed). x.taken) log) one.named) (e ∷ [])
         (λ free on. absurd (bad free on))
@@ -119,19 +137,24 @@ module _ {D : Type 0} (moment_of : D → ℕ) (left_since : D → ℕ → List �
         (ap (λ (x : Backed). messages x.released) log ∙ one.left)
         (λ tells k paired. paired_as k opened one.st front (seen_of opened old) (seen_of opened new) (one.lost ++ line.waiting) (e ∷ later_line.waiting)
         notices.waiting later.waiting (seen_same opened old new log held mode before durable) (sym waits_first) (sym (took_none notices later kept told_same)) paired)
+        (hears_as moment_of left_since told image faults_of script origin front inbox old new line notices out one telling (λ goes. on) (e ∷ later_line.waiting) later.waiting
+        (seen_same opened old new log held mode before durable) (sym waits_first) (sym (took_none notices later kept told_same))) fits
 
-    unfit_enters : Enters old new e → is_unfit (fit_of old e) ≡ true → sent_on later ≡ sent_on notices → After
-    unfit_enters enters is told_same =
+    unfit_enters : Enters old new e → is_unfit (fit_of old e) ≡ true → may_take old ≡ true → sent_on later ≡ sent_on notices → After
+    unfit_enters enters is may told_same =
         unlogged (enters.log ∙ unfit_log (fit_of old e) (backed old.log) e is)
         (enters.held ∙ ap (λ (x : List BackHeld). old.held.items ++ x) (unfit_held (fit_of old e) old e is) ∙ append-nil old.held.items)
         (enters.mode ∙ unfit_mode (fit_of old e) old.mode e.body is) (enters.before ∙ unfit_before (fit_of old e) old.before e.body is) enters.durable
         (enters.identity ∙ unfit_identity (fit_of old e) old.identity e.body is)
-        (λ free on. true≢false (sym is ∙ sym enters.stuck ∙ free)) told_same
+        (λ free on. true≢false (sym is ∙ sym enters.stuck ∙ free))
+        (λ has tells goes_on goes. absurd (true≢false (sym is ∙ (fits_so has tells goes_on may).0))) told_same
 
     -- The entry is logged.
     logs : Enters old new e → is_unfit (fit_of old e) ≡ false
-        → (TellsNow told new → Hears (seen_of opened old) (seen_of opened new) (e ∷ []) notices.waiting later.waiting) → After
-    logs enters is steps =
+        → (TellsNow told new → Hears (seen_of opened old) (seen_of opened new) (e ∷ []) notices.waiting later.waiting)
+        → StillHears moment_of left_since told image faults_of script origin front inbox old new line notices out one later_line.waiting later.waiting
+        → FitsItsBack told script origin.object front new → After
+    logs enters is steps heard fits =
         let taken : new.log.taken.items ≡ old.log.taken.items ++ e ∷ [] = ap (λ (x : Backed). x.taken) enters.log ∙ fit_taken (fit_of old e) (backed old.log) e is in
         rebuilt moment_of left_since told image faults_of script origin front inbox old new line later_line notices later out out one known telling (named_enters origin.object old new e taken one.named enters) []
         (λ free on. refl)
@@ -141,7 +164,7 @@ module _ {D : Type 0} (moment_of : D → ℕ) (left_since : D → ℕ → List �
         (λ tells k paired.
         paired_on keeps k opened one.st front (seen_of opened old) (seen_of opened new) (one.lost ++ line.waiting) later_line.waiting (e ∷ []) notices.waiting later.waiting
         (steps tells) (seen_is_rear moment_of left_since told image faults_of origin.start origin.opening old one.back_stands)
-        (seen_is_rear moment_of left_since told image faults_of origin.start origin.opening new known) waits_first paired)
+        (seen_is_rear moment_of left_since told image faults_of origin.start origin.opening new known) waits_first paired) heard fits
 
     -- The step of which the laws speak.
     steps_so : Enters old new e → is_unfit (fit_of old e) ≡ false → may_take old ≡ true
@@ -150,11 +173,11 @@ module _ {D : Type 0} (moment_of : D → ℕ) (left_since : D → ℕ → List �
         gate.take_steps moment_of left_since told image faults_of origin.start origin.opening (not (is_stopped old)) old new one.back_stands may e enters is
 
     -- It is taken, and the front is told.
-    entered_as : (unfit : Bool) → is_unfit (fit_of old e) ≡ unfit → Enters old new e → may_take old ≡ true → is_stopped old ≡ false → is_stopped new ≡ false
+    entered_as : (unfit : Bool) → is_unfit (fit_of old e) ≡ unfit → Enters old new e → may_take old ≡ true → is_stopped new ≡ false
         → sent_on later ≡ sent_on notices ++ option_to_list (notice_at old e) → After
-    entered_as true is enters may on goes said =
-        unfit_enters enters is (said ∙ ap (λ (n : Option Notice). sent_on notices ++ option_to_list n) (unfit_notice (fit_of old e) e old.cache is) ∙ append-nil (sent_on notices))
-    entered_as false is enters may on goes said =
+    entered_as true is enters may goes said =
+        unfit_enters enters is may (said ∙ ap (λ (n : Option Notice). sent_on notices ++ option_to_list n) (unfit_notice (fit_of old e) e old.cache is) ∙ append-nil (sent_on notices))
+    entered_as false is enters may goes said =
         logs enters is (λ tells. record {
           heard = option_to_list (notice_at old e);
           given = option_to_list (notice_at old e);
@@ -165,11 +188,14 @@ module _ {D : Type 0} (moment_of : D → ℕ) (left_since : D → ℕ → List �
           are = inl refl;
           come = sent_last notices later (option_to_list (notice_at old e)) kept said;
         })
+        (hears_on moment_of left_since told image faults_of script origin front inbox old new line notices out one telling (λ off. on) (e ∷ []) later_line.waiting
+        (option_to_list (notice_at old e)) later.waiting (steps_so enters is may) waits_first (sent_last notices later (option_to_list (notice_at old e)) kept said))
+        (fits_behind enters is may)
 
     -- It is taken, and what the front is told is lost.
-    unheard_as : (unfit : Bool) → is_unfit (fit_of old e) ≡ unfit → Enters old new e → may_take old ≡ true → sent_on later ≡ sent_on notices → After
-    unheard_as true is enters may said = unfit_enters enters is said
-    unheard_as false is enters may said =
+    unheard_as : (unfit : Bool) → is_unfit (fit_of old e) ≡ unfit → Enters old new e → may_take old ≡ true → is_stopped new ≡ true → sent_on later ≡ sent_on notices → After
+    unheard_as true is enters may off said = unfit_enters enters is may said
+    unheard_as false is enters may off said =
         let s = steps_unheard opened (rear_of old) (rear_of new) (e ∷ []) (option_to_list (notice_at old e)) (steps_so enters is may) (λ stand empty. absurd (not_empty e empty)) in
         logs enters is (λ tells. record {
           heard = s.0;
@@ -178,13 +204,15 @@ module _ {D : Type 0} (moment_of : D → ℕ) (left_since : D → ℕ → List �
           are = inr refl;
           come = sym (took_none notices later kept said) ∙ sym (append-nil notices.waiting);
         })
+        (λ tells goes_on goes. absurd (true≢false (sym off ∙ goes))) (fits_behind enters is may)
 
     -- Memory was wanting.
     loses : LosesEntry old new line.got later_line.got (sent_on notices) (sent_on later) → may_take old ≡ true → is_stopped new ≡ true
         → (IsAsBefore old new ⊎ Enters old new e) → sent_on later ≡ sent_on notices → After
     loses lost may off (inl same) said =
-        unlogged same.log same.held same.mode same.before same.durable same.identity (λ free on. true≢false (sym off ∙ on)) said
-    loses lost may off (inr enters) said = unheard_as (is_unfit (fit_of old e)) refl enters may said
+        unlogged same.log same.held same.mode same.before same.durable same.identity (λ free on. true≢false (sym off ∙ on))
+        (λ has tells goes_on goes. absurd (true≢false (sym off ∙ goes))) said
+    loses lost may off (inr enters) said = unheard_as (is_unfit (fit_of old e)) refl enters may off said
 
   may_not : may_take old ≡ true → old.stuck ≡ false
   may_not may = free_of old.stuck _ _ may
@@ -202,10 +230,10 @@ module _ {D : Type 0} (moment_of : D → ℕ) (left_since : D → ℕ → List �
       idle i.back i.took by.inlet i.told by.outlet
   may_as true may on known (Ok Did) by =
       let t = by.took refl in
-      entered_as t.entry (one.none_lost (may_not may) on) known by.disk t.took by.inlet by.outlet (is_unfit (fit_of old t.entry)) refl t.enters may on by.stops.good t.told
+      entered_as t.entry (one.none_lost (may_not may) on) known by.disk t.took by.inlet by.outlet on (is_unfit (fit_of old t.entry)) refl t.enters may by.stops.good t.told
   may_as true may on known (Err fault) by =
       let l = by.lost on in
-      loses l.entry (one.none_lost (may_not may) on) known by.disk l.took by.inlet by.outlet l may by.stops.wanting l.entered l.told
+      loses l.entry (one.none_lost (may_not may) on) known by.disk l.took by.inlet by.outlet on l may by.stops.wanting l.entered l.told
 
   stopped_as : (off : Bool) → is_stopped old ≡ off → (result : Result Stepped NoMemory)
       → TakesBy moment_of left_since told image faults_of old new line later_line notices later result → After

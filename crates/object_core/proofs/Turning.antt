@@ -1,18 +1,18 @@
 -- An object whose front takes a notice or an event.
-use Rattle.std.proofs.Common.{◌≡◌, ◌∙◌, ap, sym, refl, subst, inl, inr, true≢false, ℕ, List, ◌++◌, append_assoc, Option, Some, None}
+use Rattle.std.proofs.Common.{◌≡◌, ◌∙◌, ap, sym, refl, subst, inl, inr, true≢false, ℕ, List, ◌++◌, append_assoc, Option}
 use Rattle.std.specs.Prelude.{Bool, true, false, Result, Ok, Err, OnOk, OnErr}
 use Rattle.do_tree.specs.Tree.{Script}
 use Rattle.do_value.specs.declared.fault.NoMemory.{NoMemory}
 use Rattle.lane.specs.Lanes.{Both, sent_on, StartsWith}
 use Rattle.storage_map.specs.declared.op.Op.{Op}
-use Rattle.timeline.specs.Intake.{Taken, opened}
+use Rattle.timeline.specs.Intake.{Taken, events_in, opened}
 use Rattle.timeline.specs.Logs.{fronted}
 use Rattle.timeline.specs.declared.entry.Entry.{Entry}
 use Rattle.timeline.specs.declared.event.Event.{Event}
 use Rattle.timeline.specs.declared.message.Message.{Message as Sent}
 use Rattle.timeline.specs.declared.notice.Notice.{Notice}
-use Rattle.object_front.specs.Came.{HasGot, EventsCome}
-use Rattle.object_front.specs.Classed.{ClassComes, IsClassed}
+use Rattle.object_front.specs.Came.{events, HasGot, EventsCome}
+use Rattle.object_front.specs.Classed.{class_behind, ClassComes, IsClassed}
 use Rattle.object_front.specs.Evaluated.{seen}
 use Rattle.object_front.specs.Sending.{AreSentToo}
 use Rattle.object_front.specs.Standing.{Stood, IsClass, IsHalf, IsTakenBy, is_stopped, kind_in}
@@ -26,8 +26,14 @@ use Rattle.output_gate.specs.Telling.{opened_map}
 use Rattle.output_gate.specs.declared.back.Back.{Back}
 use Rattle.front_history.proofs.Lanes.{under_way}
 use Rattle.front_history.specs.Turns.{AreUnderWay, TurnSteps}
+use Rattle.object_core.proofs.Alike.{class_for}
+use Rattle.object_core.proofs.Attending.{turn_heard}
 use Rattle.object_core.proofs.Due.{seen_is_rear}
-use Rattle.object_core.specs.One.{HasTaken, IsOneOf, Origin, TellOfPair, class_in}
+use Rattle.object_core.proofs.FitTaken.{events_logged, fit_more, taken_fit}
+use Rattle.object_core.proofs.Lanes.{took_none}
+use Rattle.object_core.specs.Fitting.{IsFitIntake}
+use Rattle.object_core.specs.Heard.{IsHeard}
+use Rattle.object_core.specs.One.{HasTaken, HearsOfBack, IsOneOf, Origin, TellOfPair, class_in}
 use Rattle.object_core.specs.Seen.{seen_of}
 
 -- A front of an object can turn.
@@ -40,11 +46,6 @@ module _ {D : Type 0} (moment_of : D → ℕ) (left_since : D → ℕ → List �
 
   pub can_turn : CanTurn seen script front
   can_turn = can_as (is_stopped front) refl
-
--- A class that the front may have.
-class_for : (class : Option ℕ) → (c : ℕ) × IsClass class c
-class_for None = (0, tt)
-class_for (Some class) = (class, refl)
 
 -- What the front's own contract says of a turn over three queues.
 pub record TurnsBy (script : Script) (old new : Half Evaluated) (inbox later_inbox : Both Event) (line later_line : Both Entry) (notices later : Both Notice)
@@ -81,9 +82,10 @@ module _ {D : Type 0} (moment_of : D → ℕ) (left_since : D → ℕ → List �
         ∙ append_assoc taken (one.lost ++ line.waiting) way.sent ∙ ap (λ (x : List Entry). taken ++ x) (sym way.behind)
         ∙ sym (append_assoc taken one.lost later_line.waiting)
 
-    turned : (st : Stood) → (is_stopped new ≡ false → IsHalf seen script new st) → (is_stopped new ≡ false → HasTaken script one.alarm new st)
-        → IsClassed script (class_in script origin.object) new st → HasGot new st later_inbox.got → TellOfPair told script origin.start st new back (one.lost ++ later_line.waiting) later.waiting → After
-    turned st stands has_taken classed has_got pair = record {
+    turned : (st : Stood) → (is_stopped new ≡ false → IsHalf seen script new st) → (is_stopped new ≡ false → HasTaken script (class_in script origin.object) one.alarm new st)
+        → IsClassed script (class_in script origin.object) new st → HasGot new st later_inbox.got → TellOfPair told script origin.start st new back (one.lost ++ later_line.waiting) later.waiting
+        → HearsOfBack told origin.start st new back (one.lost ++ later_line.waiting) later.waiting → (is_stopped new ≡ false → is_stopped old ≡ false) → After
+    turned st stands has_taken classed has_got pair heard was = record {
       back_stands = one.back_stands;
       alarm = one.alarm;
       st = st;
@@ -97,23 +99,31 @@ module _ {D : Type 0} (moment_of : D → ℕ) (left_since : D → ℕ → List �
       is_line = is_line;
       left = one.left;
       pair = pair;
+      fits = λ has tells on goes. one.fits has tells (was on) goes;
+      heard = heard;
     }
 
     rests : IsStill old new (inbox.got, notices.got, sent_on line) (later_inbox.got, later.got, sent_on later_line) → After
     rests still =
         turned one.st
         (λ on. subst (λ (h : Half Evaluated). IsHalf seen script h one.st) (sym still.half) (one.front_stands (sym (ap is_stopped still.half) ∙ on)))
-        (λ on. subst (λ (h : Half Evaluated). HasTaken script one.alarm h one.st) (sym still.half) (one.has_taken (sym (ap is_stopped still.half) ∙ on)))
+        (λ on. subst (λ (h : Half Evaluated). HasTaken script (class_in script origin.object) one.alarm h one.st) (sym still.half) (one.has_taken (sym (ap is_stopped still.half) ∙ on)))
         (subst (λ (h : Half Evaluated). IsClassed script (class_in script origin.object) h one.st) (sym still.half) one.classed)
         (come.rests old new one.st (inbox.got, notices.got, sent_on line) (later_inbox.got, later.got, sent_on later_line) one.has_got still)
         (λ tells class is. laws.rests (kind_in script class) (opened_map origin.start) old new one.st (inbox.got, notices.got, sent_on line)
         (later_inbox.got, later.got, sent_on later_line) (seen_of (opened_map origin.start) back) (one.lost ++ line.waiting) (one.lost ++ later_line.waiting)
         notices.waiting later.waiting (one.pair tells class is) way still)
+        (λ tells on goes.
+        subst (λ (n : List Notice). IsHeard one.st.front (seen_of (opened_map origin.start) back) (one.lost ++ later_line.waiting) n) (took_none notices later still.no_notice by.told)
+        (subst (λ (l : List Entry). IsHeard one.st.front (seen_of (opened_map origin.start) back) (one.lost ++ l) notices.waiting) (took_none line later_line by.said still.no_entry)
+        (one.heard tells (sym (ap is_stopped still.half) ∙ on) goes)))
+        (λ on. sym (ap is_stopped still.half) ∙ on)
 
     -- what it had taken before
     had_taken : is_stopped old ≡ false → (led : Led) → IsTaken script one.st inbox.got later_inbox.got notices.got later.got (sent_on notices) led
         → (class : ℕ) → IsClass led.stood.class class
         → (taken : List Taken) × IsTakenBy (kind_in script class) (opened one.alarm) taken one.st.front (fronted old.log)
+        × IsFitIntake script (class_in script origin.object) taken
     had_taken on led taken class is =
         one.has_taken on class (laws.class script class one.st inbox.got later_inbox.got notices.got later.got (sent_on notices) led taken is)
 
@@ -124,13 +134,27 @@ module _ {D : Type 0} (moment_of : D → ℕ) (left_since : D → ℕ → List �
         turned turns.led.stood (λ on_then. turns.moves.half)
         (λ on_then class is.
         let t = had_taken on turns.led turns.taken class is in
-        (t.0 ++ turns.led.item, turns.moves.taken class (opened one.alarm) t.0 is t.1))
+        let behind : one.st.class ≡ class_behind script (class_in script origin.object) (events_in t.0) =
+        one.classed.now on ∙ ap (λ (es : List Event). class_behind script (class_in script origin.object) es)
+        (ap events t.1.delivered ∙ events_logged (kind_in script class) (opened one.alarm) t.0) in (
+          t.0 ++ turns.led.item,
+          turns.moves.taken class (opened one.alarm) t.0 is t.1,
+          fit_more script (class_in script origin.object) t.0 turns.led.item t.2
+              (subst (λ (c : Option ℕ). IsFitIntake script c turns.led.item) behind
+              (taken_fit script one.st inbox.got later_inbox.got notices.got later.got (sent_on notices) turns.led turns.taken)),
+        ))
         (classes.goes_on script k.0 (class_in script origin.object) (opened one.alarm) had.0 old new one.st inbox.got later_inbox.got notices.got later.got (sent_on notices) on one.classed had.1 turns k.1)
         (come.goes_on script k.0 (opened one.alarm) had.0 old new one.st inbox.got later_inbox.got notices.got later.got (sent_on notices) on one.has_got had.1 turns k.1)
         (λ tells class is. laws.goes_on script class (opened_map origin.start) old new one.st inbox.got later_inbox.got notices.got later.got (sent_on notices)
         (seen_of (opened_map origin.start) back) (one.lost ++ line.waiting) (one.lost ++ later_line.waiting) notices.waiting later.waiting
         (seen_is_rear moment_of left_since told image faults_of origin.start origin.opening back one.back_stands) on
         (one.pair tells class (laws.class script class one.st inbox.got later_inbox.got notices.got later.got (sent_on notices) turns.led turns.taken is)) way turns is)
+        (λ tells on_then goes.
+        turn_heard script k.0 (opened_map origin.start) (opened one.alarm) had.0 old new one.st inbox.got later_inbox.got notices.got later.got (sent_on notices)
+        (seen_of (opened_map origin.start) back) (one.lost ++ line.waiting) (one.lost ++ later_line.waiting) notices.waiting later.waiting on
+        (one.pair tells k.0 (laws.class script k.0 one.st inbox.got later_inbox.got notices.got later.got (sent_on notices) turns.led turns.taken k.1)) way had.1 turns k.1
+        (one.heard tells on goes))
+        (λ on_then. on)
 
     halts : is_stopped old ≡ false → Halts script old new one.st inbox.got later_inbox.got notices.got later.got (sent_on notices) → After
     halts on stops =
@@ -143,6 +167,7 @@ module _ {D : Type 0} (moment_of : D → ℕ) (left_since : D → ℕ → List �
         (seen_of (opened_map origin.start) back) (one.lost ++ line.waiting) (one.lost ++ later_line.waiting) notices.waiting later.waiting
         (seen_is_rear moment_of left_since told image faults_of origin.start origin.opening back one.back_stands) on
         (one.pair tells class (laws.class script class one.st inbox.got later_inbox.got notices.got later.got (sent_on notices) stops.led stops.taken is)) way stops is)
+        (λ tells on_then goes. absurd (true≢false (sym stops.stops.stopped ∙ on_then))) (λ on_then. on)
 
   ran : is_stopped old ≡ false → (result : Result Turned NoMemory) → TurnsBy script old new inbox later_inbox line later_line notices later result → After
   ran on (Ok Ran) by = goes (Ok Ran) by on (by.ran refl one.st (one.front_stands on))

@@ -1,5 +1,5 @@
 -- What holds of each object whose halves run on one thread, over every list of choices.
-use Rattle.std.specs.Prelude.{◌≡◌, ℕ, suc, false, List, ◌++◌, Option}
+use Rattle.std.specs.Prelude.{◌≡◌, ℕ, suc, false, List, [], ◌++◌, map, Option}
 use Rattle.std.specs.List.{flat_map}
 use Rattle.batch_journal.specs.Moments.{IsTold}
 use Rattle.batch_journal.specs.declared.mount.Mounted.{Mounted}
@@ -7,13 +7,15 @@ use Rattle.do_tree.specs.Tree.{Script}
 use Rattle.lane.specs.Lanes.{sent_on}
 use Rattle.storage_map.specs.Contents.{Contents}
 use Rattle.storage_map.specs.declared.op.Op.{Op}
-use Rattle.timeline.specs.Headline.{IsHistory, IsPrefix, parts_of}
-use Rattle.timeline.specs.History.{incarnation_at, incarnations, resets}
+use Rattle.timeline.specs.Headline.{AreDurable, IsHistory, IsPrefix, IsQuiet, parts_of, pass_of, release_of}
+use Rattle.timeline.specs.History.{history, incarnation_at, incarnations, resets}
 use Rattle.timeline.specs.Intake.{Front, Mode, Taken, opened}
 use Rattle.timeline.specs.Laws.{IsAtRest}
 use Rattle.timeline.specs.Logs.{Backed, Fronted, fronted, backed}
+use Rattle.timeline.specs.Passed.{passed}
 use Rattle.timeline.specs.Told.{spoken, spoken_in}
 use Rattle.timeline.specs.declared.entry.Entry.{Entry}
+use Rattle.timeline.specs.declared.message.Message.{Message}
 use Rattle.object_front.specs.Came.{HasGot}
 use Rattle.object_front.specs.Classed.{IsClassed}
 use Rattle.object_front.specs.Evaluated.{seen}
@@ -21,11 +23,14 @@ use Rattle.object_front.specs.Standing.{Stood, IsClass, IsHalf, IsTakenBy, fresh
 use Rattle.object_front.specs.declared.evaluated.Evaluated.{Evaluated}
 use Rattle.object_front.specs.declared.half.Half.{Half}
 use Rattle.output_gate.specs.Logs.{IsFresh}
+use Rattle.output_gate.specs.Serving as serving
 use Rattle.output_gate.specs.Storing.{IsDiskOf}
 use Rattle.output_gate.specs.Telling.{HasTold, opened_map}
 use Rattle.output_gate.specs.declared.back.Back.{Back}
 use Rattle.front_history.specs.Paired.{logged_with}
-use Rattle.object_core.specs.One.{AreFresh, IsNamed, IsOne, Origin, TellsNow, class_in, messages}
+use Rattle.object_core.specs.One.{AreFresh, HasItsClass, IsNamed, IsOne, Origin, TellsNow, class_in, messages}
+use Rattle.object_core.specs.Stepping.{HasNothing}
+use Rattle.object_core.specs.declared.choice.Choice.TheVariants.{Turn, Take, Flush, Release, Mend}
 use Rattle.object_core.specs.declared.object.Core.{Core}
 
 -- A back and a front that were just made, the front with the class of the slot's object and with its alarm, are those of a slot that was
@@ -93,3 +98,41 @@ abbrev pub OneHasTold : {D : Type 0} → (D → ℕ) → (D → ℕ → List ℕ
 OneHasTold {D} moment_of left_since told image faults_of core = (script : Script) (origin : Origin) (disk : D)
     → IsDiskOf core.back.store disk → IsTold (told disk) → IsOne moment_of left_since told image faults_of script origin core
     → HasTold moment_of left_since faults_of core.back.identity origin.start origin.opening (fronted core.front.half.log) disk (backed core.back.log)
+
+-- Nothing is to be done in an object, whatever is chosen, but to give it an event.
+pub record HasNothingToDo {D : Type 0} (script : Script) (core : Core D) : Type 0 where
+  pub turn : HasNothing script core Turn
+  pub take : HasNothing script core Take
+  pub flush : HasNothing script core Flush
+  pub release : HasNothing script core Release
+  pub mend : HasNothing script core Mend
+
+-- Neither half is stopped for want of memory, and the front doesn't stand still at what no back and no switch sends.
+pub record GoesOn {D : Type 0} (core : Core D) : Type 0 where
+  pub front : is_stopped core.front.half ≡ false
+  pub back : serving.is_stopped core.back ≡ false
+  pub fits : core.front.half.stuck ≡ false
+
+-- Then no event waits, and the logs are those of a quiet object: all that was sent was taken, all that is to be said was said, all that was written is durable,
+-- all that passes was released, and each event that was got was delivered, answered by `Down` or dropped, or may not enter.
+abbrev pub OneIsQuiet : {D : Type 0} → (D → ℕ) → (D → ℕ → List ℕ → Type 0) → (D → Option (List ℕ)) → (D → List ℕ → Type 0) → (D → ℕ) → Core D → Type 0
+OneIsQuiet moment_of left_since told image faults_of core = (script : Script) (origin : Origin) → TellsNow told core.back
+    → (one : IsOne moment_of left_since told image faults_of script origin core) → (class : ℕ) → IsClass one.st.class class
+    → HasItsClass script origin.object → GoesOn core → HasNothingToDo script core → origin.left ≡ []
+    → (core.inbox.waiting ≡ [])
+    × IsQuiet script class (opened_map origin.start) (fronted core.front.half.log) (backed core.back.log) core.inbox.got (sent_on core.out)
+
+-- What an object has let go in which nothing is to be done, also where its front stands still: all that was sent was taken, all that was written is
+-- durable, and all that passes was released, and has left.
+pub record HasLetGo (front : Fronted) (back : Backed) (gone : List Message) : Type 0 where
+  pub taken : back.taken ≡ front.sent
+  pub durable : AreDurable (history front back)
+  pub released : map release_of back.released ≡ map pass_of (passed (history front back))
+  pub left : gone ≡ map (λ release. release.message) back.released
+
+-- Neither half being stopped for want of memory, whatever the front's class is.
+abbrev pub OneHasLetGo : {D : Type 0} → (D → ℕ) → (D → ℕ → List ℕ → Type 0) → (D → Option (List ℕ)) → (D → List ℕ → Type 0) → (D → ℕ) → Core D → Type 0
+OneHasLetGo moment_of left_since told image faults_of core = (script : Script) (origin : Origin) → TellsNow told core.back
+    → IsOne moment_of left_since told image faults_of script origin core → HasItsClass script origin.object
+    → is_stopped core.front.half ≡ false → serving.is_stopped core.back ≡ false → HasNothingToDo script core → origin.left ≡ []
+    → HasLetGo (fronted core.front.half.log) (backed core.back.log) (sent_on core.out)

@@ -1,4 +1,6 @@
 pub mod Seen
+pub mod Heard
+pub mod Fitting
 pub mod One
 pub mod Stepping
 pub mod Collecting

@@ -1,5 +1,5 @@
 -- What holds of one object, both of whose halves run on one thread, after each of its steps.
-use Rattle.std.specs.Prelude.{◌≡◌, ◌⊎◌, ℕ, ℤ, false, List, [], ◌++◌, map, Option, Some, None}
+use Rattle.std.specs.Prelude.{◌≡◌, ◌⊎◌, ℕ, ℤ, false, List, [], ◌++◌, map, Option, Some, None, is_some}
 use Rattle.std.specs.List.{Contains}
 use Rattle.batch_journal.specs.Moments.{IsTold}
 use Rattle.do_tree.specs.Lookup.{class_named}
@@ -29,6 +29,8 @@ use Rattle.output_gate.specs.Storing.{IsDiskOf}
 use Rattle.output_gate.specs.Telling.{opened_map}
 use Rattle.output_gate.specs.declared.back.Back.{Back}
 use Rattle.front_history.specs.Paired.{ArePaired}
+use Rattle.object_core.specs.Fitting.{IsFitIntake, known_over}
+use Rattle.object_core.specs.Heard.{IsHeard}
 use Rattle.object_core.specs.Seen.{seen_of}
 use Rattle.object_core.specs.declared.object.Core.{Core}
 
@@ -65,10 +67,26 @@ abbrev pub TellOfPair : {D : Type 0} → (told : D → Option (List ℕ)) → Sc
 TellOfPair told script start st front back under_way notices = TellsNow told back → (class : ℕ) → IsClass st.class class
     → ArePaired (kind_in script class) (opened_map start) st front (seen_of (opened_map start) back) under_way notices
 
--- A front that was made with this alarm stands at what it has taken.
-abbrev pub HasTaken : Script → Option (ℤ × ℕ) → Half Evaluated → Stood → Type 0
-HasTaken script alarm front st = (class : ℕ) → IsClass st.class class
-    → (taken : List Taken) × IsTakenBy (kind_in script class) (opened alarm) taken st.front (fronted front.log)
+-- While neither half is stopped, and the disk tells its content, the front hears of its back.
+abbrev pub HearsOfBack : {D : Type 0} → (told : D → Option (List ℕ)) → (start : List (List Op)) → Stood → Half Evaluated → Back D → (under_way : List Entry)
+    → (notices : List Notice) → Type 0
+HearsOfBack told start st front back under_way notices = TellsNow told back → standing.is_stopped front ≡ false → serving.is_stopped back ≡ false
+    → IsHeard st.front (seen_of (opened_map start) back) under_way notices
+
+-- The slot has no object, or one of a class that its script has.
+abbrev pub HasItsClass : Script → Option Object → Type 0
+HasItsClass script object = is_some object ≡ is_some (class_in script object)
+
+-- While neither half is stopped, and the disk tells its content, all that is sent fits: the back isn't stuck, and it knows the slot's object
+-- where that was bound before what it has taken, or by it.
+abbrev pub FitsItsBack : {D : Type 0} → (told : D → Option (List ℕ)) → Script → Option Object → Half Evaluated → Back D → Type 0
+FitsItsBack told script object front back = HasItsClass script object → TellsNow told back → standing.is_stopped front ≡ false → serving.is_stopped back ≡ false
+    → (back.stuck ≡ false) × (is_some back.identity ≡ known_over (is_some object) back.log.taken.items)
+
+-- A front that was made with this alarm, and with this class or none, stands at what it has taken; each event was one that it takes.
+abbrev pub HasTaken : Script → Option ℕ → Option (ℤ × ℕ) → Half Evaluated → Stood → Type 0
+HasTaken script first alarm front st = (class : ℕ) → IsClass st.class class
+    → (taken : List Taken) × IsTakenBy (kind_in script class) (opened alarm) taken st.front (fronted front.log) × IsFitIntake script first taken
 
 -- From what an object has run: the batches of its slot's journal at the opening, the disk's moment then, the slot's object then, and what
 -- it had released and others had taken before the halves were in one place.
@@ -90,7 +108,8 @@ IsNamed object back = (back.identity ≡ object)
 -- Both halves, with the lanes between them: the back stands, and the front at what it has taken unless memory was wanting; its class is
 -- that of the slot's object at the opening, or of the one that was bound since, which the back knows once it has taken the binding; all
 -- events that the front got are accounted for; what it has sent is what the back has logged as taken and what waits, and between them the
--- one entry that the back took and didn't log, if it is stuck or memory was wanting; the messages that wait are the last that it has released.
+-- one entry that the back took and didn't log, if it is stuck or memory was wanting; the messages that wait are the last that it has
+-- released; and no notice was lost but for want of memory.
 pub record IsOneOf {D : Type 0} (moment_of : D → ℕ) (left_since : D → ℕ → List ℕ → Type 0) (told : D → Option (List ℕ))
     (image : D → List ℕ → Type 0) (faults_of : D → ℕ) (script : Script) (origin : Origin)
     (front : Half Evaluated) (inbox : Both Event) (back : Back D) (line : Both Entry) (notices : Both Notice) (out : Both Sent) : Type 0 where
@@ -98,7 +117,7 @@ pub record IsOneOf {D : Type 0} (moment_of : D → ℕ) (left_since : D → ℕ 
   pub alarm : Option (ℤ × ℕ)
   pub st : Stood
   pub front_stands : standing.is_stopped front ≡ false → IsHalf seen script front st
-  pub has_taken : standing.is_stopped front ≡ false → HasTaken script alarm front st
+  pub has_taken : standing.is_stopped front ≡ false → HasTaken script (class_in script origin.object) alarm front st
   pub classed : IsClassed script (class_in script origin.object) front st
   pub named : IsNamed origin.object back
   pub has_got : HasGot front st inbox.got
@@ -107,6 +126,8 @@ pub record IsOneOf {D : Type 0} (moment_of : D → ℕ) (left_since : D → ℕ 
   pub is_line : front.log.sent.items ≡ back.log.taken.items ++ lost ++ line.waiting
   pub left : messages back.log.released.items ≡ origin.left ++ sent_on out
   pub pair : TellOfPair told script origin.start st front back (lost ++ line.waiting) notices.waiting
+  pub fits : FitsItsBack told script origin.object front back
+  pub heard : HearsOfBack told origin.start st front back (lost ++ line.waiting) notices.waiting
 
 abbrev pub IsOne : {D : Type 0} → (D → ℕ) → (D → ℕ → List ℕ → Type 0) → (D → Option (List ℕ)) → (D → List ℕ → Type 0) → (D → ℕ)
     → Script → Origin → Core D → Type 0

@@ -1,5 +1,5 @@
 //! What holds of each object, for whoever holds one. A call costs nothing and tells its caller the law.
-ghost use Rattle.object_core.specs.Laws.{HalvesAreFresh, OneIsHistory, OneHasClass, OneHasGot, OneHasIntake, OneHasLeft, OneHasTold, OneIsWhole};
+ghost use Rattle.object_core.specs.Laws.{HalvesAreFresh, OneIsHistory, OneHasClass, OneHasGot, OneHasIntake, OneHasLeft, OneHasLetGo, OneHasTold, OneIsQuiet, OneIsWhole};
 
 use crate::object::Core;
 use do_disk::Disk;
@@ -47,6 +47,21 @@ pub fn one_is_whole<D: Disk>(core: &Core<D>)
     ensures { OneIsWhole D.moment_of D.left_since D.told D.image D.faults_of core.now }
 {
     laws::halves_are_whole();
+    let _ = core;
+}
+
+/// Where no step has anything to do, its logs are those of a quiet object.
+pub fn one_is_quiet<D: Disk>(core: &Core<D>)
+    ensures { OneIsQuiet D.moment_of D.left_since D.told D.image D.faults_of core.now }
+{
+    laws::halves_are_whole();
+    let _ = core;
+}
+
+/// Where no step has anything to do, it has let go all that passes.
+pub fn one_has_let_go<D: Disk>(core: &Core<D>)
+    ensures { OneHasLetGo D.moment_of D.left_since D.told D.image D.faults_of core.now }
+{
     let _ = core;
 }
 

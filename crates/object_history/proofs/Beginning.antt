@@ -1,7 +1,7 @@
 -- Two halves of a slot that was just mounted.
 use Rattle.std.proofs.Common.{◌≡◌, ◌∙◌, ap, sym, subst, refl, inl, ℕ, suc, ◌≤◌, List, [], ◌++◌, length, arith}
 use Rattle.std.proofs.lemmas.List.Elements.{All-nil}
-use Rattle.std.specs.Prelude.{◌<◌, true}
+use Rattle.std.specs.Prelude.{◌<◌, true, false}
 use Rattle.timeline.specs.Headline.{down_said}
 use Rattle.std.specs.List.{All}
 use Rattle.storage_map.specs.Contents.{Contents}
@@ -14,6 +14,7 @@ use Rattle.timeline.specs.declared.back_log.Stop.{Stop}
 use Rattle.timeline.specs.declared.entry.Body.{Body}
 use Rattle.timeline.specs.declared.entry.Entry.{Entry}
 use Rattle.timeline.specs.declared.event.Event.{Event}
+use Rattle.timeline.specs.Passed.{is_mend}
 use Rattle.object_history.specs.Pair.{Held, Stand, mounted, Rear, IsLogged, IsLine, IsUnread, IsCall, failures, SaysDown, serving, Together, unreached, IsPair}
 use Rattle.object_history.specs.Saying.{is_plain}
 use Rattle.object_history.specs.Telling.{Tells}
@@ -44,6 +45,7 @@ module _ (k : Kind) (opened : Contents) (front : Fronted) (rear : Rear)
     said = refl;
     is_line = refl;
     lates = All-nil (λ (e : Entry). suc e.incarnation ≡ 1);
+    no_wish = All-nil (λ (e : Entry). is_mend e.body ≡ false);
     first = λ some. refl;
     own = ap (λ (entries : List Entry). entries_of 1 entries) taken;
   }

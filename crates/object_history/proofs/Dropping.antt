@@ -78,6 +78,7 @@ lined_same f front dropped taken line lined = record {
   said = lined.said;
   is_line = lined.is_line;
   lates = lined.lates;
+  no_wish = lined.no_wish;
   first = lined.first;
   own = lined.own;
 }

@@ -1,6 +1,6 @@
 -- What a front that serves is told of the end of its incarnation: that the next one is mounted, or that it isn't.
 use Rattle.std.proofs.Common.{◌≡◌, ◌∙◌, ap, sym, subst, refl, inl, inr, ℕ, suc, List, [], ◌∷◌, ◌++◌, length}
-use Rattle.std.specs.Prelude.{slice_get, Some}
+use Rattle.std.specs.Prelude.{slice_get, Some, ◌⊎◌}
 use Rattle.storage_map.specs.Contents.{Contents}
 use Rattle.timeline.specs.Headline.{missed_of}
 use Rattle.timeline.specs.History.{incarnations, start_after}
@@ -15,7 +15,7 @@ use Rattle.timeline.specs.declared.notice.Notice.{Notice}
 use Rattle.timeline.specs.declared.notice.Notice.TheVariants as notice
 use Rattle.object_history.proofs.Downs.{is_down}
 use Rattle.object_history.proofs.Ready.{not_nil, same_head, same_rest, IsEnd, end_answers_none}
-use Rattle.object_history.specs.Pair.{Held, Stand, mounted, wanted, fallen, Rear, Together, unreached, answered, syncs, halts, falls, wants, mends, misses, silent, IsNews, IsLeftOver, fallen_once, IsPhase}
+use Rattle.object_history.specs.Pair.{Held, Stand, mounted, wanted, fallen, Rear, IsUnread, Together, unreached, answered, syncs, halts, falls, wants, mends, misses, silent, IsNews, IsLeftOver, fallen_once, IsPhase}
 
 -- Where both halves are in one incarnation, no news of an end is under way to a front that serves.
 module _ (start : Contents) (f : Front) (old : Fronted) (back : Backed) (unread : List Body) (before : ℕ) (state : State) (is_so : f.mode ≡ serves state)
@@ -74,6 +74,7 @@ pub record IsFollowedBy (opened : Contents) (below : ℕ) (f : Front) (old : Fro
     (left : List Notice) : Type 0 where
   pub one_ahead : length rear.log.stops ≡ suc below
   pub none_late : late ≡ []
+  pub is_unread : IsUnread f.mode unread ⊎ (unread ≡ [])
   pub none_held : rear.held ≡ []
   pub stop : Stop
   pub stopped : slice_get rear.log.stops below ≡ Some stop
@@ -95,6 +96,7 @@ ended_phase opened below start f old rear unread late n left state is_so is_end 
     record {
       one_ahead = behind.0;
       none_late = is.none_late;
+      is_unread = is.is_unread;
       none_held = is.none_held;
       stop = is.stop;
       stopped = is.stopped;

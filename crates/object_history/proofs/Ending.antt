@@ -23,11 +23,14 @@ use Rattle.timeline.specs.declared.notice.Notice.TheVariants as notice
 use Rattle.output_gate.proofs.Histories.{entries_none}
 use Rattle.object_history.proofs.Advancing.{front}
 use Rattle.object_history.proofs.Downs.{resets_silent, resets_plain}
+use Rattle.object_history.proofs.Asked.{is_asked_for}
 use Rattle.object_history.proofs.Ended.{IsFollowedBy, ended_phase}
-use Rattle.object_history.proofs.Entries.{of_their_own, said_numbered, of_number_none}
+use Rattle.object_history.proofs.Entries.{all_numbered, of_their_own, said_numbered, of_number_none}
 use Rattle.object_history.proofs.OlderFronts.{entries_other, AreSameTo, said_same, start_same}
 use Rattle.object_history.proofs.Ready.{at_stand}
 use Rattle.object_history.proofs.SaidSoFar.{entries_now, events_now, sent_until, said_until_now}
+use Rattle.object_history.proofs.WellSaid.{delivers_well, answers_well}
+use Rattle.object_history.proofs.Wishes.{IsNoWish, none_wished}
 use Rattle.object_history.specs.Laws.{TellingGoesOn, TellingTells}
 use Rattle.object_history.specs.Pair.{mounted, fallen, Rear, IsLogged, IsLine, IsUnread, IsCall, failures, SaysDown, IsNewest, serving, falling, Together, unreached, falls, fallen_once, IsPhase, IsPair}
 use Rattle.object_history.specs.Stepping.{Grows}
@@ -71,7 +74,8 @@ record EndsSo (f : Front) (old new : Fronted) (cause : Cause) (more : List Body)
 
 module _ (tells : TellingTells) (k : Kind) (opened : Contents) (f : Front) (old new : Fronted) (rear : Rear) (line : List Entry) (notices : List Notice)
     (pair : IsPair k opened f old rear line notices) (cause : Cause) (more : List Body) (ends_so : EndsSo f old new cause more)
-    (stop : Stop) (stopped : slice_get rear.log.stops pair.below ≡ Some stop) (cause_is : cause ≡ stop.cause) (none_late : pair.lined.late ≡ []) where
+    (stop : Stop) (stopped : slice_get rear.log.stops pair.below ≡ Some stop) (cause_is : cause ≡ stop.cause) (none_late : pair.lined.late ≡ [])
+    (wishes_none : All IsNoWish pair.lined.unread) where
   -- what was logged of the incarnations until now stays
   same_to : AreSameTo (suc pair.below) old new
   same_to = record {
@@ -155,6 +159,8 @@ module _ (tells : TellingTells) (k : Kind) (opened : Contents) (f : Front) (old 
     lates = subst (λ (entries : List Entry). All (λ (e : Entry). suc e.incarnation ≡ suc f.incarnation) entries) (sym line_is)
         (of_their_own (λ (i : ℕ). suc i ≡ suc f.incarnation) f.incarnation (suc (length pair.lined.read)) pair.lined.unread refl);
     first = λ some. refl;
+    no_wish = subst (λ (entries : List Entry). All (λ (e : Entry). IsNoWish e.body) entries) (sym line_is)
+        (all_numbered IsNoWish f.incarnation (suc (length pair.lined.read)) pair.lined.unread wishes_none);
     own = entries_none (suc f.incarnation) rear.log.taken taken_before;
   }
 
@@ -221,17 +227,20 @@ on_fresh goes_on tells k opened i es said state number alarm cause old new rear 
     record { said = grows.said; sent = grows.sent; delivered = grows.delivered; downed = grows.downed; ends = grows.ends } in
     let followed : IsFollowedBy opened pair.below f old rear pair.lined.unread pair.lined.late n left =
     ended_phase opened pair.below pair.start f old rear pair.lined.unread pair.lined.late n left state refl tt pair.phase in
+    let wishes_none : All IsNoWish pair.lined.unread =
+    none_wished pair.lined.unread state (λ o t b mode. is_asked_for (record { on_event = delivers_well; on_answer = answers_well }) k _ pair.start f old rear.log pair.newest_said o t b mode)
+    followed.is_unread in
     let start : Contents = start_after opened (incarnations new rear.log (suc pair.below)) in
     let alarm_is : alarm ≡ start.alarm = followed.is_next.1 ∙ ap (λ (m : Contents). m.alarm) (sym (start_same opened old new rear.log (suc pair.below))) in
     let says : SaysDown (incarnations new rear.log (suc pair.below)) g new rear.log failed =
-    says_down tells k opened f old new rear line (n ∷ left) pair cause grows.more ends_so followed.stop followed.stopped followed.is_next.2 followed.none_late
+    says_down tells k opened f old new rear line (n ∷ left) pair cause grows.more ends_so followed.stop followed.stopped followed.is_next.2 followed.none_late wishes_none
     (serves (idle (begun alarm))) in
     let unread : IsUnread (serves (idle (begun alarm))) failed = record {
       plain = failed;
       are_plain = resets_plain cause (unanswered es said);
       is = sym (append-nil failed);
     } in
-    next_pair tells k opened f old new rear line (n ∷ left) pair cause grows.more ends_so followed.stop followed.stopped followed.is_next.2 followed.none_late
+    next_pair tells k opened f old new rear line (n ∷ left) pair cause grows.more ends_so followed.stop followed.stopped followed.is_next.2 followed.none_late wishes_none
     (serves (idle (begun alarm))) left
     (serving failed (goes_on.begins k start g says.silent refl (ap (λ (a : Option (ℤ × ℕ)). serves (idle (begun a))) alarm_is)) says)
     (inl (
@@ -255,15 +264,18 @@ on_down tells k opened i es said state cause before after old new rear line left
     record { said = grows.said; sent = grows.sent; delivered = grows.delivered; downed = grows.downed; ends = grows.ends } in
     let followed : IsFollowedBy opened pair.below f old rear pair.lined.unread pair.lined.late n left =
     ended_phase opened pair.below pair.start f old rear pair.lined.unread pair.lined.late n left state refl tt pair.phase in
+    let wishes_none : All IsNoWish pair.lined.unread =
+    none_wished pair.lined.unread state (λ o t b mode. is_asked_for (record { on_event = delivers_well; on_answer = answers_well }) k _ pair.start f old rear.log pair.newest_said o t b mode)
+    followed.is_unread in
     let start : Contents = start_after opened (incarnations new rear.log (suc pair.below)) in
     let says : SaysDown (incarnations new rear.log (suc pair.below)) g new rear.log failed =
-    says_down tells k opened f old new rear line (n ∷ left) pair cause grows.more ends_so followed.stop followed.stopped followed.is_next.1 followed.none_late
+    says_down tells k opened f old new rear line (n ∷ left) pair cause grows.more ends_so followed.stop followed.stopped followed.is_next.1 followed.none_late wishes_none
     (down None) in
     let none : of_number (suc i) new.downed ≡ [] =
     no_calls tells k opened f old new rear line (n ∷ left) pair cause grows.more ends_so followed.stop followed.stopped followed.is_next.1
-    followed.none_late in
+    followed.none_late wishes_none in
     let unread : IsUnread (down None) failed = record { plain = failed; are_plain = resets_plain cause (unanswered es said); is = sym (append-nil failed) } in
-    next_pair tells k opened f old new rear line (n ∷ left) pair cause grows.more ends_so followed.stop followed.stopped followed.is_next.1 followed.none_late
+    next_pair tells k opened f old new rear line (n ∷ left) pair cause grows.more ends_so followed.stop followed.stopped followed.is_next.1 followed.none_late wishes_none
     (down None) left (falling None refl tt refl says)
     (inl (
       followed.one_ahead,

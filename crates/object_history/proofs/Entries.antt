@@ -33,6 +33,13 @@ entries_own i n (b ∷ bodies) =
     ap (λ (same : Bool). cond same (e ∷ entries_of i (numbered i (suc n) bodies)) (entries_of i (numbered i (suc n) bodies))) (eq-eqb i i refl)
     ∙ ap (λ (entries : List Entry). e ∷ entries) (entries_own i (suc n) bodies)
 
+-- what holds of some bodies holds of the entries that say them
+pub all_numbered : (P : Body → Type 0) (i n : ℕ) (bodies : List Body) → All P bodies → All (λ (e : Entry). P e.body) (numbered i n bodies)
+all_numbered P i n [] all = All-nil (λ (e : Entry). P e.body)
+all_numbered P i n (b ∷ bodies) all =
+    All-cons (λ (e : Entry). P e.body) (record { incarnation = i; number = n; body = b }) (numbered i (suc n) bodies) (All-head P b bodies all)
+    (all_numbered P i (suc n) bodies (All-tail P b bodies all))
+
 -- what numbered entries say
 pub said_numbered : (i n : ℕ) (bodies : List Body) → said_in (numbered i n bodies) ≡ bodies
 said_numbered i n [] = refl

@@ -124,6 +124,7 @@ module _ (k : Kind) (opened : Contents) (f : Front) (front new : Fronted) (rear 
             (sym (numbered_on f.incarnation (suc (length lined.read)) (suc (length f.said)) lined.unread more
             (omega (arith, ap (λ (bodies : List Body). length bodies) lined.said, length-append lined.read lined.unread))));
         lates = lined.lates;
+        no_wish = lined.no_wish;
         first = lined.first;
         own = lined.own;
       }

@@ -2,9 +2,11 @@
 use Rattle.std.proofs.Common.{◌≡◌, ◌∙◌, ap, sym, subst, refl, ℕ, suc, List, [], ◌∷◌, ◌++◌, append_assoc, length, arith}
 use Rattle.std.proofs.lemmas.List.{length_push}
 use Rattle.std.proofs.lemmas.List.Elements.{All-nil, All-head, All-tail}
+use Rattle.std.specs.Prelude.{false}
 use Rattle.std.specs.List.{All}
 use Rattle.timeline.specs.Intake.{Front, numbered}
 use Rattle.timeline.specs.Logs.{Fronted}
+use Rattle.timeline.specs.Passed.{is_mend}
 use Rattle.timeline.specs.declared.entry.Body.{Body}
 use Rattle.timeline.specs.declared.entry.Entry.{Entry}
 use Rattle.object_history.proofs.Entries.{numbered_last, entries_more, entries_same}
@@ -48,6 +50,7 @@ module _ (f : Front) (front : Fronted) (taken : List Entry) (e : Entry) (line : 
     is_line = rest ∙ ap (λ (n : ℕ). numbered f.incarnation (suc n) more) (omega (arith, length_push was.read b));
     lates = All-nil (λ (x : Entry). suc x.incarnation ≡ f.incarnation);
     first = λ none. absurd (none refl);
+    no_wish = All-nil (λ (x : Entry). is_mend x.body ≡ false);
     own = entries_more f.incarnation taken e (ap (λ (x : Entry). x.incarnation) is)
         ∙ ap (λ (entries : List Entry). entries ++ e ∷ []) was.own
         ∙ ap (λ (x : Entry). numbered f.incarnation 1 was.read ++ x ∷ []) is
@@ -70,5 +73,6 @@ module _ (f : Front) (front : Fronted) (taken : List Entry) (e : Entry) (line : 
     is_line = rest;
     lates = All-tail (λ (y : Entry). suc y.incarnation ≡ f.incarnation) x late (subst (λ (all : List Entry). All (λ (y : Entry). suc y.incarnation ≡ f.incarnation) all) some was.lates);
     first = λ some_more. was.first (some_late x late was.late some);
+    no_wish = All-tail (λ (y : Entry). is_mend y.body ≡ false) x late (subst (λ (all : List Entry). All (λ (y : Entry). is_mend y.body ≡ false) all) some was.no_wish);
     own = entries_same f.incarnation taken e (λ same. omega (arith, same, late_is x late some is)) ∙ was.own;
   }

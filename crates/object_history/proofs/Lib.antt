@@ -1,16 +1,18 @@
 mod GoingOn
 mod SoFar
-mod WellSaid
+pub mod WellSaid
 pub mod Alike
-mod Entries
+pub mod Entries
 mod Beginning
 pub mod SaidSoFar
 pub mod Whole
-mod Heads
+pub mod StateAtRest
+pub mod Heads
 mod Keeping
 mod Phases
 mod Flying
-mod Asked
+pub mod Asked
+pub mod Wishes
 mod Entering
 mod Reaching
 mod TakingOwn
@@ -21,11 +23,11 @@ mod Syncing
 mod Mounting
 mod Missing
 mod BackStepping
-mod Growing
+pub mod Growing
 pub mod OlderFronts
 mod Frames
 mod Ready
-mod Fitting
+pub mod Fitting
 mod Advancing
 mod Downs
 mod DownFronts

@@ -62,11 +62,11 @@ module _ (k : Kind) (start : Contents) (before : List Body) (f : Front) (so_far 
   are_the_maps : AreTheMaps begun_life start (idle (begun start.alarm)) so_far.taken
   are_the_maps = subst (λ (taken : List Taken). AreTheMaps begun_life start (idle (begun start.alarm)) taken) (append-nil so_far.taken) (so_far.goes [] tt)
 
-  fit_the_map : FitsMap 0 begun_life start (idle (begun start.alarm)) so_far.taken
+  pub fit_the_map : FitsMap 0 begun_life start (idle (begun start.alarm)) so_far.taken
   fit_the_map = fits 0 begun_life start (idle (begun start.alarm)) so_far.taken tt are_the_maps
 
   -- The events that it has are those that it took.
-  same_events : events_in so_far.taken ≡ f.events
+  pub same_events : events_in so_far.taken ≡ f.events
   same_events =
       sym (events_taken k f.incarnation so_far.taken [] (before ++ []) start (idle (begun start.alarm)) are_the_maps)
       ∙ ap (λ (g : Front). g.events) so_far.at

@@ -1,6 +1,6 @@
 -- The two halves of one object, tied by their lanes: what stands between what the front has taken and said, and what the back has
 -- taken and answered. Source: the articles on input and output gates; how incarnations follow one another is this project's profile.
-use Rattle.std.specs.Prelude.{◌≡◌, ◌≢◌, ◌⊎◌, ℕ, suc, ◌<◌, ◌≤◌, List, [], ◌∷◌, ◌++◌, length, map, drop, take, slice_get, Option, Some, None, IfSome}
+use Rattle.std.specs.Prelude.{◌≡◌, ◌≢◌, ◌⊎◌, ℕ, suc, ◌<◌, ◌≤◌, false, List, [], ◌∷◌, ◌++◌, length, map, drop, take, slice_get, Option, Some, None, IfSome}
 use Rattle.std.specs.List.{All}
 use Rattle.storage_map.specs.Contents.{Contents}
 use Rattle.timeline.specs.Headline.{AreSaid, down_said, missed_of}
@@ -8,6 +8,7 @@ use Rattle.timeline.specs.History.{History, of_number, entries_of, incarnations,
 use Rattle.timeline.specs.Intake.{Kind, Front, Mode, serves, down, FitsNotice, answer_in, numbered}
 use Rattle.timeline.specs.Logs.{Fronted, Backed}
 use Rattle.timeline.specs.Object.{Object, OpenTask, State, idle, waiting, ended}
+use Rattle.timeline.specs.Passed.{is_mend}
 use Rattle.timeline.specs.Told.{spoken_in, stored_answer, written}
 use Rattle.timeline.specs.declared.back_log.Missed.{Missed}
 use Rattle.timeline.specs.declared.back_log.Stop.{Stop}
@@ -70,8 +71,8 @@ awaited (serves (ended c)) = body.Halt c ∷ []
 awaited (down None) = []
 awaited (down (Some call)) = body.Mend ∷ []
 
--- What was sent was taken, but for some at the end: entries of the incarnation before, and then those of the newest; of the latter
--- the ones that were taken stand before the others.
+-- What was sent was taken, but for some at the end: entries of the incarnation before, none of which asks for a mounting, and then those
+-- of the newest; of the latter the ones that were taken stand before the others.
 pub record IsLine (f : Front) (front : Fronted) (taken line : List Entry) : Type 0 where
   pub sent : front.sent ≡ taken ++ line
   pub read : List Body
@@ -81,6 +82,7 @@ pub record IsLine (f : Front) (front : Fronted) (taken line : List Entry) : Type
   pub is_line : line ≡ late ++ numbered f.incarnation (suc (length read)) unread
   pub lates : All (λ e. suc e.incarnation ≡ f.incarnation) late
   pub first : late ≢ [] → read ≡ []
+  pub no_wish : All (λ e. is_mend e.body ≡ false) late
   pub own : entries_of f.incarnation taken ≡ numbered f.incarnation 1 read
 
 -- Nothing is waited for among these, but for what the front waits for, as the last.

@@ -23,11 +23,22 @@ is_plain _ = false
 abbrev pub ArePlain : List Body → Type 0
 ArePlain bodies = All (λ b. is_plain b ≡ true) bodies
 
--- What leads to a state: nothing that is waited for but by the state; and a halt where the incarnation has ended, as the last.
+-- One that an object says of itself: a batch or a message.
+abbrev pub is_inner : Body → Bool
+is_inner (body.Batch ops None) = true
+is_inner (body.Message sent) = true
+is_inner _ = false
+
+-- What leads to a state: such entries, with nothing that is waited for but by the state; and a halt where the incarnation has ended, as
+-- the last.
+abbrev pub LeadBy : (Body → Bool) → List Body → State → Type 0
+LeadBy plain said (idle o) = All (λ b. plain b ≡ true) said
+LeadBy plain said (waiting o t b) = All (λ b. plain b ≡ true) said × (is_asked b ≡ true)
+LeadBy plain said (ended c) =
+    (first : List Body) × (said ≡ first ++ body.Halt c ∷ []) × All (λ b. plain b ≡ true) first × (is_halting c ≡ true)
+
 abbrev pub LeadTo : List Body → State → Type 0
-LeadTo said (idle o) = ArePlain said
-LeadTo said (waiting o t b) = ArePlain said × (is_asked b ≡ true)
-LeadTo said (ended c) = (first : List Body) × (said ≡ first ++ body.Halt c ∷ []) × ArePlain first × (is_halting c ≡ true)
+LeadTo said state = LeadBy is_plain said state
 
 abbrev pub IsWellSaid : Step → Type 0
 IsWellSaid step = LeadTo step.says step.state

@@ -10,3 +10,6 @@ mod worker;
 pub use answers::{AdoptFault, PlaceFault, Placed};
 pub use directory::Directory;
 pub use worker::home;
+
+#[cfg(test)]
+mod tests;

@@ -1,100 +1,59 @@
-use Rattle.std.proofs.Common.{inl, inr}
+use Rattle.std.proofs.Common.{◌≡◌, ⊎_elim, inl, inr, ℕ, List, map, refl, subst, ◌∙◌, arith, string_bytes}
+use Rattle.command_words.specs.Asked.{asked}
+use Rattle.do_host.specs.Runs.{CheckRun}
+use Rattle.do_host.proofs.Asking.{same_check}
+use Rattle.do_host.proofs.Dumps.{any_dump, dump_wanting}
+use Rattle.do_host.proofs.Early.{any_unread, check_no_one, check_unread, check_wanting, early_wanting, usage_unread}
 use Rattle.do_host.proofs.program.run.Goals as goal
 
-pub returns-clause-reports : goal.returns-clause-reports
-returns-clause-reports g c =
-    let e = c.run_words.ensures in
-    record { statuses = e.statuses; one_slot = e.one_slot; mounted = e.mounted; bad_slot_kept = e.bad_slot_kept; line_limit = e.line_limit }
+pub returns-in-Ok-Check-clause-any : goal.returns-in-Ok-Check-clause-any
+returns-in-Ok-Check-clause-any g c =
+    let e = c.check_script.ensures in
+    any_unread g.P.Store.Disk.faults_of g.R.Source.left g.R.Source.faults_of g.W.Sink.taken g.W.Sink.faults_of (g.P.Depot.faults_of c.args.depot.now) (g.P.Depot.faults_of c.check_script.new.depot)
+    c.args.input c.check_script.result.input c.args.out c.check_script.result.out c.check_script.result.status c.args.report.now c.requires
+    (check_unread c.check_script.result.status (e.check c.args.report.now).check_statuses) e.input e.silent e.failed e.write_failed
 
-pub returns-clause-lines : goal.returns-clause-lines
-returns-clause-lines g c =
-    let e = c.run_words.ensures in
-    record { accepted = e.accepted; looked_at = e.looked_at; all_read = e.all_read }
+pub returns-in-Ok-Check-clause-usage : goal.returns-in-Ok-Check-clause-usage
+returns-in-Ok-Check-clause-usage g c = λ one. absurd (check_no_one c.check_script.result.status (c.check_script.ensures.check c.args.report.now).check_statuses one)
 
-pub returns-clause-slot : goal.returns-clause-slot
-returns-clause-slot g c = λ folder over.
-    let e = c.run_words.ensures in
-    record {
-      history = e.history folder over;
-      within = e.within folder over;
-      unopened = e.unopened folder over;
-      untouched = λ other. e.untouched other folder over;
-      bad_slot = λ seven. e.bad_slot seven folder over;
-      bad_slot_in_part = λ six none kept. e.bad_slot_in_part six none kept folder over;
-    }
+pub returns-in-Ok-Check-clause-check : goal.returns-in-Ok-Check-clause-check
+returns-in-Ok-Check-clause-check g c = λ script is.
+    let ran = c.check_script.result in (
+      subst (λ (s : List ℕ). CheckRun (g.P.Depot.text_at c.args.depot.now s) (g.W.Sink.taken c.args.out) (g.W.Sink.taken ran.out) (g.P.Depot.asked c.args.depot.now) (g.P.Depot.asked c.check_script.new.depot) s ran.status c.args.report.now c.args.report.now)
+          (c.as_str.ensures.value ∙ same_check (asked (map string_bytes c.args.words.now)) _ script (rw c.in-Ok-Check.field-0-is at c.in-Ok-Check.ensures.asked) is) (c.check_script.ensures.check c.args.report.now),
+      c.check_script.ensures.input,
+    )
 
-pub returns-clause-script : goal.returns-clause-script
-returns-clause-script g c = λ script over.
-    let e = c.run_words.ensures in
-    record {
-      refused = λ two. e.refused two script over;
-      refused_alone = λ two. let alone = e.refused_alone two in (alone.0, alone.1 script over);
-    }
+pub returns-in-Ok-Dump-clause-any : goal.returns-in-Ok-Dump-clause-any
+returns-in-Ok-Dump-clause-any g c =
+    let d = g.P.Store.Disk in
+    any_dump d.moment_of d.left_since d.told d.image d.faults_of g.R.Source.left g.R.Source.faults_of g.W.Sink.taken g.W.Sink.faults_of _ _ _ _ _ _ _ c.args.input c.run_dump.result.input c.args.out c.run_dump.result.out c.run_dump.result.status
+    c.args.report.now c.run_dump.new.report c.requires (rw c.in-Ok-Dump.field-0-is at c.in-Ok-Dump.ensures.ranges).0 c.run_dump.ensures.input c.run_dump.ensures.dump
 
-pub returns-clause-serve : goal.returns-clause-serve
-returns-clause-serve g c = λ script folder is.
-    let e = c.run_words.ensures in
-    record {
-      formed = λ some. e.formed some script folder is;
-      written = λ some. e.written some (script, folder, is);
-      opened = λ zero. e.opened zero (folder, inl (script, is));
-      quiet = λ zero. e.quiet zero script folder is;
-      all_accepted = λ zero. e.all_accepted zero (script, folder, is);
-      all_counted = λ zero. e.all_counted zero (script, folder, is);
-      all_written = λ zero. e.all_written zero (script, folder, is);
-      quiet_at_read_fault = λ five. e.quiet_at_read_fault five script folder is;
-      written_at_read_fault = λ five. e.written_at_read_fault five (script, folder, is);
-      refused_in_part = λ six none unopened. e.refused_in_part six none unopened script folder is;
-      first_script = λ has. e.first_script has script folder is;
-      other_script = λ eight none. e.other_script eight none script folder is;
-      opening_statuses = λ none. e.opening_statuses none (script, folder, is);
-      not_built = λ eight. e.not_built eight script folder is;
-      asked = e.asked script folder is;
-      slot_asked = λ has. e.slot_asked has script folder is;
-    }
+pub returns-in-Ok-Usage-clause-any : goal.returns-in-Ok-Usage-clause-any
+returns-in-Ok-Usage-clause-any g c =
+    let e = c.end_with.ensures in
+    any_unread g.P.Store.Disk.faults_of g.R.Source.left g.R.Source.faults_of g.W.Sink.taken g.W.Sink.faults_of (g.P.Depot.faults_of c.args.depot.now) (g.P.Depot.faults_of c.args.depot.now)
+    c.args.input c.end_with.result.input c.args.out c.end_with.result.out c.end_with.result.status c.args.report.now c.requires
+    (usage_unread c.end_with.result.status (⊎_elim (λ one. inl one) (λ six. inr (inl six)) e.status)) e.input
+    (λ silent. absurd (⊎_elim (λ one. silent.1 one) (λ six. silent.3 six) e.status)) (λ three. absurd (⊎_elim (λ one. omega (arith, one, three)) (λ six. omega (arith, six, three)) e.status)) e.failed
 
-pub returns-clause-check : goal.returns-clause-check
-returns-clause-check g c = λ script is.
-    let e = c.run_words.ensures in
-    let alone = e.check_alone (script, is) in
-    record {
-      check_statuses = alone.0;
-      check_alone = alone.1;
-      checked = λ zero. e.checked zero script is;
-      checked_in_part = λ six. e.checked_in_part six script is;
-      check_asked = e.check_asked script is;
-      checked_asked = λ zero. e.checked_asked zero script is;
-    }
+pub returns-in-Err-clause-any : goal.returns-in-Err-clause-any
+returns-in-Err-clause-any g c =
+    rw c.end_at.ensures
+    (any_unread g.P.Store.Disk.faults_of g.R.Source.left g.R.Source.faults_of g.W.Sink.taken g.W.Sink.faults_of (g.P.Depot.faults_of c.args.depot.now) (g.P.Depot.faults_of c.args.depot.now)
+    c.args.input c.args.input c.args.out c.args.out 4 c.args.report.now c.requires (usage_unread 4 (inr (inr refl))) refl (λ silent. refl) (λ three. absurd (omega (arith, three))) (λ six. absurd (omega (arith, six))))
 
-pub returns-clause-check_input : goal.returns-clause-check_input
-returns-clause-check_input g c = λ words. (c.run_words.ensures.check_alone words).2
+pub returns-in-Err-clause-serve : goal.returns-in-Err-clause-serve
+returns-in-Err-clause-serve g c = λ script folder slots workers journal is.
+    rw c.end_at.ensures (inl (early_wanting g.W.Sink.taken script (g.P.Depot.text_at c.args.depot.now script) (g.P.Depot.asked c.args.depot.now) (g.P.Depot.faults_of c.args.depot.now) c.args.input c.args.out c.args.report.now))
 
-pub returns-clause-dump : goal.returns-clause-dump
-returns-clause-dump g c = λ folder is.
-    let e = c.run_words.ensures in
-    let alone = e.dump_alone (folder, is) in
-    record {
-      dump_statuses = alone.0;
-      dump_alone = (alone.1, alone.2);
-      dump_logs = e.dump_logs (folder, is);
-      opened = λ zero. e.opened zero (folder, inr is);
-      dumped = λ zero. e.dumped zero folder is;
-      dumped_in_part = λ some. e.dumped_in_part some folder is;
-      dump_write_failed = λ six. e.dump_write_failed six (folder, is);
-      dump_asked = e.dump_asked folder is;
-      dump_slot_asked = λ has. e.dump_slot_asked has folder is;
-    }
+pub returns-in-Err-clause-check : goal.returns-in-Err-clause-check
+returns-in-Err-clause-check g c = λ script is.
+    rw c.end_at.ensures (check_wanting (g.P.Depot.text_at c.args.depot.now script) (g.W.Sink.taken c.args.out) (g.P.Depot.asked c.args.depot.now) script c.args.report.now, refl)
 
-pub returns-clause-dump_input : goal.returns-clause-dump_input
-returns-clause-dump_input g c = λ words. (c.run_words.ensures.dump_alone words).3
-
-pub returns-clause-no_command : goal.returns-clause-no_command
-returns-clause-no_command g c = λ none.
-    let e = c.run_words.ensures in
-    let other = e.other_words none in
-    record {
-      usage_statuses = other.0;
-      usage_alone = (other.1, other.2);
-      usage_written = e.usage_written none;
-      usage_whole = e.usage_whole;
-    }
+pub returns-in-Err-clause-dump : goal.returns-in-Err-clause-dump
+returns-in-Err-clause-dump g c = λ folder slots is.
+    let d = g.P.Store.Disk in
+    rw c.end_at.ensures
+    (dump_wanting d.moment_of d.left_since d.told d.image d.faults_of g.W.Sink.taken g.W.Sink.faults_of folder slots (g.P.Depot.slot_at c.args.depot.now folder) (g.P.Depot.asked c.args.depot.now) (g.P.Depot.faults_of c.args.depot.now) c.args.out c.args.report.now c.requires, refl)

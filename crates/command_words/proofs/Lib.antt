@@ -1,0 +1,9 @@
+pub mod NumberRead
+pub mod Kept
+pub mod Looks
+pub mod Rules
+pub mod Steps
+pub mod Levels
+pub mod Whole
+pub mod Answered
+pub mod Plain

@@ -1,0 +1,20 @@
+-- What a command asks for, whatever holds its texts.
+use Rattle.std.specs.Prelude.{◌≤◌, ◌^◌, ℕ, ⊤, string_bytes}
+use Rattle.command_words.specs.Asked.{Asked, serves, checks, dumps, usage}
+use Rattle.command_words.specs.declared.command.Command.{Command}
+use Rattle.command_words.specs.declared.command.Command.TheVariants.{Serve, Check, Dump, Usage}
+
+abbrev pub asked_of : Command → Asked
+asked_of (Serve told) = serves (string_bytes told.script) (string_bytes told.folder) told.slots told.workers told.journal
+asked_of (Check script) = checks (string_bytes script)
+asked_of (Dump folder slots) = dumps (string_bytes folder) slots
+asked_of Usage = usage
+
+abbrev pub IsWithin : ℕ → ℕ → ℕ → Type 0
+IsWithin least most n = (least ≤ n) × (n ≤ most)
+
+-- each number of a command lies in the range of its option
+abbrev pub IsInRanges : Command → Type 0
+IsInRanges (Serve told) = IsWithin 1 256 told.slots × IsWithin 1 16 told.workers × IsWithin 4096 (2 ^ 40) told.journal
+IsInRanges (Dump folder slots) = IsWithin 1 256 slots
+IsInRanges _ = ⊤

@@ -1,0 +1,61 @@
+-- An object that is made of what was mounted.
+use Rattle.std.proofs.Common.{◌≡◌, ◌∙◌, refl, sym, ap, subst, ℕ, List, Option, Some, None}
+use Rattle.std.specs.Prelude.{IfSome, slice_get}
+use Rattle.batch_journal.specs.Frames.{batches_in}
+use Rattle.batch_journal.specs.Mounting.{IsMountOf}
+use Rattle.batch_journal.specs.Reading.{IsObjectOf}
+use Rattle.batch_journal.specs.declared.mount.Mounted.{Mounted}
+use Rattle.do_disk.specs.Disk.{next_count}
+use Rattle.do_tree.specs.Lookup.{class_named}
+use Rattle.do_tree.specs.Tree.{Class, Script}
+use Rattle.storage_map.specs.Limits.{Object}
+use Rattle.storage_map.specs.declared.op.Op.{Op}
+use Rattle.object_front.proofs.Fitted.{named}
+use Rattle.object_front.specs.declared.evaluated.Evaluated.{Evaluated}
+use Rattle.object_front.specs.declared.half.Half.{Half}
+use Rattle.output_gate.specs.Logs.{IsFresh}
+use Rattle.output_gate.specs.Serving.{IsBack}
+use Rattle.output_gate.specs.declared.back.Back.{Back}
+use Rattle.object_core.specs.One.{AreFresh, IsOne, class_in, mounted_at, unused}
+use Rattle.object_core.specs.declared.object.Core.{Core}
+use Rattle.host_core.specs.Begun.{HasBegun, IsMountedAt}
+
+-- the script has the class that is found in it
+abbrev IsKnown : Script → Option ℕ → Type 0
+IsKnown script class = IfSome class (λ n. (c : Class) × (slice_get script.classes n ≡ Some c))
+
+named_known : (script : Script) (name : List ℕ) (class : Option ℕ) → class_named script name ≡ class → IsKnown script class
+named_known script name None is = tt
+named_known script name (Some class) is = named script name class is
+
+class_known : (script : Script) (object : Option Object) → IsKnown script (class_in script object)
+class_known script None = tt
+class_known script (Some object) = named_known script object.0 (class_named script object.0) refl
+
+pub known_as : (script : Script) (object : Option Object) (class : Option ℕ) → class ≡ class_in script object → IsKnown script class
+known_as script object class is = subst (λ (o : Option ℕ). IsKnown script o) (sym is) (class_known script object)
+
+module _ {D : Type 0} (moment_of : D → ℕ) (left_since : D → ℕ → List ℕ → Type 0) (told : D → Option (List ℕ)) (image : D → List ℕ → Type 0) (faults_of : D → ℕ) (script : Script) where
+  pub has_begun : (content : Option (List ℕ)) (object : Option Object) (mounted : Mounted D) (front : Half Evaluated) (back : Back D) (core : Core D)
+      → IsMountedAt moment_of left_since told image content object mounted → IsFresh mounted back
+      → ((disk : D) (is : IsMountOf told image moment_of left_since disk mounted)
+      → IsBack moment_of left_since told image faults_of (batches_in is.frames) (next_count (moment_of disk)) back)
+      → AreFresh script front back
+      → ((start : List (List Op)) (opening : ℕ) → IsBack moment_of left_since told image faults_of start opening back → AreFresh script front back
+      → IsOne moment_of left_since told image faults_of script (mounted_at start opening back) core)
+      → core.inbox ≡ unused → core.out ≡ unused → HasBegun moment_of left_since told image faults_of script content object core
+  has_begun content object mounted front back core at fresh known are makes inbox out = record {
+    origin = mounted_at (batches_in at.mount.frames) (next_count (moment_of at.disk)) back;
+    begun = record {
+      frames = at.mount.frames;
+      recovered = λ file is. at.mount.recovers file (at.content_is ∙ is);
+      names = subst (λ (o : Option Object). IsObjectOf o at.mount.frames) at.object at.mount.object;
+      start = refl;
+      opening = ap next_count at.first;
+      object = fresh.identity ∙ at.object;
+      left = refl;
+    };
+    one = makes (batches_in at.mount.frames) (next_count (moment_of at.disk)) (known at.disk at.mount) are;
+    inbox = inbox;
+    out = out;
+  }

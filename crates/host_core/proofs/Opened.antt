@@ -1,0 +1,179 @@
+-- A slot that is mounted behind others, and one at which opening stops.
+use Rattle.std.proofs.Common.{◌≡◌, ◌≢◌, ◌+◌, ◌<◌, ◌≤◌, ⊎_elim, ℕ, List, [], ◌∷◌, ◌++◌, length, take, drop, Option, Some, Result, Ok, Err, refl, sym, ap, subst, ◌∙◌, arith, append_assoc}
+use Rattle.std.specs.Prelude.{IfErr, IfOk, IfSome, IsSome, OnErr, OnOk, slice_get}
+use Rattle.std.proofs.lemmas.Bool.{cases_lt}
+use Rattle.std.proofs.lemmas.List.{length-append, take-append-drop}
+use Rattle.std.proofs.lemmas.List.FromFn.{map-range_with_len_more, take-map-range_with_len}
+use Rattle.batch_journal.specs.Moments.{LeavesOnly}
+use Rattle.batch_journal.specs.Mounting.{ImageOrHeader, IsMountOf}
+use Rattle.batch_journal.specs.Reading.{IsObjectOf}
+use Rattle.batch_journal.specs.Rest.{IsStaged, disk_in}
+use Rattle.batch_journal.specs.declared.mount.Mounted.{Mounted}
+use Rattle.do_disk.specs.Asks.{Ask, for_slot}
+use Rattle.do_tree.specs.Tree.{Script}
+use Rattle.lane.specs.Lanes.{Both, sent_on}
+use Rattle.timeline.specs.Switch.{no_log}
+use Rattle.timeline.specs.declared.event.Event.{Event}
+use Rattle.timeline.specs.declared.message.Message.{Message}
+use Rattle.placement.specs.Slots.{Slots, object_at}
+use Rattle.storage_map.specs.Limits.{Object}
+use Rattle.object_core.specs.One.{unused}
+use Rattle.object_core.specs.declared.object.Core.{Core}
+use Rattle.host_core.proofs.Pushed.{push_before, push_last, push_within}
+use Rattle.host_core.specs.Begun.{HasBegun, IsMountedAt, IsNotTaken, OnlyAt}
+use Rattle.host_core.specs.Objects.{AreGoing}
+use Rattle.host_core.specs.Opening.{Asks, HasRoom, IsBad, IsRefused, LeavesHanded, StopsOpening, slot_asks}
+use Rattle.host_core.specs.Slots.{IsGoing}
+use Rattle.host_core.specs.declared.objects.Objects.{Objects}
+use Rattle.host_core.specs.declared.opening.OpenEnd.{OpenEnd}
+use Rattle.host_core.specs.declared.opening.OpenEnd.TheVariants.{BadSlot}
+use Rattle.host_core.specs.declared.settings.Bad.{Bad}
+use Rattle.host_core.specs.declared.settings.Bad.TheVariants.{Twice}
+
+-- room for some is room for one
+pub room_for_one : {D : Type 0} (objects : Objects D) (more : ℕ) → 1 ≤ more → HasRoom more objects → HasRoom 1 objects
+room_for_one objects more some room = record { cores = omega (arith, room.cores); inboxes = omega (arith, room.inboxes); outs = omega (arith, room.outs) }
+
+-- the questions with one slot more, and the first of them
+pub asks_more : (folder : List ℕ) (slot : ℕ) → slot_asks folder (slot + 1) ≡ slot_asks folder slot ++ for_slot folder slot ∷ []
+asks_more folder slot = map-range_with_len_more (for_slot folder) 0 slot slot (omega arith)
+
+asks_first : (folder : List ℕ) (slot slots : ℕ) → slot < slots
+    → (slot_asks folder slot ++ for_slot folder slot ∷ []) ++ drop (slot + 1) (slot_asks folder slots) ≡ slot_asks folder slots
+asks_first folder slot slots less =
+    let front : take (slot + 1) (slot_asks folder slots) ≡ slot_asks folder slot ++ for_slot folder slot ∷ [] =
+    take-map-range_with_len (for_slot folder) 0 slots (slot + 1) (omega arith) ∙ asks_more folder slot in
+    ap (λ (asks : List Ask). asks ++ drop (slot + 1) (slot_asks folder slots)) (sym front) ∙ take-append-drop (slot + 1) (slot_asks folder slots)
+
+pub asks_on : (folder : List ℕ) (slot slots : ℕ) (before middle after : List Ask) → slot < slots → middle ≡ before ++ slot_asks folder slot
+    → Asks middle after (for_slot folder slot ∷ []) → Asks before after (slot_asks folder slots)
+asks_on folder slot slots before middle after less so_far asks =
+    let rest = drop (slot + 1) (slot_asks folder slots) in
+    let first : (slot_asks folder slot ++ asks.asked) ++ (asks.first.0 ++ rest) ≡ slot_asks folder slots =
+    append_assoc (slot_asks folder slot) asks.asked (asks.first.0 ++ rest)
+    ∙ ap (λ (x : List Ask). slot_asks folder slot ++ x) (sym (append_assoc asks.asked asks.first.0 rest) ∙ ap (λ (x : List Ask). x ++ rest) asks.first.1)
+    ∙ sym (append_assoc (slot_asks folder slot) (for_slot folder slot ∷ []) rest)
+    ∙ asks_first folder slot slots less in
+    record {
+      asked = slot_asks folder slot ++ asks.asked;
+      added = asks.added ∙ ap (λ (x : List Ask). x ++ asks.asked) so_far ∙ append_assoc before (slot_asks folder slot) asks.asked;
+      first = (asks.first.0 ++ rest, first);
+    }
+
+module _ {D : Type 0} (moment_of : D → ℕ) (left_since : D → ℕ → List ℕ → Type 0) (told : D → Option (List ℕ)) (image : D → List ℕ → Type 0) (faults_of : D → ℕ) (script : Script) where
+  -- an object that was just begun goes on
+  begun_goes : (content : Option (List ℕ)) (named : Option Object) (core : Core D) → HasBegun moment_of left_since told image faults_of script content named core
+      → IsGoing moment_of left_since told image faults_of script content named [] [] core unused unused
+  begun_goes content named core begun = record {
+    origin = begun.origin;
+    begun = begun.begun;
+    one = begun.one;
+    posted = refl;
+    gives = ap (λ (queue : Both Event). sent_on queue) begun.inbox;
+    routed_first = refl;
+    hands = ap (λ (queue : Both Message). queue.got) begun.out;
+  }
+
+  -- the objects with that of one slot more
+  pub going_more : (contents : ℕ → Option (List ℕ)) (named after : Slots) (old new : Objects D) (slot : ℕ) (core : Core D) → length old.cores.items ≡ slot
+      → new.cores.items ≡ old.cores.items ++ core ∷ [] → new.inboxes.items ≡ old.inboxes.items ++ unused ∷ [] → new.outs.items ≡ old.outs.items ++ unused ∷ []
+      → OnlyAt slot named after → HasBegun moment_of left_since told image faults_of script (contents slot) (object_at after slot) core
+      → AreGoing moment_of left_since told image faults_of script contents named no_log old
+      → AreGoing moment_of left_since told image faults_of script contents after no_log new
+  going_more contents named after old new slot core many cores inboxes outs only begun going = record {
+    inboxes = omega (arith, ap length cores, ap length inboxes, length-append old.cores.items (core ∷ []), length-append old.inboxes.items (unused {X = Event} ∷ []), going.inboxes);
+    outs = omega (arith, ap length cores, ap length outs, length-append old.cores.items (core ∷ []), length-append old.outs.items (unused {X = Message} ∷ []), going.outs);
+    each = λ at that inbox out is_core is_inbox is_out.
+        let core_at : slice_get (old.cores.items ++ core ∷ []) at ≡ Some that = subst (λ (xs : List (Core D)). slice_get xs at ≡ Some that) cores is_core in
+        let inbox_at : slice_get (old.inboxes.items ++ unused ∷ []) at ≡ Some inbox = subst (λ (xs : List (Both Event)). slice_get xs at ≡ Some inbox) inboxes is_inbox in
+        let out_at : slice_get (old.outs.items ++ unused ∷ []) at ≡ Some out = subst (λ (xs : List (Both Message)). slice_get xs at ≡ Some out) outs is_out in
+        ⊎_elim
+        (λ less.
+        let other : at ≢ slot = λ same. omega (arith, same, less, many) in
+        subst (λ (object : Option Object). IsGoing moment_of left_since told image faults_of script (contents at) object [] [] that inbox out) (sym (only.others at other))
+        (going.each at that inbox out (push_before old.cores.items core that at less core_at)
+        (push_before old.inboxes.items unused inbox at (omega (arith, less, going.inboxes)) inbox_at)
+        (push_before old.outs.items unused out at (omega (arith, less, going.outs)) out_at)))
+        (λ more.
+        let last : length old.cores.items ≡ at = omega (arith, more, push_within old.cores.items core that at core_at) in
+        let here : slot ≡ at = sym many ∙ last in
+        subst (λ (n : ℕ). IsGoing moment_of left_since told image faults_of script (contents n) (object_at after n) [] [] that inbox out) here
+        (subst (λ (x : Core D). IsGoing moment_of left_since told image faults_of script (contents slot) (object_at after slot) [] [] x inbox out)
+        (push_last old.cores.items core that at last core_at)
+        (subst (λ (x : Both Event). IsGoing moment_of left_since told image faults_of script (contents slot) (object_at after slot) [] [] core x out)
+        (push_last old.inboxes.items unused inbox at (going.inboxes ∙ last) inbox_at)
+        (subst (λ (x : Both Message). IsGoing moment_of left_since told image faults_of script (contents slot) (object_at after slot) [] [] core unused x)
+        (push_last old.outs.items unused out at (going.outs ∙ last) out_at) (begun_goes (contents slot) (object_at after slot) core begun)))))
+        (cases_lt at (length old.cores.items));
+  }
+
+-- what was mounted and kept its object
+mounted_at : {D : Type 0} (told : D → Option (List ℕ)) (image : D → List ℕ → Type 0) (moment_of : D → ℕ) (left_since : D → ℕ → List ℕ → Type 0)
+    (disk : D) (mounted adopted : Mounted D) (content : Option (List ℕ)) (named : Option Object) → moment_of disk ≡ 0 → told disk ≡ content → adopted ≡ mounted → named ≡ mounted.identity
+    → IsMountOf told image moment_of left_since disk mounted → ((any : Object) → IsStaged mounted.journal any [])
+    → IsMountedAt moment_of left_since told image content named adopted
+mounted_at {D} told image moment_of left_since disk mounted adopted content named first content_is same named_is mount staged =
+    subst (λ (m : Mounted D). IsMountedAt moment_of left_since told image content named m) (sym same)
+    (record { disk = disk; first = first; content_is = content_is; mount = mount; object = sym named_is; staged = staged })
+
+-- why a slot isn't given its object, as a bad slot
+module _ {S : Type 0} (told : S → Option (List ℕ)) (image : S → List ℕ → Type 0) (moment_of : S → ℕ) (left_since : S → ℕ → List ℕ → Type 0)
+    (contents : ℕ → Option (List ℕ)) (named : Slots) (slot : ℕ) (disk : S) (mounted : Mounted S) (content_is : told disk ≡ contents slot)
+    (mount : IsMountOf told image moment_of left_since disk mounted) where
+  twice_bad : (bad : Bad) → IsNotTaken named slot mounted.identity (BadSlot bad) → IsBad contents named slot bad
+  twice_bad (Twice a b) why = (
+    why.0,
+    why.1,
+    (
+      why.2.0,
+      why.2.2,
+      λ file is. record {
+        frames = mount.frames;
+        recovers = mount.recovers file (content_is ∙ is);
+        names = subst (λ (o : Option Object). IsObjectOf o mount.frames) why.2.1 mount.object;
+      },
+    ),
+  )
+  twice_bad other why = absurd why
+
+  not_refused : (bad : Bad) → IsNotTaken named slot mounted.identity (BadSlot bad) → IsRefused bad → ⊥
+  not_refused (Twice a b) why refused = refused
+  not_refused other why refused = why
+
+  stops_adopting : (faults_of : S → ℕ) (faults later : ℕ) (unopened : Option S) (end : OpenEnd) → moment_of disk ≡ 0
+      → LeavesOnly moment_of left_since disk (disk_in mounted.journal) (ImageOrHeader (told disk) (image disk)) → unopened ≡ Some (disk_in mounted.journal)
+      → IsNotTaken named slot mounted.identity end
+      → StopsOpening told image moment_of left_since faults_of contents named slot faults later unopened end
+  stops_adopting faults_of faults later unopened end first leaves kept why =
+      let why_as : OpenEnd → Type 0 = IsNotTaken named slot mounted.identity in
+      let some : IsSome unopened = subst (λ (o : Option S). IsSome o) (sym kept) refl in
+      record {
+        failed = λ is. absurd (subst why_as is why);
+        bad = λ bad is. (twice_bad bad (subst why_as is why), some);
+        handed = subst (λ (o : Option S). IfSome o (LeavesHanded told image moment_of left_since (contents slot))) (sym kept)
+            (record { handed = disk; first = first; content_is = content_is; leaves = leaves });
+        untouched = λ bad is refused. absurd (not_refused bad (subst why_as is why) refused);
+      }
+
+-- the answer is that the slot isn't given its object
+pub stopped_adopting : {S T : Type 0} (told : S → Option (List ℕ)) (image : S → List ℕ → Type 0) (moment_of : S → ℕ) (left_since : S → ℕ → List ℕ → Type 0) (faults_of : S → ℕ)
+    (disk : S) (mounted : Mounted S) (result : Result T OpenEnd) (content : Option (List ℕ)) (slot : ℕ) (old named : Slots) (unopened : Option S) (faults later : ℕ)
+    → moment_of disk ≡ 0 → told disk ≡ content → IsMountOf told image moment_of left_since disk mounted
+    → LeavesOnly moment_of left_since disk (disk_in mounted.journal) (ImageOrHeader (told disk) (image disk))
+    → OnErr result (unopened ≡ Some (disk_in mounted.journal)) → OnErr result (named ≡ old) → IfErr result (IsNotTaken old slot mounted.identity)
+    → IfErr result (λ end. (contents : ℕ → Option (List ℕ)) → content ≡ contents slot
+    → StopsOpening told image moment_of left_since faults_of contents named slot faults later unopened end)
+stopped_adopting told image moment_of left_since faults_of disk mounted (Ok value) content slot old named unopened faults later first content_is mount leaves kept same why = tt
+stopped_adopting told image moment_of left_since faults_of disk mounted (Err end) content slot old named unopened faults later first content_is mount leaves kept same why = λ contents is.
+    stops_adopting told image moment_of left_since contents named slot disk mounted (content_is ∙ is) mount faults_of faults later unopened end first leaves kept
+    (subst (λ (slots : Slots). IsNotTaken slots slot mounted.identity end) (sym same) why)
+
+-- the answer is what was mounted
+pub was_mounted : {D : Type 0} (told : D → Option (List ℕ)) (image : D → List ℕ → Type 0) (moment_of : D → ℕ) (left_since : D → ℕ → List ℕ → Type 0)
+    (disk : D) (mounted : Mounted D) (result : Result (Mounted D) OpenEnd) (content : Option (List ℕ)) (named : Option Object) → moment_of disk ≡ 0 → told disk ≡ content
+    → IfOk result (λ adopted. adopted ≡ mounted) → OnOk result (named ≡ mounted.identity)
+    → IsMountOf told image moment_of left_since disk mounted → ((any : Object) → IsStaged mounted.journal any [])
+    → IfOk result (IsMountedAt moment_of left_since told image content named)
+was_mounted told image moment_of left_since disk mounted (Ok adopted) content named first content_is same named_is mount staged =
+    mounted_at told image moment_of left_since disk mounted adopted content named first content_is same named_is mount staged
+was_mounted told image moment_of left_since disk mounted (Err end) content named first content_is same named_is mount staged = tt

@@ -1,0 +1,193 @@
+-- The row of an object, and those of all.
+use Rattle.std.proofs.Common.{◌≡◌, ◌<◌, ⊎_elim, inl, inr, ℕ, List, [], ◌∷◌, ◌++◌, length, map, Option, Some, None, refl, sym, ap, subst, ◌∙◌, arith, append_assoc}
+use Rattle.std.specs.Prelude.{Bool, true, false, slice_get}
+use Rattle.std.specs.List.{Contains}
+use Rattle.std.proofs.lemmas.Bool.{cases_lt}
+use Rattle.std.proofs.lemmas.Option.{slice_get_cases, slice_get_within}
+use Rattle.batch_journal.specs.Moments.{IsTold}
+use Rattle.do_tree.specs.Tree.{Script}
+use Rattle.lane.specs.Lanes.{Both, sent_on}
+use Rattle.mailbox.specs.Posting.{of_slot}
+use Rattle.object_core.specs.Laws.{HasIntake, OneHasClass, OneHasGot, OneHasIntake, OneHasLeft, OneHasTold, OneIsHistory}
+use Rattle.object_core.specs.One.{CanRun, class_in, messages}
+use Rattle.object_core.specs.declared.object.Core.{Core}
+use Rattle.object_front.specs.Came.{AreCome, kept}
+use Rattle.object_front.specs.Classed.{class_by}
+use Rattle.object_front.specs.Evaluated.{seen}
+use Rattle.object_front.specs.Standing.{IsClass, IsHalf, Stood, is_stopped}
+use Rattle.object_front.specs.Turning.{CanTurn}
+use Rattle.object_front.specs.declared.evaluated.Evaluated.{Evaluated}
+use Rattle.object_front.specs.declared.half.Half.{Half}
+use Rattle.output_gate.specs.Storing.{IsDiskOf}
+use Rattle.output_gate.specs.Telling.{HasTold, opened_map}
+use Rattle.placement.specs.Slots.{Slots, object_at}
+use Rattle.storage_map.specs.Limits.{Object}
+use Rattle.timeline.specs.Headline.{IsHistory, IsPrefix}
+use Rattle.timeline.specs.Logs.{Backed, Fronted, backed, fronted}
+use Rattle.timeline.specs.Switch.{SwitchLog}
+use Rattle.timeline.specs.declared.entry.Body.TheVariants as body
+use Rattle.timeline.specs.declared.entry.Entry.{Entry}
+use Rattle.timeline.specs.declared.event.Event.{Event}
+use Rattle.timeline.specs.declared.message.Message.{Message}
+use Rattle.host_core.proofs.Pushed.{before_push, next_at, push_before, push_last, push_within}
+use Rattle.host_core.specs.Closing.{IsLetGoOf, IsRowOf}
+use Rattle.host_core.specs.Objects.{AreGoing, AreResting, AreRouted, AreSlots, CanAllRun}
+use Rattle.host_core.specs.Quiet.{AreLetGo}
+use Rattle.host_core.specs.Rows.{AreRows, AreServed, IsObjectIn}
+use Rattle.host_core.specs.Slots.{IsSlot}
+use Rattle.host_core.specs.declared.objects.Objects.{Objects}
+use Rattle.host_core.specs.declared.report.SlotReport.{SlotReport}
+
+-- a front stands, or memory was wanting
+can_turn_by : (script : Script) (front : Half Evaluated) (st : Stood) (stopped : Bool) → is_stopped front ≡ stopped → (is_stopped front ≡ false → IsHalf seen script front st)
+    → CanTurn seen script front
+can_turn_by script front st true is stands = inl is
+can_turn_by script front st false is stands = inr (st, stands is)
+
+pub can_turn : (script : Script) (front : Half Evaluated) (st : Stood) → (is_stopped front ≡ false → IsHalf seen script front st) → CanTurn seen script front
+can_turn script front st = can_turn_by script front st (is_stopped front) refl
+
+-- the class that is known
+class_is : (has : Option ℕ) (class : ℕ) → has ≡ Some class → IsClass has class
+class_is has class is = subst (λ (o : Option ℕ). IsClass o class) (sym is) refl
+
+module _ {D : Type 0} (moment_of : D → ℕ) (left_since : D → ℕ → List ℕ → Type 0) (told : D → Option (List ℕ)) (image : D → List ℕ → Type 0) (faults_of : D → ℕ)
+    (core : Core D) (row : SlotReport D) (store_is : IsDiskOf core.back.store row.store) (identity_is : row.identity ≡ core.back.identity)
+    (front_is : fronted row.front ≡ fronted core.front.half.log) (back_is : backed row.back ≡ backed core.back.log)
+    (history : OneIsHistory moment_of left_since told image faults_of core) (intake : OneHasIntake moment_of left_since told image faults_of core)
+    (got : OneHasGot moment_of left_since told image faults_of core) (class : OneHasClass moment_of left_since told image faults_of core)
+    (left : OneHasLeft moment_of left_since told image faults_of core) (tells : OneHasTold moment_of left_since told image faults_of core) where
+  module _ (script : Script) (content : Option (List ℕ)) (named : Option Object) (posts : List Event) (routed : List Message) (inbox : Both Event) (out : Both Message)
+      (slot : IsSlot moment_of left_since told image faults_of script content named posts routed core inbox out) where
+    object_in : IsObjectIn named row
+    object_in =
+        ⊎_elim (λ same. inl (identity_is ∙ same ∙ slot.begun.object))
+        (λ bound. inr (
+          bound.0,
+          identity_is ∙ bound.1,
+          subst (λ (log : Backed). Contains (map (λ (e : Entry). e.body) log.taken) (body.Bind bound.0)) (sym back_is) bound.2,
+        ))
+        (class script slot.origin slot.one).named
+
+    class_of : (c : ℕ) → class_by script (class_in script named) (fronted row.front) ≡ Some c → IsClass slot.one.st.class c
+    class_of c is =
+        class_is slot.one.st.class c ((class script slot.origin slot.one).classed.stays c
+        (subst (λ (log : Fronted). class_by script (class_in script slot.origin.object) log ≡ Some c) front_is
+        (subst (λ (o : Option Object). class_by script (class_in script o) (fronted row.front) ≡ Some c) (sym slot.begun.object) is)))
+
+    history_in : IsTold (told row.store) → (c : ℕ) → class_by script (class_in script named) (fronted row.front) ≡ Some c
+        → IsHistory script c (opened_map slot.origin.start) (fronted row.front) (backed row.back)
+    history_in is_told c is =
+        subst (λ (log : Backed). IsHistory script c (opened_map slot.origin.start) (fronted row.front) log) (sym back_is)
+        (subst (λ (log : Fronted). IsHistory script c (opened_map slot.origin.start) log (backed core.back.log)) (sym front_is)
+        (history script slot.origin (row.store, store_is, is_told) slot.one c (class_of c is)))
+
+    intake_in : IsTold (told row.store) → (c : ℕ) → class_by script (class_in script named) (fronted row.front) ≡ Some c
+        → HasIntake script c (opened_map slot.origin.start) (fronted row.front)
+    intake_in is_told c is =
+        subst (λ (log : Fronted). HasIntake script c (opened_map slot.origin.start) log) (sym front_is)
+        (intake script slot.origin (row.store, store_is, is_told) slot.one c (class_of c is))
+
+    tells_in : IsTold (told row.store)
+        → HasTold moment_of left_since faults_of row.identity slot.origin.start slot.origin.opening (fronted row.front) row.store (backed row.back)
+    tells_in is_told =
+        subst (λ (o : Option Object). HasTold moment_of left_since faults_of o slot.origin.start slot.origin.opening (fronted row.front) row.store (backed row.back)) (sym identity_is)
+        (subst (λ (log : Backed). HasTold moment_of left_since faults_of core.back.identity slot.origin.start slot.origin.opening (fronted row.front) row.store log) (sym back_is)
+        (subst (λ (log : Fronted). HasTold moment_of left_since faults_of core.back.identity slot.origin.start slot.origin.opening log row.store (backed core.back.log)) (sym front_is)
+        (tells script slot.origin row.store store_is is_told slot.one)))
+
+    served_in : AreServed posts row
+    served_in =
+        let has = got script slot.origin slot.one in
+        record {
+          got = core.inbox.got;
+          first = (core.inbox.waiting ++ slot.given.0, slot.given.1 ∙ append_assoc core.inbox.got core.inbox.waiting slot.given.0);
+          keeps = kept slot.one.st;
+          lost = has.lost;
+          few = has.few;
+          come = subst (λ (log : Fronted). AreCome core.inbox.got log (kept slot.one.st) has.lost) (sym front_is) has.come;
+        }
+
+    routes_in : IsPrefix routed (messages row.back.released.items)
+    routes_in =
+        let rest = out.waiting ++ slot.handed.0 in (
+          rest,
+          ap (λ (ms : List Message). ms ++ rest) (sym slot.routed_first) ∙ sym (append_assoc out.got out.waiting slot.handed.0) ∙ sym slot.handed.1
+              ∙ ap (λ (ms : List Message). ms ++ sent_on core.out) (sym slot.begun.left) ∙ sym (left script slot.origin slot.one)
+              ∙ ap (λ (log : Backed). messages log.released) (sym back_is),
+        )
+
+  pub is_row_of : IsRowOf moment_of left_since told image faults_of core row
+  is_row_of script content named posts routed inbox out slot = record {
+    origin = slot.origin;
+    begun = slot.begun;
+    object = object_in script content named posts routed inbox out slot;
+    history = history_in script content named posts routed inbox out slot;
+    intake = intake_in script content named posts routed inbox out slot;
+    tells = tells_in script content named posts routed inbox out slot;
+    served = served_in script content named posts routed inbox out slot;
+    routes = routes_in script content named posts routed inbox out slot;
+  }
+
+-- an item stands at each place of a list
+item_at : {X : Type 0} (xs : List X) (at : ℕ) → at < length xs → (x : X) × (slice_get xs at ≡ Some x)
+item_at {X} xs at less = ⊎_elim (λ there. (there.0, there.2)) (λ past. absurd (omega (arith, less, past.0))) (slice_get_cases xs at).1
+
+module _ {D : Type 0} (moment_of : D → ℕ) (left_since : D → ℕ → List ℕ → Type 0) (told : D → Option (List ℕ)) (image : D → List ℕ → Type 0) (faults_of : D → ℕ) where
+  -- what a row tells of its object, also where that rests
+  abbrev pub TellsOf : Core D → SlotReport D → Type 0
+  TellsOf core row = IsRowOf moment_of left_since told image faults_of core row × IsLetGoOf moment_of left_since told image faults_of core row
+
+  -- each row is one of the object in its place
+  abbrev pub AreRowsOf : List (Core D) → List (SlotReport D) → Type 0
+  AreRowsOf cores rows = (slot : ℕ) (row : SlotReport D) → slice_get rows slot ≡ Some row
+      → (core : Core D) × (slice_get cores slot ≡ Some core) × TellsOf core row
+
+  pub no_rows : (rows : List (SlotReport D)) → rows ≡ [] → AreRowsOf [] rows
+  no_rows rows none = λ slot row there.
+      let never : None ≡ Some row = subst (λ (xs : List (SlotReport D)). slice_get xs slot ≡ Some row) none there in absurd cc
+
+  pub rows_more : (cores : List (Core D)) (rows after : List (SlotReport D)) (core : Core D) (row : SlotReport D) → length rows ≡ length cores
+      → after ≡ rows ++ row ∷ [] → TellsOf core row → AreRowsOf cores rows → AreRowsOf (cores ++ core ∷ []) after
+  rows_more cores rows after core row many pushed is are = λ slot that there.
+      let at : slice_get (rows ++ row ∷ []) slot ≡ Some that = subst (λ (xs : List (SlotReport D)). slice_get xs slot ≡ Some that) pushed there in
+      ⊎_elim
+      (λ less. let of = are slot that (push_before rows row that slot less at) in (of.0, before_push cores core of.0 slot of.1, of.2))
+      (λ more.
+      let last : length cores ≡ slot = omega (arith, more, many, push_within rows row that slot at) in
+      let mine : slice_get (cores ++ core ∷ []) slot ≡ Some core = subst (λ (n : ℕ). slice_get (cores ++ core ∷ []) n ≡ Some core) last (next_at cores core []) in
+      (core, mine, subst (λ (r : SlotReport D). TellsOf core r) (push_last rows row that slot (many ∙ last) at) is))
+      (cases_lt slot (length rows))
+
+  pub all_rows : (objects : Objects D) (rows : List (SlotReport D)) → AreRowsOf objects.cores.items rows
+      → (script : Script) (contents : ℕ → Option (List ℕ)) (named : Slots) (log : SwitchLog)
+      → AreSlots moment_of left_since told image faults_of script contents named log objects → AreRows moment_of left_since told faults_of script contents named log rows
+  all_rows objects rows are script contents named log slots = λ slot row there.
+      let of = are slot row there in
+      let within = slice_get_within objects.cores.items slot of.0 of.1 in
+      let inbox = item_at objects.inboxes.items slot (omega (arith, within, slots.inboxes)) in
+      let out = item_at objects.outs.items slot (omega (arith, within, slots.outs)) in
+      of.2.0 script (contents slot) (object_at named slot) (of_slot slot log.posts) (of_slot slot log.routed) inbox.0 out.0 (slots.each slot of.0 inbox.0 out.0 of.1 inbox.1 out.1)
+
+  pub all_let_go : (objects : Objects D) (rows : List (SlotReport D)) → AreRowsOf objects.cores.items rows
+      → (script : Script) (contents : ℕ → Option (List ℕ)) (named : Slots) (log : SwitchLog)
+      → AreGoing moment_of left_since told image faults_of script contents named log objects → AreResting script objects → AreRouted objects
+      → AreLetGo told script named log rows
+  all_let_go objects rows are script contents named log going rests routed = λ slot row there.
+      let of = are slot row there in
+      let within = slice_get_within objects.cores.items slot of.0 of.1 in
+      let inbox = item_at objects.inboxes.items slot (omega (arith, within, going.inboxes)) in
+      let out = item_at objects.outs.items slot (omega (arith, within, going.outs)) in
+      of.2.1 script (contents slot) (object_at named slot) (of_slot slot log.posts) (of_slot slot log.routed) inbox.0 out.0
+      (going.each slot of.0 inbox.0 out.0 of.1 inbox.1 out.1) (rests.each slot of.0 inbox.0 out.0 of.1 inbox.1 out.1) (routed.each slot of.0 inbox.0 out.0 of.1 inbox.1 out.1)
+
+  -- the next object can run
+  pub next_can : (objects : Objects D) (script : Script) (before rest : List (Core D)) (core : Core D) → objects.cores.items ≡ before ++ core ∷ rest
+      → CanAllRun moment_of left_since told image faults_of script objects → CanRun moment_of left_since told image faults_of script core
+  next_can objects script before rest core all can =
+      let there : slice_get objects.cores.items (length before) ≡ Some core =
+      subst (λ (xs : List (Core D)). slice_get xs (length before) ≡ Some core) (sym all) (next_at before core rest) in
+      let within = slice_get_within objects.cores.items (length before) core there in
+      let inbox = item_at objects.inboxes.items (length before) (omega (arith, within, can.inboxes)) in
+      let out = item_at objects.outs.items (length before) (omega (arith, within, can.outs)) in
+      can.each (length before) core inbox.0 out.0 there inbox.1 out.1

@@ -1,0 +1,17 @@
+use Rattle.host_core.proofs.Actions.{acts_then}
+use Rattle.host_core.proofs.acting.act_on.Goals as goal
+
+pub returns-in_err-act-clause-one : goal.returns-in_err-act-clause-one
+returns-in_err-act-clause-one g c origin one = c.act.ensures.one origin (c.loop.invariant.one origin one)
+
+pub returns-then-not-branch-clause-one : goal.returns-then-not-branch-clause-one
+returns-then-not-branch-clause-one g c origin one = c.act.ensures.one origin (c.loop.invariant.one origin one)
+
+pub loop-preserved : goal.loop-preserved
+loop-preserved g c = record {
+  can_next = tt;
+  can = c.act.ensures.again;
+  one = λ origin one. c.act.ensures.one origin (c.loop.invariant.one origin one);
+  acts = acts_then _ _ _ c.loop.invariant.acts c.act.ensures.acts;
+  finite = tt;
+}

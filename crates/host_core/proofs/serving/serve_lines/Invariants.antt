@@ -1,0 +1,29 @@
+use Rattle.std.proofs.Common.{◌≡◌, ◌-◌, ℕ, List, [], length, Option, None}
+use Rattle.std.specs.Prelude.{Ok}
+use Rattle.do_tree.specs.Checked.{tree_of}
+use Rattle.line_server.specs.Lines.{IsReading, source_of, count_of, fault_of as line_fault}
+use Rattle.line_server.specs.declared.TheConstants.{MOST_LINES}
+use Rattle.placement.specs.Slots.{Slots}
+use Rattle.mailbox.specs.Runs.{fault_of, log_of}
+use Rattle.host_core.specs.Objects.{CanAllRun}
+use Rattle.host_core.specs.Reading.{read_lines}
+use Rattle.host_core.specs.Running.{IsAtRest, IsServing, KeepsServing, Prints}
+use Rattle.host_core.proofs.serving.serve_lines.Given as goal
+
+-- the run serves, rests, and has accepted all lines that were read
+abbrev pub invariant-loop-line : goal.invariant-loop-line
+invariant-loop-line g l = record {
+  some : (contents : ℕ → Option (List ℕ)) × (named : Slots)
+      × IsServing g.D.Disk.moment_of g.D.Disk.left_since g.D.Disk.told g.D.Disk.image g.D.Disk.faults_of (tree_of l.checked) contents named l.switch l.objects;
+  serves : KeepsServing g.D.Disk.moment_of g.D.Disk.left_since g.D.Disk.told g.D.Disk.image g.D.Disk.faults_of (tree_of l.checked) l.fn.switch l.switch l.fn.objects l.objects;
+  again : CanAllRun g.D.Disk.moment_of g.D.Disk.left_since g.D.Disk.told g.D.Disk.image g.D.Disk.faults_of (tree_of l.checked) l.objects;
+  rests : IsAtRest (tree_of l.checked) l.objects;
+  many : length l.objects.cores.items ≡ length l.fn.objects.cores.items;
+  reading : (whole : List ℕ) → IsReading g.R.Source.left whole [] l.fn.lines → IsReading g.R.Source.left whole (read_lines (log_of l.switch).accepted) l.lines;
+  good : line_fault l.lines ≡ None;
+  source : g.R.Source.faults_of (source_of l.lines) ≡ g.R.Source.faults_of (source_of l.fn.lines);
+  prints : Prints {T = Unit {0}} g.W.Sink.taken g.W.Sink.faults_of l.fn.switch l.switch (Ok tt);
+}
+
+abbrev pub decreases-loop-line : goal.decreases-loop-line
+decreases-loop-line g l = MOST_LINES - count_of l.lines

@@ -1,0 +1,59 @@
+-- What mounting one slot gives, and how its object begins.
+use Rattle.std.specs.Prelude.{◌≡◌, ◌≢◌, ◌<◌, ◌≤◌, ℕ, List, [], length, Option, Some, None, ⊤}
+use Rattle.batch_journal.specs.Mounting.{IsMountOf}
+use Rattle.batch_journal.specs.Rest.{IsStaged}
+use Rattle.batch_journal.specs.declared.mount.Mounted.{Mounted}
+use Rattle.batch_journal.specs.declared.mount.MountFault.{MountFault}
+use Rattle.batch_journal.specs.declared.mount.MountFault.TheVariants as fault
+use Rattle.do_tree.specs.Tree.{Script}
+use Rattle.object_core.specs.One.{IsOne, Origin, unused}
+use Rattle.object_core.specs.declared.object.Core.{Core}
+use Rattle.placement.specs.Slots.{Slots, IsOneEach, object_at}
+use Rattle.storage_map.specs.Limits.{Object}
+use Rattle.host_core.specs.Slots.{IsBegun}
+use Rattle.host_core.specs.declared.opening.OpenEnd.{OpenEnd}
+use Rattle.host_core.specs.declared.opening.OpenEnd.TheVariants.{Failed, BadSlot, NoMemory}
+use Rattle.host_core.specs.declared.settings.Bad.TheVariants as bad
+
+-- No slot from this one on has an object.
+abbrev pub AreFreeFrom : ℕ → Slots → Type 0
+AreFreeFrom at named = (slot : ℕ) → at ≤ slot → object_at named slot ≡ None
+
+-- At most this slot got an object, and no object stands in two.
+pub record OnlyAt (at : ℕ) (old new : Slots) : Type 0 where
+  pub many : length new ≡ length old
+  pub one_each : IsOneEach new
+  pub others : (slot : ℕ) → slot ≢ at → object_at new slot ≡ object_at old slot
+
+-- Why the slot isn't given this object: an earlier slot has it, or memory was wanting.
+abbrev pub IsNotTaken : Slots → ℕ → Option Object → OpenEnd → Type 0
+IsNotTaken named at object (BadSlot (bad.Twice a b)) = (b ≡ at) × (a < at) × ((twice : Object) × (object ≡ Some twice) × (object_at named a ≡ Some twice))
+IsNotTaken named at object NoMemory = ⊤
+IsNotTaken named at object end = ⊥
+
+-- How opening ends whose slot isn't mounted for this fault.
+abbrev pub mounting_end : {D : Type 0} → ℕ → MountFault D → OpenEnd
+mounting_end slot (fault.DiskFailed disk) = Failed
+mounting_end slot (fault.Foreign disk place) = BadSlot (bad.Foreign slot place)
+mounting_end slot (fault.Damaged disk place) = BadSlot (bad.Damaged slot place)
+mounting_end slot (fault.Mixed disk first other) = BadSlot (bad.Mixed slot first other)
+mounting_end slot (fault.NoMemory disk) = NoMemory
+
+-- What was mounted of a slot's disk before its first call, whose file has this content. It has this object, and nothing is staged.
+pub record IsMountedAt {D : Type 0} (moment_of : D → ℕ) (left_since : D → ℕ → List ℕ → Type 0) (told : D → Option (List ℕ)) (image : D → List ℕ → Type 0)
+    (content : Option (List ℕ)) (named : Option Object) (mounted : Mounted D) : Type 0 where
+  pub disk : D
+  pub first : moment_of disk ≡ 0
+  pub content_is : told disk ≡ content
+  pub mount : IsMountOf told image moment_of left_since disk mounted
+  pub object : mounted.identity ≡ named
+  pub staged : (any : Object) → IsStaged mounted.journal any []
+
+-- An object that was just made of a slot whose file had this content, and which names this object.
+pub record HasBegun {D : Type 0} (moment_of : D → ℕ) (left_since : D → ℕ → List ℕ → Type 0) (told : D → Option (List ℕ)) (image : D → List ℕ → Type 0) (faults_of : D → ℕ)
+    (script : Script) (content : Option (List ℕ)) (named : Option Object) (core : Core D) : Type 0 where
+  pub origin : Origin
+  pub begun : IsBegun content named origin
+  pub one : IsOne moment_of left_since told image faults_of script origin core
+  pub inbox : core.inbox ≡ unused
+  pub out : core.out ≡ unused

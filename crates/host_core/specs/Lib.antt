@@ -1,0 +1,14 @@
+pub mod Acting
+pub mod Moving
+pub mod Slots
+pub mod Objects
+pub mod Running
+pub mod Rows
+pub mod Quiet
+pub mod Closing
+pub mod Reading
+pub mod Begun
+pub mod Opening
+pub mod Ends
+pub mod Finishing
+pub mod Report

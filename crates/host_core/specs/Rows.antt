@@ -1,0 +1,62 @@
+-- What the rows of a report tell.
+use Rattle.std.specs.Prelude.{◌≡◌, ◌⊎◌, ◌≤◌, ℕ, List, length, map, slice_get, Option, Some}
+use Rattle.std.specs.List.{Contains}
+use Rattle.batch_journal.specs.Moments.{IsTold}
+use Rattle.do_tree.specs.Tree.{Script}
+use Rattle.lane.specs.Lanes.{StartsWith}
+use Rattle.mailbox.specs.Posting.{of_slot}
+use Rattle.object_core.specs.Laws.{HasIntake}
+use Rattle.object_core.specs.One.{Origin, class_in, messages}
+use Rattle.object_front.specs.Came.{AreCome}
+use Rattle.object_front.specs.Classed.{class_by}
+use Rattle.output_gate.specs.Telling.{HasTold, opened_map}
+use Rattle.placement.specs.Slots.{Slots, object_at}
+use Rattle.storage_map.specs.Limits.{Object}
+use Rattle.timeline.specs.Headline.{IsHistory, IsPrefix}
+use Rattle.timeline.specs.Logs.{fronted, backed}
+use Rattle.timeline.specs.Switch.{SwitchLog}
+use Rattle.timeline.specs.declared.entry.Body.TheVariants as body
+use Rattle.timeline.specs.declared.entry.Entry.{Entry}
+use Rattle.timeline.specs.declared.event.Event.{Event}
+use Rattle.timeline.specs.declared.message.Message.{Message}
+use Rattle.host_core.specs.Slots.{IsBegun}
+use Rattle.host_core.specs.declared.report.SlotReport.{SlotReport}
+
+-- The row's object is the one that the slot had at the opening, or one that was bound since.
+abbrev pub IsObjectIn : {S : Type 0} → Option Object → SlotReport S → Type 0
+IsObjectIn named row = (row.identity ≡ named)
+    ⊎ ((bound : Object) × (row.identity ≡ Some bound) × Contains (map (λ (e : Entry). e.body) row.back.taken.items) (body.Bind bound))
+
+-- What was posted to the slot: the object got the first of it. Of what it got each event was delivered, answered by `Down`, dropped or kept,
+-- each once, and at most one was lost to it; and calls were delivered in the order in which they were posted.
+pub record AreServed {S : Type 0} (posts : List Event) (row : SlotReport S) : Type 0 where
+  pub got : List Event
+  pub first : StartsWith posts got
+  pub keeps : List Event
+  pub lost : List Event
+  pub few : length lost ≤ 1
+  pub come : AreCome got (fronted row.front) keeps lost
+
+-- What one row tells of its slot, whose file had this content, to which these events were posted, and from which these messages were routed.
+-- While its disk tells its content: what the object said is what its script tells over the delivered events, each incarnation over the map
+-- with which it starts, and events were delivered through the input gate; and what a crash leaves, now or at any moment since the opening,
+-- recovers to a prefix of its whole batches, which since a release holds what the release needs.
+pub record IsRow {S : Type 0} (moment_of : S → ℕ) (left_since : S → ℕ → List ℕ → Type 0) (told : S → Option (List ℕ)) (faults_of : S → ℕ)
+    (script : Script) (content : Option (List ℕ)) (named : Option Object) (posts : List Event) (routed : List Message) (row : SlotReport S) : Type 0 where
+  pub origin : Origin
+  pub begun : IsBegun content named origin
+  pub object : IsObjectIn named row
+  pub history : IsTold (told row.store) → (class : ℕ) → class_by script (class_in script named) (fronted row.front) ≡ Some class
+      → IsHistory script class (opened_map origin.start) (fronted row.front) (backed row.back)
+  pub intake : IsTold (told row.store) → (class : ℕ) → class_by script (class_in script named) (fronted row.front) ≡ Some class
+      → HasIntake script class (opened_map origin.start) (fronted row.front)
+  pub tells : IsTold (told row.store)
+      → HasTold moment_of left_since faults_of row.identity origin.start origin.opening (fronted row.front) row.store (backed row.back)
+  pub served : AreServed posts row
+  pub routes : IsPrefix routed (messages row.back.released.items)
+
+-- Each row tells this of its own slot.
+abbrev pub AreRows : {S : Type 0} (moment_of : S → ℕ) (left_since : S → ℕ → List ℕ → Type 0) (told : S → Option (List ℕ)) (faults_of : S → ℕ)
+    → Script → (contents : ℕ → Option (List ℕ)) → (named : Slots) → SwitchLog → List (SlotReport S) → Type 0
+AreRows {S} moment_of left_since told faults_of script contents named log rows = (slot : ℕ) (row : SlotReport S) → slice_get rows slot ≡ Some row
+    → IsRow moment_of left_since told faults_of script (contents slot) (object_at named slot) (of_slot slot log.posts) (of_slot slot log.routed) row
