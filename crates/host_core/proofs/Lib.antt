@@ -13,7 +13,11 @@ pub mod Opened
 pub mod Adopting
 pub mod Beginning
 pub mod Quiet
+pub mod Settled
+pub mod Remaining
 pub mod Rows
+pub mod Answered
+pub mod InOrder
 pub mod Reading
 pub mod Ending
 pub mod Reporting

@@ -17,7 +17,7 @@ use Rattle.host_core.specs.Slots.{IsGoing, IsResting}
 use Rattle.host_core.specs.declared.report.SlotReport.{SlotReport}
 
 -- nothing is to be done in an object that has settled
-nothing_to_do : {D : Type 0} (script : Script) (core : Core D) → HasSettled script core → HasNothingToDo script core
+pub nothing_to_do : {D : Type 0} (script : Script) (core : Core D) → HasSettled script core → HasNothingToDo script core
 nothing_to_do script core settled = record {
   turn = settled.turned;
   take = settled.taken;
@@ -26,6 +26,15 @@ nothing_to_do script core settled = record {
   mend = settled.mended;
 }
 
+-- all that an object released was routed, where it rests and nothing of it waits
+pub all_routed : {D : Type 0} (moment_of : D → ℕ) (left_since : D → ℕ → List ℕ → Type 0) (told : D → Option (List ℕ)) (image : D → List ℕ → Type 0) (faults_of : D → ℕ)
+    (core : Core D) (script : Script) (content : Option (List ℕ)) (named : Option Object) (posts : List Event) (routed : List Message) (inbox : Both Event) (out : Both Message)
+    → IsGoing moment_of left_since told image faults_of script content named posts routed core inbox out → IsResting script core inbox → out.waiting ≡ []
+    → sent_on core.out ≡ routed
+all_routed moment_of left_since told image faults_of core script content named posts routed inbox out going rests none =
+    ap (λ (ms : List Message). core.out.got ++ ms) rests.let_go ∙ append-nil core.out.got ∙ going.hands
+    ∙ ap (λ (ms : List Message). out.got ++ ms) none ∙ append-nil out.got ∙ going.routed_first
+
 module _ {D : Type 0} (moment_of : D → ℕ) (left_since : D → ℕ → List ℕ → Type 0) (told : D → Option (List ℕ)) (image : D → List ℕ → Type 0) (faults_of : D → ℕ)
     (core : Core D) (row : SlotReport D) (store_is : IsDiskOf core.back.store row.store)
     (front_is : fronted row.front ≡ fronted core.front.half.log) (back_is : backed row.back ≡ backed core.back.log)
@@ -33,12 +42,6 @@ module _ {D : Type 0} (moment_of : D → ℕ) (left_since : D → ℕ → List �
   module _ (script : Script) (content : Option (List ℕ)) (named : Option Object) (posts : List Event) (routed : List Message) (inbox : Both Event) (out : Both Message)
       (going : IsGoing moment_of left_since told image faults_of script content named posts routed core inbox out) (rests : IsResting script core inbox)
       (none : out.waiting ≡ []) where
-    -- all that the object released was routed
-    all_routed : sent_on core.out ≡ routed
-    all_routed =
-        ap (λ (ms : List Message). core.out.got ++ ms) rests.let_go ∙ append-nil core.out.got ∙ going.hands
-        ∙ ap (λ (ms : List Message). out.got ++ ms) none ∙ append-nil out.got ∙ going.routed_first
-
     core_lets_go : IsTold (told row.store) → HasItsClass script named → HasLetGo (fronted core.front.half.log) (backed core.back.log) (sent_on core.out)
     core_lets_go is_told has =
         lets_go script going.origin (row.store, store_is, is_told) going.one (subst (λ (o : Option Object). HasItsClass script o) (sym going.begun.object) has)
@@ -48,7 +51,8 @@ module _ {D : Type 0} (moment_of : D → ℕ) (left_since : D → ℕ → List �
     row_lets_go is_told has =
         subst (λ (log : Backed). HasLetGo (fronted row.front) log routed) (sym back_is)
         (subst (λ (log : Fronted). HasLetGo log (backed core.back.log) routed) (sym front_is)
-        (subst (λ (ms : List Message). HasLetGo (fronted core.front.half.log) (backed core.back.log) ms) all_routed (core_lets_go is_told has)))
+        (subst (λ (ms : List Message). HasLetGo (fronted core.front.half.log) (backed core.back.log) ms)
+        (all_routed moment_of left_since told image faults_of core script content named posts routed inbox out going rests none) (core_lets_go is_told has)))
 
   pub is_let_go_of : IsLetGoOf moment_of left_since told image faults_of core row
   is_let_go_of script content named posts routed inbox out going rests none =

@@ -30,7 +30,7 @@ use Rattle.host_core.specs.Ends.{is_late, is_served, most_waiting, opening_end, 
 use Rattle.host_core.specs.Finishing.{Finishes}
 use Rattle.host_core.specs.Objects.{AreGoing, AreThere}
 use Rattle.host_core.specs.Opening.{IsBad}
-use Rattle.host_core.specs.Quiet.{AreLetGo, IsLetGo}
+use Rattle.host_core.specs.Quiet.{AreCallsInOrder, AreLeftIn, AreLetGo, AreSettled, IsLetGo, IsSettled, remaining_of}
 use Rattle.host_core.specs.Reading.{Accepts, AcceptsAll, AcceptsAllRead}
 use Rattle.host_core.specs.Report.{IsFinished, IsReport, PrintsLines, is_opening_end, most_unaccepted}
 use Rattle.host_core.specs.Rows.{AreRows, IsRow}
@@ -91,10 +91,6 @@ finished_is served end by is = was_finished served (sym (ends_so served end by (
 pub read_is : (served : Result (Unit {0}) Stop) (end : ServeEnd) → EndsBy served end → end ≡ ends.ReadFailed → served ≡ Err stops.ReadFailed
 read_is served end by is = was_read served (sym (ends_so served end by (ap is_served is)) ∙ is)
 
-pub of_ok : {T E : Type 0} (result : Result T E) (x : T) (P : Type 0) → result ≡ Ok x → OnOk result P → P
-of_ok (Ok y) x P is p = p
-of_ok (Err e) x P is p = cc
-
 -- As many lines may be looked at and not accepted.
 stopped_most : (served : Result (Unit {0}) Stop) → most_waiting served ≤ most_unaccepted (so_ends served)
 stopped_most (Ok tt) = omega arith
@@ -153,6 +149,15 @@ pub let_go_same : {S : Type 0} (told : S → Option (List ℕ)) (script : Script
     → AreLetGo told script named log rows → AreLetGo told script named later rows
 let_go_same told script named log later rows same are slot row is =
     subst (λ (routed : List (ℕ × Message)). IsLetGo told script (object_at named slot) (of_slot slot routed) row) (sym same.routed) (are slot row is)
+
+-- So does what is settled by the posts and the routed messages.
+pub settled_same : {S : Type 0} (told : S → Option (List ℕ)) (script : Script) (contents : ℕ → Option (List ℕ)) (named : Slots) (log later : SwitchLog)
+    (left : List (ℕ × Caller × Waits)) (rows : List (SlotReport S)) → SamePosts log later
+    → AreSettled told script contents named log left rows → AreSettled told script contents named later left rows
+settled_same told script contents named log later left rows same are tell classes slot row is =
+    subst (λ (routed : List (ℕ × Message)). IsSettled script (contents slot) (object_at named slot) (of_slot slot later.posts) (of_slot slot routed) (remaining_of slot left) row) (sym same.routed)
+    (subst (λ (posts : List (ℕ × Event)). IsSettled script (contents slot) (object_at named slot) (of_slot slot posts) (of_slot slot log.routed) (remaining_of slot left) row) (sym same.posts)
+    (are tell classes slot row is))
 
 pub there_same : (slots : ℕ) (log later : SwitchLog) → SamePosts log later → AreThere slots log → AreThere slots later
 there_same slots log later same there = subst (λ (routed : List (ℕ × Message)). All (λ (sent : ℕ × Message). sent.0 < slots) routed) (sym same.routed) there
@@ -274,11 +279,14 @@ module _ {W : Type 0} (taken : W → Option (List ℕ)) (faults : W → ℕ) (ol
     pub reports : HasServed moment_of left_since told image faults_of script contents named mid objects
         → (is_served (so_ends served) ≡ true → IsServing moment_of left_since told image faults_of script contents named mid objects)
         → (is_served (so_ends served) ≡ true → AreLetGo told script named (log_of mid) report.slots.items)
+        → (is_served (so_ends served) ≡ true → is_served end ≡ true → AreSettled told script contents named (log_of mid) left report.slots.items)
+        → (is_served (so_ends served) ≡ true → is_served end ≡ true → AreLeftIn (length report.slots.items) left)
+        → (is_served (so_ends served) ≡ true → AreCallsInOrder (state_of mid) report.slots.items)
         → seen_log report.switch ≡ log_of new
         → AreRows moment_of left_since told faults_of script contents named (log_of mid) report.slots.items
         → length report.slots.items ≡ length objects.cores.items → length named ≡ length objects.cores.items → IsOneEach named → is_late end
         → IsReport moment_of left_since told faults_of script contents (length named) end report
-    reports has serving quiet log rows count many one_each late = record {
+    reports has serving quiet settled left_in calls log rows count many one_each late = record {
       named = named;
       many = refl;
       one_each = one_each;
@@ -290,8 +298,18 @@ module _ {W : Type 0} (taken : W → Option (List ℕ)) (faults : W → ℕ) (ol
           (λ other. subst (λ (s : Switch W). IsRunSoFar script (opened named) (log_of s)) (sym (ended.stops other).1) has.run));
       there = subst (λ (l : SwitchLog). AreThere (length report.slots.items) l) (sym log)
           (subst (λ (n : ℕ). AreThere n (log_of new)) (sym count) (there_same (length objects.cores.items) (log_of mid) (log_of new) same_posts has.there));
-      finished = λ is. decided (is_served (so_ends served)) (IsFinished script named (seen_log report.switch))
-          (λ sure. record { before = log_of mid; after = state_of mid; run = (serving sure).run; left = left; finished = log ∙ ((ended.finishes sure).whole is).1 })
+      finished = λ is. decided (is_served (so_ends served)) (IsFinished told script contents named (seen_log report.switch) report.slots.items)
+          (λ sure. record {
+            before = log_of mid;
+            after = state_of mid;
+            run = (serving sure).run;
+            left = left;
+            finished = log ∙ ((ended.finishes sure).whole is).1;
+            settled = subst (λ (l : SwitchLog). AreSettled told script contents named l left report.slots.items) (sym log)
+                (settled_same told script contents named (log_of mid) (log_of new) left report.slots.items same_posts (settled sure is));
+            left_in = left_in sure is;
+            calls = calls sure;
+          })
           (λ other. absurd (true_is_not (sym is ∙ ap is_served (ended.stops other).0 ∙ other)));
       quiet = λ is. decided (is_served (so_ends served)) (AreLetGo told script named (seen_log report.switch) report.slots.items)
           (λ sure. subst (λ (l : SwitchLog). AreLetGo told script named l report.slots.items) (sym log)

@@ -33,10 +33,10 @@ at_some items ends slot end is =
 pub at_same : {S X : Type 0} (items : S → List X) (old new : List S) → map items new ≡ map items old → (slot : ℕ) → at_slot items new slot ≡ at_slot items old slot
 at_same {S} {X} items old new same slot = ap (λ (lanes : List (List X)). get_or lanes slot []) same
 
-is_own : (n k : ℕ) → n ≡ k → (n == k) ≡ true
+pub is_own : (n k : ℕ) → n ≡ k → (n == k) ≡ true
 is_own n k e = grind (arith, nat_tests, e)
 
-is_other : (n k : ℕ) → (n ≡ k → ⊥) → (n == k) ≡ false
+pub is_other : (n k : ℕ) → (n ≡ k → ⊥) → (n == k) ≡ false
 is_other n k e = grind (arith, nat_tests, e)
 
 -- One item more was taken from one slot.

@@ -10,6 +10,7 @@ use Rattle.lane.specs.Lanes.{Both, sent_on}
 use Rattle.mailbox.specs.Posting.{of_slot}
 use Rattle.object_core.specs.Laws.{HasIntake, OneHasClass, OneHasGot, OneHasIntake, OneHasLeft, OneHasTold, OneIsHistory}
 use Rattle.object_core.specs.One.{CanRun, class_in, messages}
+use Rattle.object_core.specs.Owing.{IsOwed, OneIsOwed}
 use Rattle.object_core.specs.declared.object.Core.{Core}
 use Rattle.object_front.specs.Came.{AreCome, kept}
 use Rattle.object_front.specs.Classed.{class_by}
@@ -25,14 +26,17 @@ use Rattle.storage_map.specs.Limits.{Object}
 use Rattle.timeline.specs.Headline.{IsHistory, IsPrefix}
 use Rattle.timeline.specs.Logs.{Backed, Fronted, backed, fronted}
 use Rattle.timeline.specs.Switch.{SwitchLog}
+use Rattle.timeline.specs.declared.caller.Caller.{Caller}
 use Rattle.timeline.specs.declared.entry.Body.TheVariants as body
 use Rattle.timeline.specs.declared.entry.Entry.{Entry}
 use Rattle.timeline.specs.declared.event.Event.{Event}
 use Rattle.timeline.specs.declared.message.Message.{Message}
+use Rattle.timeline.specs.declared.notice.Waits.{Waits}
 use Rattle.host_core.proofs.Pushed.{before_push, next_at, push_before, push_last, push_within}
-use Rattle.host_core.specs.Closing.{IsLetGoOf, IsRowOf}
+use Rattle.host_core.proofs.Remaining.{AreLeftBy}
+use Rattle.host_core.specs.Closing.{AreSettledUnless, IsLetGoOf, IsRowOf, IsSettledOf}
 use Rattle.host_core.specs.Objects.{AreGoing, AreResting, AreRouted, AreSlots, CanAllRun}
-use Rattle.host_core.specs.Quiet.{AreLetGo}
+use Rattle.host_core.specs.Quiet.{AreLetGo, remaining_of}
 use Rattle.host_core.specs.Rows.{AreRows, AreServed, IsObjectIn}
 use Rattle.host_core.specs.Slots.{IsSlot}
 use Rattle.host_core.specs.declared.objects.Objects.{Objects}
@@ -56,7 +60,8 @@ module _ {D : Type 0} (moment_of : D → ℕ) (left_since : D → ℕ → List �
     (front_is : fronted row.front ≡ fronted core.front.half.log) (back_is : backed row.back ≡ backed core.back.log)
     (history : OneIsHistory moment_of left_since told image faults_of core) (intake : OneHasIntake moment_of left_since told image faults_of core)
     (got : OneHasGot moment_of left_since told image faults_of core) (class : OneHasClass moment_of left_since told image faults_of core)
-    (left : OneHasLeft moment_of left_since told image faults_of core) (tells : OneHasTold moment_of left_since told image faults_of core) where
+    (left : OneHasLeft moment_of left_since told image faults_of core) (tells : OneHasTold moment_of left_since told image faults_of core)
+    (owed : OneIsOwed moment_of left_since told image faults_of core) where
   module _ (script : Script) (content : Option (List ℕ)) (named : Option Object) (posts : List Event) (routed : List Message) (inbox : Both Event) (out : Both Message)
       (slot : IsSlot moment_of left_since told image faults_of script content named posts routed core inbox out) where
     object_in : IsObjectIn named row
@@ -117,6 +122,12 @@ module _ {D : Type 0} (moment_of : D → ℕ) (left_since : D → ℕ → List �
               ∙ ap (λ (log : Backed). messages log.released) (sym back_is),
         )
 
+    owed_in : IsTold (told row.store) → IsOwed (fronted row.front) (messages row.back.released.items)
+    owed_in is_told =
+        subst (λ (log : Backed). IsOwed (fronted row.front) (messages log.released)) (sym back_is)
+        (subst (λ (log : Fronted). IsOwed log (messages core.back.log.released.items)) (sym front_is)
+        (owed script slot.origin (row.store, store_is, is_told) slot.one))
+
   pub is_row_of : IsRowOf moment_of left_since told image faults_of core row
   is_row_of script content named posts routed inbox out slot = record {
     origin = slot.origin;
@@ -127,16 +138,19 @@ module _ {D : Type 0} (moment_of : D → ℕ) (left_since : D → ℕ → List �
     tells = tells_in script content named posts routed inbox out slot;
     served = served_in script content named posts routed inbox out slot;
     routes = routes_in script content named posts routed inbox out slot;
+    owed = owed_in script content named posts routed inbox out slot;
   }
 
 -- an item stands at each place of a list
-item_at : {X : Type 0} (xs : List X) (at : ℕ) → at < length xs → (x : X) × (slice_get xs at ≡ Some x)
+pub item_at : {X : Type 0} (xs : List X) (at : ℕ) → at < length xs → (x : X) × (slice_get xs at ≡ Some x)
 item_at {X} xs at less = ⊎_elim (λ there. (there.0, there.2)) (λ past. absurd (omega (arith, less, past.0))) (slice_get_cases xs at).1
 
 module _ {D : Type 0} (moment_of : D → ℕ) (left_since : D → ℕ → List ℕ → Type 0) (told : D → Option (List ℕ)) (image : D → List ℕ → Type 0) (faults_of : D → ℕ) where
   -- what a row tells of its object, also where that rests
-  abbrev pub TellsOf : Core D → SlotReport D → Type 0
-  TellsOf core row = IsRowOf moment_of left_since told image faults_of core row × IsLetGoOf moment_of left_since told image faults_of core row
+  pub record TellsOf (core : Core D) (row : SlotReport D) : Type 0 where
+    pub row_of : IsRowOf moment_of left_since told image faults_of core row
+    pub let_go : IsLetGoOf moment_of left_since told image faults_of core row
+    pub settled : IsSettledOf moment_of left_since told image faults_of core row
 
   -- each row is one of the object in its place
   abbrev pub AreRowsOf : List (Core D) → List (SlotReport D) → Type 0
@@ -167,7 +181,7 @@ module _ {D : Type 0} (moment_of : D → ℕ) (left_since : D → ℕ → List �
       let within = slice_get_within objects.cores.items slot of.0 of.1 in
       let inbox = item_at objects.inboxes.items slot (omega (arith, within, slots.inboxes)) in
       let out = item_at objects.outs.items slot (omega (arith, within, slots.outs)) in
-      of.2.0 script (contents slot) (object_at named slot) (of_slot slot log.posts) (of_slot slot log.routed) inbox.0 out.0 (slots.each slot of.0 inbox.0 out.0 of.1 inbox.1 out.1)
+      of.2.row_of script (contents slot) (object_at named slot) (of_slot slot log.posts) (of_slot slot log.routed) inbox.0 out.0 (slots.each slot of.0 inbox.0 out.0 of.1 inbox.1 out.1)
 
   pub all_let_go : (objects : Objects D) (rows : List (SlotReport D)) → AreRowsOf objects.cores.items rows
       → (script : Script) (contents : ℕ → Option (List ℕ)) (named : Slots) (log : SwitchLog)
@@ -178,8 +192,21 @@ module _ {D : Type 0} (moment_of : D → ℕ) (left_since : D → ℕ → List �
       let within = slice_get_within objects.cores.items slot of.0 of.1 in
       let inbox = item_at objects.inboxes.items slot (omega (arith, within, going.inboxes)) in
       let out = item_at objects.outs.items slot (omega (arith, within, going.outs)) in
-      of.2.1 script (contents slot) (object_at named slot) (of_slot slot log.posts) (of_slot slot log.routed) inbox.0 out.0
+      of.2.let_go script (contents slot) (object_at named slot) (of_slot slot log.posts) (of_slot slot log.routed) inbox.0 out.0
       (going.each slot of.0 inbox.0 out.0 of.1 inbox.1 out.1) (rests.each slot of.0 inbox.0 out.0 of.1 inbox.1 out.1) (routed.each slot of.0 inbox.0 out.0 of.1 inbox.1 out.1)
+
+  pub all_settled : (objects : Objects D) (rows : List (SlotReport D)) (left : List (ℕ × Caller × Waits)) → AreRowsOf objects.cores.items rows
+      → AreLeftBy objects.cores.items left → (script : Script) (contents : ℕ → Option (List ℕ)) (named : Slots) (log : SwitchLog)
+      → AreGoing moment_of left_since told image faults_of script contents named log objects → AreResting script objects → AreRouted objects
+      → AreSettledUnless told script contents named log left rows
+  all_settled objects rows left are has_left script contents named log going rests routed = λ slot row there.
+      let of = are slot row there in
+      let within = slice_get_within objects.cores.items slot of.0 of.1 in
+      let inbox = item_at objects.inboxes.items slot (omega (arith, within, going.inboxes)) in
+      let out = item_at objects.outs.items slot (omega (arith, within, going.outs)) in
+      of.2.settled script (contents slot) (object_at named slot) (of_slot slot log.posts) (of_slot slot log.routed) inbox.0 out.0
+      (going.each slot of.0 inbox.0 out.0 of.1 inbox.1 out.1) (rests.each slot of.0 inbox.0 out.0 of.1 inbox.1 out.1) (routed.each slot of.0 inbox.0 out.0 of.1 inbox.1 out.1)
+      (remaining_of slot left) (has_left.each slot of.0 of.1)
 
   -- the next object can run
   pub next_can : (objects : Objects D) (script : Script) (before rest : List (Core D)) (core : Core D) → objects.cores.items ≡ before ++ core ∷ rest

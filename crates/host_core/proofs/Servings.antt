@@ -221,3 +221,7 @@ on_ok_then (Err e) then holds = tt
 pub on_err_then : {T E P Q : Type 0} (result : Result T E) → (P → Q) → OnErr result P → OnErr result Q
 on_err_then (Ok x) then holds = tt
 on_err_then (Err e) then holds = then holds
+
+pub of_ok : {T E : Type 0} (result : Result T E) (x : T) (P : Type 0) → result ≡ Ok x → OnOk result P → P
+of_ok (Ok y) x P is p = p
+of_ok (Err e) x P is p = cc

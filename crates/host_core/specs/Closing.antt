@@ -1,12 +1,27 @@
--- The row of an object.
-use Rattle.std.specs.Prelude.{◌≡◌, ℕ, List, [], Option}
+-- The row of an object, and what the object has left.
+use Rattle.std.specs.Prelude.{◌≡◌, ◌⊎◌, ◌++◌, false, ℕ, List, [], map, slice_get, Option, Some, Result, Ok}
+use Rattle.batch_journal.specs.Moments.{IsTold}
 use Rattle.do_tree.specs.Tree.{Script}
+use Rattle.do_value.specs.declared.fault.NoMemory.{NoMemory}
 use Rattle.lane.specs.Lanes.{Both}
+use Rattle.mailbox.specs.Posting.{of_slot}
+use Rattle.object_front.specs.Evaluated.{seen}
+use Rattle.object_front.specs.Remaining.{left_at}
+use Rattle.object_front.specs.Standing.{Stood, IsHalf}
+use Rattle.object_front.specs.Taking.{waits}
+use Rattle.object_front.specs.declared.evaluated.Evaluated.{Evaluated}
+use Rattle.object_front.specs.declared.half.Half.{Half}
+use Rattle.placement.specs.Slots.{Slots, object_at}
 use Rattle.storage_map.specs.Limits.{Object}
+use Rattle.timeline.specs.Logs.{fronted}
+use Rattle.timeline.specs.Switch.{SwitchLog}
+use Rattle.timeline.specs.declared.caller.Caller.{Caller}
 use Rattle.timeline.specs.declared.event.Event.{Event}
 use Rattle.timeline.specs.declared.message.Message.{Message}
+use Rattle.timeline.specs.declared.notice.Waits.{Waits}
+use Rattle.object_core.specs.One.{HasItsClass, IsGivenUnasked}
 use Rattle.object_core.specs.declared.object.Core.{Core}
-use Rattle.host_core.specs.Quiet.{IsLetGo}
+use Rattle.host_core.specs.Quiet.{IsLetGo, IsSettled, remaining_of}
 use Rattle.host_core.specs.Rows.{IsRow}
 use Rattle.host_core.specs.Slots.{IsGoing, IsResting, IsSlot}
 use Rattle.host_core.specs.declared.report.SlotReport.{SlotReport}
@@ -24,3 +39,39 @@ abbrev pub IsLetGoOf : {D : Type 0} (moment_of : D → ℕ) (left_since : D → 
 IsLetGoOf moment_of left_since told image faults_of core row = (script : Script) (content : Option (List ℕ)) (named : Option Object) (posts : List Event) (routed : List Message)
     (inbox : Both Event) (out : Both Message) → IsGoing moment_of left_since told image faults_of script content named posts routed core inbox out
     → IsResting script core inbox → out.waiting ≡ [] → IsLetGo told script named routed row
+
+-- A front that waits for no answer of its back has left this.
+abbrev pub IsLeftOf : Half Evaluated → List (Caller × Waits) → Type 0
+IsLeftOf front remaining = (script : Script) (st : Stood) → IsHalf seen script front st → waits st.front.mode ≡ false → remaining ≡ left_at script st
+
+-- What is left of a slot, with the slot.
+abbrev pub with_slot : ℕ → List (Caller × Waits) → List (ℕ × Caller × Waits)
+with_slot slot remaining = map (λ item. (slot, item.0, item.1)) remaining
+
+-- What this front has left stands behind what others had, with its slot; memory was wanting for none of them.
+pub record AddsLeft (slot : ℕ) (front : Half Evaluated) (asked : Result (Unit {0}) NoMemory) (old new : List (ℕ × Caller × Waits)) : Type 0 where
+  pub asked_others : asked ≡ Ok tt
+  pub remaining : List (Caller × Waits)
+  pub added : new ≡ old ++ with_slot slot remaining
+  pub is_left : IsLeftOf front remaining
+
+-- A slot with an object of a class that the script has, or with none, is quiet while its disk tells its content; or its front stands still at an
+-- answer to what it didn't ask.
+abbrev pub IsSettledUnless : {D : Type 0} (told : D → Option (List ℕ)) → Script → (content : Option (List ℕ)) → (named : Option Object) → (posts : List Event)
+    → (routed : List Message) → (remaining : List (Caller × Waits)) → SlotReport D → Type 0
+IsSettledUnless told script content named posts routed remaining row = IsTold (told row.store) → HasItsClass script named
+    → IsGivenUnasked (fronted row.front) posts ⊎ IsSettled script content named posts routed remaining row
+
+-- So does the row of this object tell, where it goes on and rests, none of its messages waits to be routed, and its front has left this.
+abbrev pub IsSettledOf : {D : Type 0} (moment_of : D → ℕ) (left_since : D → ℕ → List ℕ → Type 0) (told : D → Option (List ℕ)) (image : D → List ℕ → Type 0) (faults_of : D → ℕ)
+    → Core D → SlotReport D → Type 0
+IsSettledOf moment_of left_since told image faults_of core row = (script : Script) (content : Option (List ℕ)) (named : Option Object) (posts : List Event) (routed : List Message)
+    (inbox : Both Event) (out : Both Message) → IsGoing moment_of left_since told image faults_of script content named posts routed core inbox out
+    → IsResting script core inbox → out.waiting ≡ [] → (remaining : List (Caller × Waits)) → IsLeftOf core.front.half remaining
+    → IsSettledUnless told script content named posts routed remaining row
+
+-- Each row tells this of its own slot.
+abbrev pub AreSettledUnless : {D : Type 0} (told : D → Option (List ℕ)) → Script → (contents : ℕ → Option (List ℕ)) → (named : Slots) → SwitchLog
+    → (left : List (ℕ × Caller × Waits)) → List (SlotReport D) → Type 0
+AreSettledUnless {D} told script contents named log left rows = (slot : ℕ) (row : SlotReport D) → slice_get rows slot ≡ Some row
+    → IsSettledUnless told script (contents slot) (object_at named slot) (of_slot slot log.posts) (of_slot slot log.routed) (remaining_of slot left) row

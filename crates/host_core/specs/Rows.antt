@@ -7,6 +7,7 @@ use Rattle.lane.specs.Lanes.{StartsWith}
 use Rattle.mailbox.specs.Posting.{of_slot}
 use Rattle.object_core.specs.Laws.{HasIntake}
 use Rattle.object_core.specs.One.{Origin, class_in, messages}
+use Rattle.object_core.specs.Owing.{IsOwed}
 use Rattle.object_front.specs.Came.{AreCome}
 use Rattle.object_front.specs.Classed.{class_by}
 use Rattle.output_gate.specs.Telling.{HasTold, opened_map}
@@ -39,8 +40,9 @@ pub record AreServed {S : Type 0} (posts : List Event) (row : SlotReport S) : Ty
 
 -- What one row tells of its slot, whose file had this content, to which these events were posted, and from which these messages were routed.
 -- While its disk tells its content: what the object said is what its script tells over the delivered events, each incarnation over the map
--- with which it starts, and events were delivered through the input gate; and what a crash leaves, now or at any moment since the opening,
--- recovers to a prefix of its whole batches, which since a release holds what the release needs.
+-- with which it starts, and events were delivered through the input gate; what a crash leaves, now or at any moment since the opening,
+-- recovers to a prefix of its whole batches, which since a release holds what the release needs; and nobody was replied to more often than he
+-- called, and each call and fetch that left was sent.
 pub record IsRow {S : Type 0} (moment_of : S → ℕ) (left_since : S → ℕ → List ℕ → Type 0) (told : S → Option (List ℕ)) (faults_of : S → ℕ)
     (script : Script) (content : Option (List ℕ)) (named : Option Object) (posts : List Event) (routed : List Message) (row : SlotReport S) : Type 0 where
   pub origin : Origin
@@ -54,6 +56,7 @@ pub record IsRow {S : Type 0} (moment_of : S → ℕ) (left_since : S → ℕ �
       → HasTold moment_of left_since faults_of row.identity origin.start origin.opening (fronted row.front) row.store (backed row.back)
   pub served : AreServed posts row
   pub routes : IsPrefix routed (messages row.back.released.items)
+  pub owed : IsTold (told row.store) → IsOwed (fronted row.front) (messages row.back.released.items)
 
 -- Each row tells this of its own slot.
 abbrev pub AreRows : {S : Type 0} (moment_of : S → ℕ) (left_since : S → ℕ → List ℕ → Type 0) (told : S → Option (List ℕ)) (faults_of : S → ℕ)

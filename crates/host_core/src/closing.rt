@@ -1,5 +1,5 @@
 //! The rows of the report, and what the objects have left.
-ghost use Rattle.std.specs.Prelude.{◌≡◌, ◌≤◌, ◌+◌, ◌++◌, ◌∷◌, ℕ, List, Option, [], length, vec_len};
+ghost use Rattle.std.specs.Prelude.{◌≡◌, ◌≤◌, ◌+◌, ◌++◌, ◌∷◌, ℕ, List, OnOk, Option, [], length, vec_len};
 ghost use Rattle.std.specs.Vec.{vec_capacity};
 ghost use Rattle.do_tree.specs.Tree.{Script};
 ghost use Rattle.timeline.specs.Switch.{SwitchLog};
@@ -10,9 +10,9 @@ ghost use Rattle.object_front.specs.Turning.{CanTurn};
 ghost use Rattle.output_gate.specs.Serving.{CanServe};
 ghost use Rattle.output_gate.specs.Storing.{IsDiskOf};
 ghost use Rattle.timeline.specs.Logs.{backed, fronted};
-ghost use Rattle.host_core.specs.Closing.{IsLetGoOf, IsRowOf};
+ghost use Rattle.host_core.specs.Closing.{AddsLeft, AreSettledUnless, IsLetGoOf, IsRowOf, IsSettledOf, with_slot};
 ghost use Rattle.host_core.specs.Objects.{AreGoing, AreResting, AreRouted, AreSlots, CanAllRun};
-ghost use Rattle.host_core.specs.Quiet.{AreLetGo};
+ghost use Rattle.host_core.specs.Quiet.{AreLeftIn, AreLetGo};
 ghost use Rattle.host_core.specs.Rows.{AreRows};
 
 use crate::objects::Objects;
@@ -35,6 +35,7 @@ pub(crate) fn close<D: Disk + Drop>(
 ) -> Mem<()>
     requires room { vec_len rows.old + length objects.cores.items ≤ vec_capacity rows.old }
     requires none { rows.old.items ≡ [] }
+    requires none_left { left.old.items ≡ [] }
     requires can { (script : Script) × CanAllRun D.moment_of D.left_since D.told D.image D.faults_of script objects }
     requires few { length objects.cores.items ≤ 256 }
     ensures rows { (script : Script) (contents : ℕ → Option (List ℕ)) (named : Slots) (log : SwitchLog)
@@ -43,6 +44,10 @@ pub(crate) fn close<D: Disk + Drop>(
     ensures quiet { (script : Script) (contents : ℕ → Option (List ℕ)) (named : Slots) (log : SwitchLog)
         → AreGoing D.moment_of D.left_since D.told D.image D.faults_of script contents named log objects
         → AreResting script objects → AreRouted objects → AreLetGo D.told script named log rows.new.items }
+    ensures settled { OnOk result ((script : Script) (contents : ℕ → Option (List ℕ)) (named : Slots) (log : SwitchLog)
+        → AreGoing D.moment_of D.left_since D.told D.image D.faults_of script contents named log objects → AreResting script objects
+        → AreRouted objects → AreSettledUnless D.told script contents named log left.new.items rows.new.items) }
+    ensures left_in { OnOk result (AreLeftIn (length objects.cores.items) left.new.items) }
     ensures many { length rows.new.items ≡ length objects.cores.items }
 {
     let mut asked = Ok(());
@@ -66,6 +71,8 @@ fn close_slot<D: Disk + Drop>(
     requires { (script : Script) × CanRun D.moment_of D.left_since D.told D.image D.faults_of script core }
     ensures row { IsRowOf D.moment_of D.left_since D.told D.image D.faults_of core result.0 }
     ensures quiet { IsLetGoOf D.moment_of D.left_since D.told D.image D.faults_of core result.0 }
+    ensures settled { IsSettledOf D.moment_of D.left_since D.told D.image D.faults_of core result.0 }
+    ensures left { OnOk result.1 (AddsLeft slot core.front.half asked left.old.items left.new.items) }
 {
     laws::one_is_history(&core);
     laws::one_has_intake(&core);
@@ -74,6 +81,11 @@ fn close_slot<D: Disk + Drop>(
     laws::one_has_left(&core);
     laws::one_has_let_go(&core);
     laws::one_has_told(&core);
+    laws::one_is_owed(&core);
+    laws::one_is_quiet(&core);
+    laws::one_leaves(&core);
+    laws::one_rests(&core);
+    laws::one_sticks(&core);
     let (front, back) = core.split();
     let asked = ask(alloc, asked, slot, &front, left);
     (row_of(front, back), asked)
@@ -88,12 +100,33 @@ fn ask(
     left: &mut Vec<(u32, Caller, Waits)>,
 ) -> Mem<()>
     requires { (script : Script) × CanTurn seen script front.now.half }
+    ensures { OnOk result (AddsLeft slot front.now.half asked left.old.items left.new.items) }
 {
     asked?;
-    for (caller, waits) in front.left(alloc)? {
-        if left.push((slot, caller, waits)).is_err() {
-            return Err(NoMemory);
-        }
+    let remaining = front.left(alloc)?;
+    add_left(slot, remaining, left)
+}
+
+// Puts this of the slot behind what is left.
+fn add_left(
+    slot: u32,
+    remaining: Vec<(Caller, Waits)>,
+    left: &mut Vec<(u32, Caller, Waits)>,
+) -> Mem<()>
+    ensures { OnOk result (left.new.items ≡ left.old.items ++ with_slot slot remaining.items) }
+{
+    for item in remaining {
+        push_left(slot, item, left)?;
+    }
+    Ok(())
+}
+
+fn push_left(slot: u32, item: (Caller, Waits), left: &mut Vec<(u32, Caller, Waits)>) -> Mem<()>
+    ensures { OnOk result (left.new.items ≡ left.old.items ++ with_slot slot (item ∷ [])) }
+{
+    let (caller, waits) = item;
+    if left.push((slot, caller, waits)).is_err() {
+        return Err(NoMemory);
     }
     Ok(())
 }

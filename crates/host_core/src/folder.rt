@@ -1,5 +1,5 @@
 //! Serving a folder.
-ghost use Rattle.std.specs.Prelude.{◌≡◌, ◌≢◌, ◌≤◌, ◌+◌, ℕ, List, [], true, false, Option, None, OnOk, length, string_bytes, vec_len};
+ghost use Rattle.std.specs.Prelude.{◌≡◌, ◌≢◌, ◌≤◌, ◌+◌, ℕ, List, [], true, false, Option, None, OnErr, OnOk, length, string_bytes, vec_len};
 ghost use Rattle.std.specs.Vec.{vec_capacity};
 ghost use Rattle.do_disk.specs.Disk.{Rose};
 ghost use Rattle.do_tree.specs.Checked.{tree_of as script_in};
@@ -143,6 +143,8 @@ fn serve_slots<D: Disk + Drop, R: Source, W: Sink, T: Wait>(
     let mut lines = Lines::new(alloc, input);
     let mut switch = Switch::new(alloc, checked, directory, out);
     let served = serve_lines(rt, alloc, checked, &mut lines, &mut switch, &mut objects);
+    switch_history::laws::answers_are_asked();
+    switch_history::laws::calls_come_in_order();
     let mut left = Vec::new(alloc);
     let closed = close(alloc, objects, &mut report.slots, &mut left);
     let end = finish(&mut switch, served, closed, left);
@@ -168,6 +170,7 @@ fn finish<W: Sink>(
     ensures stops { spec.is_served (spec.serving_end served) ≡ false → (result ≡ spec.serving_end served) × (switch.new ≡ switch.old) }
     ensures finishes { spec.is_served (spec.serving_end served) ≡ true
         → Finishes W.taken W.faults_of switch.old switch.new left.items (spec.serving_end served) result }
+    ensures closed { spec.is_served (spec.serving_end served) ≡ true → spec.is_served result ≡ true → OnErr closed ⊥ }
 {
     let end = serving_end(served);
     if is_served(&end) {
@@ -188,6 +191,7 @@ fn finish_served<W: Sink>(
     requires served { spec.is_served end ≡ true }
     ensures late { is_late result }
     ensures finishes { Finishes W.taken W.faults_of switch.old switch.new left.items end result }
+    ensures closed { spec.is_served result ≡ true → OnErr closed ⊥ }
 {
     if closed.is_err() {
         return ServeEnd::NoMemory;

@@ -8,8 +8,8 @@ use std::sync::Wait;
 use std::test::Fail;
 use test_rows::{count, word};
 
-/// How many slots there are.
-const SLOTS: usize = 16;
+/// How many slots there may be.
+const SLOTS: usize = 256;
 
 /// The file that the next run's disk of each slot holds, and the disks that the last run left, from slot 0 on.
 #[derive(Drop)]

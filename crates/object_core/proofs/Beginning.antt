@@ -87,6 +87,7 @@ module _ {D : Type 0} (moment_of : D → ℕ) (left_since : D → ℕ → List �
       news = λ differs. absurd (differs (ap (λ (x : Backed). suc (length x.stops)) are.back_log));
       answer = λ so. absurd (true≢false (sym so));
     };
+    sticks = λ tells on stuck. absurd (true≢false (sym stuck ∙ are.stands.stuck));
   }
 
   -- over queues through which nothing went

@@ -12,7 +12,7 @@ use Rattle.object_front.specs.Came.{HasGot}
 use Rattle.object_front.specs.declared.evaluated.Evaluated.{Evaluated}
 use Rattle.object_front.specs.declared.half.Half.{Half}
 use Rattle.output_gate.specs.declared.back.Back.{Back}
-use Rattle.object_core.specs.One.{IsOneOf, Origin}
+use Rattle.object_core.specs.One.{IsOneOf, Origin, SticksAtAnswers}
 
 -- what was sent on a queue is the same whatever is taken
 pub still_sent : {X : Type 0} (queue later : Both X) (result : Option X) → IfNone result ((queue.waiting ≡ []) × (later ≡ queue))
@@ -41,6 +41,7 @@ module _ {D : Type 0} (moment_of : D → ℕ) (left_since : D → ℕ → List �
     pair = one.pair;
     fits = one.fits;
     heard = one.heard;
+    sticks = one.sticks;
   }
 
 module _ {D : Type 0} (moment_of : D → ℕ) (left_since : D → ℕ → List ℕ → Type 0) (told : D → Option (List ℕ)) (image : D → List ℕ → Type 0) (faults_of : D → ℕ)
@@ -65,4 +66,5 @@ module _ {D : Type 0} (moment_of : D → ℕ) (left_since : D → ℕ → List �
     pair = one.pair;
     fits = one.fits;
     heard = one.heard;
+    sticks = subst (λ (got : List Event). SticksAtAnswers told front back got) (sym same) one.sticks;
   }

@@ -13,6 +13,9 @@ mod Fitting
 mod Lanes
 mod Naming
 mod Pairing
+mod Sticking
+mod Owing
+mod Leaving
 mod Rebuilding
 mod Taking
 mod Flushing

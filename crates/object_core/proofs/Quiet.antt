@@ -9,9 +9,11 @@ use Rattle.do_tree.specs.Tree.{Script}
 use Rattle.lane.specs.Lanes.{sent_on}
 use Rattle.storage_map.specs.Contents.{Contents}
 use Rattle.timeline.specs.Headline.{AreDurable, IsQuiet, IsDeferred, IsDeferredIn, pass_of, release_of, state_of}
-use Rattle.timeline.specs.History.{history, incarnation_at, incarnations, entries_of}
-use Rattle.timeline.specs.Intake.{Kind, Front, Mode, serves, down}
+use Rattle.timeline.specs.History.{history, incarnation_at, incarnations, entries_of, of_number, said_in}
+use Rattle.timeline.specs.Intake as intake
+use Rattle.timeline.specs.Intake.{Kind, Front, Mode, serves, down, events_in}
 use Rattle.timeline.specs.Laws.{IsAtRest}
+use Rattle.timeline.specs.Left.{left}
 use Rattle.timeline.specs.Logs.{Fronted, Backed, fronted, backed}
 use Rattle.timeline.specs.Object.{Object, State, idle, waiting, ended}
 use Rattle.timeline.specs.Passed.{passed}
@@ -21,8 +23,11 @@ use Rattle.timeline.specs.declared.entry.Entry.{Entry}
 use Rattle.timeline.specs.declared.event.Event.{Event}
 use Rattle.timeline.specs.declared.message.Message.{Message as Sent}
 use Rattle.timeline.specs.declared.notice.Notice.{Notice}
+use Rattle.front_turns.specs.Held.{life_in}
 use Rattle.object_front.specs.Came.{events, wanting, kept}
+use Rattle.object_front.specs.Classed.{class_behind}
 use Rattle.object_front.specs.Evaluated.{seen}
+use Rattle.object_front.specs.Remaining.{left_at, object_in}
 use Rattle.object_front.specs.Standing as standing
 use Rattle.object_front.specs.Standing.{Stood, IsClass, IsHalf, kind_in}
 use Rattle.object_front.specs.Taking.{may_enter, waits}
@@ -35,18 +40,23 @@ use Rattle.output_gate.specs.declared.back.Back.{Back}
 use Rattle.output_gate.specs.declared.back.Mode.{Mode as BackMode}
 use Rattle.output_gate.specs.declared.back.Mode.TheVariants.{Mounted, Wanted, Down}
 use Rattle.output_gate.specs.declared.held.Held.{Held as BackHeld}
+use Rattle.object_history.proofs.Entries.{said_numbered}
+use Rattle.object_history.proofs.SaidSoFar.{entries_now, events_now}
 use Rattle.object_history.proofs.StateAtRest.{pair_state}
 use Rattle.object_history.specs.Pair.{Held, Stand, Rear, Together, unreached, answered, syncs, halts, falls, wants, mends, misses, silent, IsPair, IsPhase, newest}
 use Rattle.object_history.specs.Seen.{held_of, stand_of}
 use Rattle.front_history.specs.Turns.{HalvesAreWhole}
 use Rattle.object_core.proofs.Alike.{stuck_alike, waits_alike, enters_alike}
 use Rattle.object_core.proofs.Emptied.{NeedsAll, holds_nothing, all_released, all_durable, all_flushed}
+use Rattle.object_core.proofs.FitTaken.{events_logged}
 use Rattle.object_core.proofs.Hearing.{not_none}
+use Rattle.object_core.proofs.Leaving.{down_delivered, none_delivered, none_logged, rests_leave}
 use Rattle.object_core.proofs.Pairing.{pair_now}
 use Rattle.object_core.proofs.Telling.{is_whole}
 use Rattle.object_core.specs.Heard.{is_news, IsWanted, IsUnderWay, by_notice, by_hold, by_mounting, by_entry, IsHeard}
 use Rattle.object_core.specs.Laws.{HasLetGo, HasNothingToDo}
-use Rattle.object_core.specs.One.{HasItsClass, IsOne, Origin, TellsNow}
+use Rattle.object_core.specs.Leaving.{left_of}
+use Rattle.object_core.specs.One.{HasItsClass, IsOne, Origin, TellsNow, class_in}
 use Rattle.object_core.specs.Seen.{seen_of}
 use Rattle.object_core.specs.Stepping.{IsIdleAt}
 use Rattle.object_core.specs.declared.object.Core.{Core}
@@ -220,7 +230,7 @@ module _ {D : Type 0} (moment_of : D → ℕ) (left_since : D → ℕ → List �
     waits_as true so = absurd (nothing_comes (hears.answer so))
     waits_as false so = so
 
-    waits_not : waits mode ≡ false
+    pub waits_not : waits mode ≡ false
     waits_not = waits_as (waits mode) refl
 
     none_takes : (list_any (may_enter mode) one.st.deferred ≡ false) × (core.inbox.waiting ≡ [])
@@ -245,6 +255,44 @@ module _ {D : Type 0} (moment_of : D → ℕ) (left_since : D → ℕ → List �
     state_is o so =
         subst (λ (n : ℕ). state_of script class opened (incarnation_at front log n) (incarnations front log n) ≡ idle o) same_below
         (pair_state (kind_in script class) opened one.st.front front rear (one.lost ++ core.line.waiting) core.notices.waiting is_pair o so)
+
+    -- What its newest incarnation was delivered and has said is logged.
+    was_delivered : of_number (suc (length log.stops)) front.delivered ≡ one.st.front.events
+    was_delivered = ap (λ (n : ℕ). of_number n front.delivered) (sym is_newest) ∙ events_now one.st.front front is_pair.logged
+
+    has_said : said_in (entries_of (suc (length log.stops)) front.sent) ≡ one.st.front.said
+    has_said =
+        ap (λ (n : ℕ). said_in (entries_of n front.sent)) (sym is_newest) ∙ ap said_in (entries_now one.st.front front is_pair.logged)
+        ∙ said_numbered one.st.front.incarnation 1 one.st.front.said
+
+    -- Nothing was delivered to it while its class isn't known.
+    unknown_none : one.st.class ≡ None → one.st.front.events ≡ []
+    unknown_none unknown =
+        let first : Option ℕ = class_in script origin.object in
+        let t = one.has_taken front_goes class is in
+        let logged : events front.delivered ≡ events_in t.0 = ap events t.1.delivered ∙ events_logged (kind_in script class) (intake.opened one.alarm) t.0 in
+        let behind : class_behind script first (events_in t.0) ≡ None =
+        ap (λ (es : List Event). class_behind script first es) (sym logged) ∙ sym (one.classed.now front_goes) ∙ unknown in
+        sym (events_now one.st.front front is_pair.logged)
+        ∙ ap (λ (items : List (ℕ × Event)). of_number one.st.front.incarnation items)
+        (none_logged front.delivered (logged ∙ none_delivered script first t.0 t.2 behind))
+
+    keeps_deferred : kept one.st ≡ one.st.deferred
+    keeps_deferred = ap (λ (es : List Event). es ++ one.st.deferred) (none_wanting mode waits_not)
+
+    -- What it leaves is what its logs show.
+    pub leaves : left_at script one.st ≡ left_of script class opened front log (kept one.st)
+    leaves =
+        let n : ℕ = length log.stops in
+        let st = one.st in
+        let o : Object = object_in (state_of script class opened (incarnation_at front log n) (incarnations front log n)) in
+        rests_leave script class st (state_of script class opened (incarnation_at front log n) (incarnations front log n)) is unknown_none waits_not state_is
+        (λ call so. down_delivered (kind_in script class) (incarnations front log is_pair.below) is_pair.start st.front front log is_pair.newest_said call so)
+        ∙ ap (λ (i : ℕ). left (life_in script class i) o st.front.events st.front.said st.deferred) is_newest
+        ∙ ap (λ (es : List Event). left (life_in script class (suc n)) o es st.front.said st.deferred) (sym was_delivered)
+        ∙ ap (λ (said : List Body). left (life_in script class (suc n)) o (of_number (suc n) front.delivered) said st.deferred) (sym has_said)
+        ∙ ap (λ (keeps : List Event). left (life_in script class (suc n)) o (of_number (suc n) front.delivered) (said_in (entries_of (suc n) front.sent)) keeps)
+        (sym keeps_deferred)
 
     deferred_as : (m : Mode) → mode ≡ m → waits m ≡ false → (e : Event) → may_enter m e ≡ false → IsDeferredIn script class opened (history front log) e
     deferred_as (serves (idle o)) so rest e may = subst (λ (s : State). IsDeferred s e) (sym (state_is o so)) may

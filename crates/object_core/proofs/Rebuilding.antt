@@ -137,6 +137,7 @@ module _ {D : Type 0} (moment_of : D → ℕ) (left_since : D → ℕ → List �
     pair = λ tells class is. pair tells (kind_in script class) (one.pair (told_earlier old new telling one.back_stands tells) class is);
     fits = fits;
     heard = heard;
+    sticks = λ tells on stuck. one.sticks (told_earlier old new telling one.back_stands tells) on stuck;
   }
 
   -- It fits still where nothing is taken.

@@ -26,14 +26,16 @@ use Rattle.output_gate.specs.Telling.{opened_map}
 use Rattle.output_gate.specs.declared.back.Back.{Back}
 use Rattle.front_history.proofs.Lanes.{under_way}
 use Rattle.front_history.specs.Turns.{AreUnderWay, TurnSteps}
+use Rattle.object_messages.specs.Laws.{EarlyIsUnasked}
 use Rattle.object_core.proofs.Alike.{class_for}
 use Rattle.object_core.proofs.Attending.{turn_heard}
 use Rattle.object_core.proofs.Due.{seen_is_rear}
 use Rattle.object_core.proofs.FitTaken.{events_logged, fit_more, taken_fit}
 use Rattle.object_core.proofs.Lanes.{took_none}
+use Rattle.object_core.proofs.Sticking.{given_unasked, turn_sticks}
 use Rattle.object_core.specs.Fitting.{IsFitIntake}
 use Rattle.object_core.specs.Heard.{IsHeard}
-use Rattle.object_core.specs.One.{HasTaken, HearsOfBack, IsOneOf, Origin, TellOfPair, class_in}
+use Rattle.object_core.specs.One.{HasTaken, HearsOfBack, IsOneOf, Origin, SticksAtAnswers, TellOfPair, class_in}
 use Rattle.object_core.specs.Seen.{seen_of}
 
 -- A front of an object can turn.
@@ -65,7 +67,7 @@ pub record TurnsBy (script : Script) (old new : Half Evaluated) (inbox later_inb
   pub said : later_line.got ≡ line.got
 
 module _ {D : Type 0} (moment_of : D → ℕ) (left_since : D → ℕ → List ℕ → Type 0) (told : D → Option (List ℕ)) (image : D → List ℕ → Type 0) (faults_of : D → ℕ)
-    (laws : TurnSteps) (come : EventsCome) (classes : ClassComes) (script : Script) (origin : Origin) (old new : Half Evaluated) (back : Back D)
+    (laws : TurnSteps) (come : EventsCome) (classes : ClassComes) (unasked : EarlyIsUnasked) (script : Script) (origin : Origin) (old new : Half Evaluated) (back : Back D)
     (inbox later_inbox : Both Event) (line later_line : Both Entry) (notices later : Both Notice) (out : Both Sent)
     (one : IsOneOf moment_of left_since told image faults_of script origin old inbox back line notices out) where
   abbrev After : Type 0
@@ -84,8 +86,9 @@ module _ {D : Type 0} (moment_of : D → ℕ) (left_since : D → ℕ → List �
 
     turned : (st : Stood) → (is_stopped new ≡ false → IsHalf seen script new st) → (is_stopped new ≡ false → HasTaken script (class_in script origin.object) one.alarm new st)
         → IsClassed script (class_in script origin.object) new st → HasGot new st later_inbox.got → TellOfPair told script origin.start st new back (one.lost ++ later_line.waiting) later.waiting
-        → HearsOfBack told origin.start st new back (one.lost ++ later_line.waiting) later.waiting → (is_stopped new ≡ false → is_stopped old ≡ false) → After
-    turned st stands has_taken classed has_got pair heard was = record {
+        → HearsOfBack told origin.start st new back (one.lost ++ later_line.waiting) later.waiting → (is_stopped new ≡ false → is_stopped old ≡ false)
+        → SticksAtAnswers told new back later_inbox.got → After
+    turned st stands has_taken classed has_got pair heard was sticks = record {
       back_stands = one.back_stands;
       alarm = one.alarm;
       st = st;
@@ -101,6 +104,7 @@ module _ {D : Type 0} (moment_of : D → ℕ) (left_since : D → ℕ → List �
       pair = pair;
       fits = λ has tells on goes. one.fits has tells (was on) goes;
       heard = heard;
+      sticks = sticks;
     }
 
     rests : IsStill old new (inbox.got, notices.got, sent_on line) (later_inbox.got, later.got, sent_on later_line) → After
@@ -118,6 +122,8 @@ module _ {D : Type 0} (moment_of : D → ℕ) (left_since : D → ℕ → List �
         (subst (λ (l : List Entry). IsHeard one.st.front (seen_of (opened_map origin.start) back) (one.lost ++ l) notices.waiting) (took_none line later_line by.said still.no_entry)
         (one.heard tells (sym (ap is_stopped still.half) ∙ on) goes)))
         (λ on. sym (ap is_stopped still.half) ∙ on)
+        (subst (λ (h : Half Evaluated). SticksAtAnswers told h back later_inbox.got) (sym still.half)
+        (subst (λ (got : List Event). SticksAtAnswers told old back got) (sym still.no_event) one.sticks))
 
     -- what it had taken before
     had_taken : is_stopped old ≡ false → (led : Led) → IsTaken script one.st inbox.got later_inbox.got notices.got later.got (sent_on notices) led
@@ -155,6 +161,13 @@ module _ {D : Type 0} (moment_of : D → ℕ) (left_since : D → ℕ → List �
         (one.pair tells k.0 (laws.class script k.0 one.st inbox.got later_inbox.got notices.got later.got (sent_on notices) turns.led turns.taken k.1)) way had.1 turns k.1
         (one.heard tells on goes))
         (λ on_then. on)
+        (λ tells on_then stuck.
+        given_unasked unasked script k.0 one.alarm (had.0 ++ turns.led.item) turns.led.stood.front (fronted new.log) later_inbox.got
+        (turns.moves.taken k.0 (opened one.alarm) had.0 k.1 had.1)
+        (turn_sticks script k.0 (opened_map origin.start) old new one.st inbox.got later_inbox.got notices.got later.got (sent_on notices)
+        (seen_of (opened_map origin.start) back) (one.lost ++ line.waiting) notices.waiting later.waiting on
+        (one.pair tells k.0 (laws.class script k.0 one.st inbox.got later_inbox.got notices.got later.got (sent_on notices) turns.led turns.taken k.1)) way.told one.has_got
+        turns stuck))
 
     halts : is_stopped old ≡ false → Halts script old new one.st inbox.got later_inbox.got notices.got later.got (sent_on notices) → After
     halts on stops =
@@ -168,6 +181,7 @@ module _ {D : Type 0} (moment_of : D → ℕ) (left_since : D → ℕ → List �
         (seen_is_rear moment_of left_since told image faults_of origin.start origin.opening back one.back_stands) on
         (one.pair tells class (laws.class script class one.st inbox.got later_inbox.got notices.got later.got (sent_on notices) stops.led stops.taken is)) way stops is)
         (λ tells on_then goes. absurd (true≢false (sym stops.stops.stopped ∙ on_then))) (λ on_then. on)
+        (λ tells on_then stuck. absurd (true≢false (sym stops.stops.stopped ∙ on_then)))
 
   ran : is_stopped old ≡ false → (result : Result Turned NoMemory) → TurnsBy script old new inbox later_inbox line later_line notices later result → After
   ran on (Ok Ran) by = goes (Ok Ran) by on (by.ran refl one.st (one.front_stands on))

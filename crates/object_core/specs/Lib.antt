@@ -6,3 +6,5 @@ pub mod Stepping
 pub mod Collecting
 pub mod Running
 pub mod Laws
+pub mod Owing
+pub mod Leaving

@@ -1,5 +1,5 @@
 -- What holds of one object, both of whose halves run on one thread, after each of its steps.
-use Rattle.std.specs.Prelude.{◌≡◌, ◌⊎◌, ℕ, ℤ, false, List, [], ◌++◌, map, Option, Some, None, is_some}
+use Rattle.std.specs.Prelude.{◌≡◌, ◌⊎◌, ℕ, ℤ, true, false, List, [], ◌++◌, map, Option, Some, None, is_some}
 use Rattle.std.specs.List.{Contains}
 use Rattle.batch_journal.specs.Moments.{IsTold}
 use Rattle.do_tree.specs.Lookup.{class_named}
@@ -8,7 +8,7 @@ use Rattle.lane.specs.Lanes.{Both, sent_on}
 use Rattle.storage_map.specs.Limits.{Object}
 use Rattle.storage_map.specs.declared.op.Op.{Op}
 use Rattle.timeline.specs.Intake.{Taken, opened}
-use Rattle.timeline.specs.Logs.{fronted, backed}
+use Rattle.timeline.specs.Logs.{Fronted, fronted, backed}
 use Rattle.timeline.specs.declared.entry.Body.TheVariants as body
 use Rattle.timeline.specs.declared.entry.Entry.{Entry}
 use Rattle.timeline.specs.declared.event.Event.{Event}
@@ -29,6 +29,7 @@ use Rattle.output_gate.specs.Storing.{IsDiskOf}
 use Rattle.output_gate.specs.Telling.{opened_map}
 use Rattle.output_gate.specs.declared.back.Back.{Back}
 use Rattle.front_history.specs.Paired.{ArePaired}
+use Rattle.object_messages.specs.Naming.{answered_in, asked_in, messages_of}
 use Rattle.object_core.specs.Fitting.{IsFitIntake, known_over}
 use Rattle.object_core.specs.Heard.{IsHeard}
 use Rattle.object_core.specs.Seen.{seen_of}
@@ -88,6 +89,16 @@ abbrev pub HasTaken : Script → Option ℕ → Option (ℤ × ℕ) → Half Eva
 HasTaken script first alarm front st = (class : ℕ) → IsClass st.class class
     → (taken : List Taken) × IsTakenBy (kind_in script class) (opened alarm) taken st.front (fronted front.log) × IsFitIntake script first taken
 
+-- A front was given an answer to a call or a fetch that it didn't make.
+pub record IsGivenUnasked (log : Fronted) (got : List Event) : Type 0 where
+  pub asked : ℕ × ℕ
+  pub given : Contains (answered_in got) asked
+  pub unasked : Contains (asked_in (messages_of log.sent)) asked → ⊥
+
+-- While memory suffices for the front, and the disk tells its content, it stands still only at such an answer.
+abbrev pub SticksAtAnswers : {D : Type 0} → (told : D → Option (List ℕ)) → Half Evaluated → Back D → (got : List Event) → Type 0
+SticksAtAnswers told front back got = TellsNow told back → standing.is_stopped front ≡ false → front.stuck ≡ true → IsGivenUnasked (fronted front.log) got
+
 -- From what an object has run: the batches of its slot's journal at the opening, the disk's moment then, the slot's object then, and what
 -- it had released and others had taken before the halves were in one place.
 pub record Origin : Type 0 where
@@ -128,6 +139,7 @@ pub record IsOneOf {D : Type 0} (moment_of : D → ℕ) (left_since : D → ℕ 
   pub pair : TellOfPair told script origin.start st front back (lost ++ line.waiting) notices.waiting
   pub fits : FitsItsBack told script origin.object front back
   pub heard : HearsOfBack told origin.start st front back (lost ++ line.waiting) notices.waiting
+  pub sticks : SticksAtAnswers told front back inbox.got
 
 abbrev pub IsOne : {D : Type 0} → (D → ℕ) → (D → ℕ → List ℕ → Type 0) → (D → Option (List ℕ)) → (D → List ℕ → Type 0) → (D → ℕ)
     → Script → Origin → Core D → Type 0

@@ -1,9 +1,12 @@
 //! What holds of each object, for whoever holds one. A call costs nothing and tells its caller the law.
+ghost use Rattle.object_core.specs.Leaving.{OneLeaves, OneRests};
+ghost use Rattle.object_core.specs.Owing.{OneIsOwed, OneSticks};
 ghost use Rattle.object_core.specs.Laws.{HalvesAreFresh, OneIsHistory, OneHasClass, OneHasGot, OneHasIntake, OneHasLeft, OneHasLetGo, OneHasTold, OneIsQuiet, OneIsWhole};
 
 use crate::object::Core;
 use do_disk::Disk;
 use front_history::laws;
+use object_messages::laws as names;
 use output_gate::Back;
 
 /// The halves of a slot that was just mounted, for whoever makes an object of them.
@@ -76,5 +79,38 @@ pub fn one_has_left<D: Disk>(core: &Core<D>)
 pub fn one_has_told<D: Disk>(core: &Core<D>)
     ensures { OneHasTold D.moment_of D.left_since D.told D.image D.faults_of core.now }
 {
+    let _ = core;
+}
+
+/// Whom and what the messages that left name.
+pub fn one_is_owed<D: Disk>(core: &Core<D>)
+    ensures { OneIsOwed D.moment_of D.left_since D.told D.image D.faults_of core.now }
+{
+    names::replies_are_owed();
+    names::passed_is_taken();
+    laws::halves_are_said();
+    let _ = core;
+}
+
+/// Where its front stands still: at an answer to what it didn't ask.
+pub fn one_sticks<D: Disk>(core: &Core<D>)
+    ensures { OneSticks D.moment_of D.left_since D.told D.image D.faults_of core.now }
+{
+    let _ = core;
+}
+
+/// What it leaves at rest.
+pub fn one_leaves<D: Disk>(core: &Core<D>)
+    ensures { OneLeaves D.moment_of D.left_since D.told D.image D.faults_of core.now }
+{
+    laws::halves_are_whole();
+    let _ = core;
+}
+
+/// Where no step has anything to do, its front waits for nothing.
+pub fn one_rests<D: Disk>(core: &Core<D>)
+    ensures { OneRests D.moment_of D.left_since D.told D.image D.faults_of core.now }
+{
+    laws::halves_are_whole();
     let _ = core;
 }

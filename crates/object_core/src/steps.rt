@@ -13,6 +13,7 @@ use do_value::{Mem, NoMemory};
 use front_history::laws;
 use lane::{Outlet, Plain};
 use object_front::{Turned, laws as front_laws};
+use object_messages::laws as names;
 use std::alloc::Global;
 use timeline::{Event, Stepped};
 
@@ -34,6 +35,7 @@ impl<D: Disk> Core<D> {
         laws::turn_steps();
         front_laws::events_come();
         front_laws::class_comes();
+        names::early_is_unasked();
         let turned = self.front.turn(
             alloc,
             checked,

@@ -1,7 +1,10 @@
 use Rattle.std.proofs.Common.{◌≡◌, ◌∙◌, List, [], ◌∷◌, ◌++◌, length, Vec, Global, sym, ap, subst, arith, append_assoc, append-nil}
 use Rattle.std.proofs.lemmas.List.{length-append, nil_from_length}
 use Rattle.object_core.specs.declared.object.Core.{Core}
-use Rattle.host_core.proofs.Rows.{AreRowsOf, all_let_go, all_rows, next_can, no_rows, rows_more}
+use Rattle.host_core.proofs.Remaining.{AreLeftBy, left_then, none_left}
+use Rattle.host_core.proofs.Rows.{AreRowsOf, all_let_go, all_rows, all_settled, next_can, no_rows, rows_more}
+use Rattle.host_core.proofs.Servings.{on_ok_then}
+use Rattle.host_core.specs.Quiet.{AreLeftIn}
 use Rattle.host_core.proofs.closing.close.Goals as goal
 
 pub loop-core-init : goal.loop-core-init
@@ -11,6 +14,7 @@ loop-core-init g c =
     record {
       all = all;
       rows = no_rows g.D.Disk.moment_of g.D.Disk.left_since g.D.Disk.told g.D.Disk.image g.D.Disk.faults_of c.args.rows.now.items c.requires.none;
+      left = none_left c.args.left.now.items c.requires.none_left;
       many = ap length c.requires.none;
       room = omega (arith, c.requires.room, ap length all);
     }
@@ -35,7 +39,10 @@ loop-core-preserved g c =
           ∙ sym (append_assoc c.loop-core.yielded (c.in-Some.core ∷ []) c.next.new.self.rest.items);
       rows = rows_more g.D.Disk.moment_of g.D.Disk.left_since g.D.Disk.told g.D.Disk.image g.D.Disk.faults_of c.loop-core.yielded c.loop-core.rows.items c.push_row.new.rows.items
           c.in-Some.core c.close_slot-row.result.0 i.many c.push_row.ensures.rows
-          (c.close_slot-row.ensures.row, c.close_slot-row.ensures.quiet) i.rows;
+          (record { row_of = c.close_slot-row.ensures.row; let_go = c.close_slot-row.ensures.quiet; settled = c.close_slot-row.ensures.settled }) i.rows;
+      left = left_then c.loop-core.yielded c.in-Some.core c.loop-core.left.items c.close_slot-row.new.left.items c.len-slot.result c.loop-core.asked
+          c.close_slot-row.result.1 (omega (arith, c.len-slot.ensures, c.loop-core.rows.ok, i.many)) i.left
+          c.close_slot-row.ensures.left;
       many = omega (arith, pushed, i.many, length-append c.loop-core.yielded (c.in-Some.core ∷ []));
       room = omega (arith, i.room, ap length c.in-Some.ensures.steps.0, c.push_row.ensures.len, c.push_row.ensures.room);
     }
@@ -59,6 +66,27 @@ returns-clause-quiet g c =
     i.all ∙ ap (λ (xs : List (Core g.row.D.Denot)). c.loop-core.yielded ++ xs) none ∙ append-nil c.loop-core.yielded in
     all_let_go g.D.Disk.moment_of g.D.Disk.left_since g.D.Disk.told g.D.Disk.image g.D.Disk.faults_of c.args.objects c.loop-core.rows.items
     (subst (λ (cores : List (Core g.row.D.Denot)). AreRowsOf g.D.Disk.moment_of g.D.Disk.left_since g.D.Disk.told g.D.Disk.image g.D.Disk.faults_of cores c.loop-core.rows.items) (sym all) i.rows)
+
+pub returns-clause-settled : goal.returns-clause-settled
+returns-clause-settled g c =
+    let i = c.loop-core.invariant in
+    let rest = c.loop-core.core-iterator.rest in
+    let none : rest.items ≡ [] = nil_from_length rest.items (sym rest.ok.0 ∙ c.in-None.ensures.steps.0) in
+    let all : c.args.objects.cores.items ≡ c.loop-core.yielded =
+    i.all ∙ ap (λ (xs : List (Core g.row.D.Denot)). c.loop-core.yielded ++ xs) none ∙ append-nil c.loop-core.yielded in
+    on_ok_then c.loop-core.asked (λ left.
+    all_settled g.D.Disk.moment_of g.D.Disk.left_since g.D.Disk.told g.D.Disk.image g.D.Disk.faults_of c.args.objects c.loop-core.rows.items c.loop-core.left.items
+    (subst (λ (cores : List (Core g.row.D.Denot)). AreRowsOf g.D.Disk.moment_of g.D.Disk.left_since g.D.Disk.told g.D.Disk.image g.D.Disk.faults_of cores c.loop-core.rows.items) (sym all) i.rows)
+    (subst (λ (cores : List (Core g.row.D.Denot)). AreLeftBy cores c.loop-core.left.items) (sym all) left)) i.left
+
+pub returns-clause-left_in : goal.returns-clause-left_in
+returns-clause-left_in g c =
+    let i = c.loop-core.invariant in
+    let rest = c.loop-core.core-iterator.rest in
+    let none : rest.items ≡ [] = nil_from_length rest.items (sym rest.ok.0 ∙ c.in-None.ensures.steps.0) in
+    let all : c.args.objects.cores.items ≡ c.loop-core.yielded =
+    i.all ∙ ap (λ (xs : List (Core g.row.D.Denot)). c.loop-core.yielded ++ xs) none ∙ append-nil c.loop-core.yielded in
+    on_ok_then c.loop-core.asked (λ left. subst (λ (cores : List (Core g.row.D.Denot)). AreLeftIn (length cores) c.loop-core.left.items) (sym all) left.within) i.left
 
 pub returns-clause-many : goal.returns-clause-many
 returns-clause-many g c =

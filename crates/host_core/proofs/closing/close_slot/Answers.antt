@@ -1,4 +1,5 @@
 use Rattle.std.proofs.Common.{◌∙◌, sym, ap, subst}
+use Rattle.std.specs.Prelude.{OnOk}
 use Rattle.timeline.specs.Logs.{backed, fronted}
 use Rattle.object_front.specs.Evaluated.{seen}
 use Rattle.object_front.specs.Turning.{CanTurn}
@@ -8,6 +9,8 @@ use Rattle.output_gate.specs.Storing.{IsDiskOf}
 use Rattle.output_gate.specs.declared.back.Back.{Back}
 use Rattle.host_core.proofs.Quiet.{is_let_go_of}
 use Rattle.host_core.proofs.Rows.{can_turn, is_row_of}
+use Rattle.host_core.proofs.Settled.{is_settled_of}
+use Rattle.host_core.specs.Closing.{AddsLeft}
 use Rattle.host_core.proofs.closing.close_slot.Goals as goal
 
 pub ask-asked-requires : goal.ask-asked-requires
@@ -31,7 +34,7 @@ returns-clause-row g c =
     (c.row_of.ensures.identity ∙ ap (λ (back : Back g.row.D.Denot). back.identity) c.split-front.ensures.1)
     (c.row_of.ensures.front ∙ ap (λ (front : Front). fronted front.half.log) c.split-front.ensures.0)
     (c.row_of.ensures.back ∙ ap (λ (back : Back g.row.D.Denot). backed back.log) c.split-front.ensures.1)
-    c.one_is_history.ensures c.one_has_intake.ensures c.one_has_got.ensures c.one_has_class.ensures c.one_has_left.ensures c.one_has_told.ensures
+    c.one_is_history.ensures c.one_has_intake.ensures c.one_has_got.ensures c.one_has_class.ensures c.one_has_left.ensures c.one_has_told.ensures c.one_is_owed.ensures
 
 pub returns-clause-quiet : goal.returns-clause-quiet
 returns-clause-quiet g c =
@@ -39,3 +42,15 @@ returns-clause-quiet g c =
     (subst (λ (back : Back g.row.D.Denot). IsDiskOf back.store c.row_of.result.store) c.split-front.ensures.1 c.row_of.ensures.store)
     (c.row_of.ensures.front ∙ ap (λ (front : Front). fronted front.half.log) c.split-front.ensures.0)
     (c.row_of.ensures.back ∙ ap (λ (back : Back g.row.D.Denot). backed back.log) c.split-front.ensures.1) c.one_has_let_go.ensures
+
+pub returns-clause-settled : goal.returns-clause-settled
+returns-clause-settled g c =
+    is_settled_of g.D.Disk.moment_of g.D.Disk.left_since g.D.Disk.told g.D.Disk.image g.D.Disk.faults_of c.args.core c.row_of.result
+    (subst (λ (back : Back g.row.D.Denot). IsDiskOf back.store c.row_of.result.store) c.split-front.ensures.1 c.row_of.ensures.store)
+    (c.row_of.ensures.front ∙ ap (λ (front : Front). fronted front.half.log) c.split-front.ensures.0)
+    (c.row_of.ensures.back ∙ ap (λ (back : Back g.row.D.Denot). backed back.log) c.split-front.ensures.1)
+    c.one_is_quiet.ensures c.one_leaves.ensures c.one_rests.ensures c.one_sticks.ensures
+
+pub returns-clause-left : goal.returns-clause-left
+returns-clause-left g c =
+    subst (λ (front : Front). OnOk c.ask-asked.result (AddsLeft c.args.slot front.half c.args.asked c.args.left.now.items c.ask-asked.new.left.items)) c.split-front.ensures.0 c.ask-asked.ensures

@@ -2,11 +2,17 @@ use Rattle.std.proofs.Common.{◌≡◌, ◌≤◌, ◌∙◌, ap, sym, subst, r
 use Rattle.do_tree.specs.Checked.{tree_of}
 use Rattle.do_disk.specs.Disk.{Rose}
 use Rattle.line_server.specs.Lines.{count_of, source_of}
-use Rattle.mailbox.specs.Runs.{log_of, out_of}
+use Rattle.mailbox.specs.Runs.{log_of, out_of, state_of}
 use Rattle.mailbox.specs.Seen.{seen_log}
 use Rattle.mailbox.specs.declared.switch_log.SwitchLog.{SwitchLog}
-use Rattle.host_core.proofs.Reporting.{Ended, all_served, ends_by, finished_is, read_is, of_ok, most_by, same_posts, serves_first, no_lines, prints_lines, write_rose, write_steady, reports}
+use Rattle.host_core.proofs.Reporting.{Ended, all_served, ends_by, finished_is, read_is, most_by, same_posts, serves_first, no_lines, prints_lines, write_rose, write_steady, reports}
+use Rattle.host_core.proofs.Answered.{are_settled}
+use Rattle.host_core.proofs.Ending.{either_way}
+use Rattle.host_core.proofs.InOrder.{come_in_order}
 use Rattle.host_core.proofs.Reporting.{accepts_later, all_later, read_later}
+use Rattle.host_core.proofs.Servings.{of_ok}
+use Rattle.host_core.specs.Objects.{AreThere}
+use Rattle.host_core.specs.Quiet.{AreLeftIn}
 use Rattle.host_core.specs.Report.{PrintsLines}
 use Rattle.host_core.specs.declared.report.Report.{Report}
 use Rattle.host_core.proofs.folder.serve_slots.Goals as goal
@@ -33,6 +39,22 @@ returns-clause-report g c = λ contents one_each going.
     c.close-closed.ensures.quiet (tree_of c.args.checked.now) contents c.args.directory (log_of c.serve_lines-served.new.switch)
     (all_served c.serve_lines-served.result _ sure c.serve_lines-served.ensures.serving c.serve_lines-served.ensures.read_serving contents c.args.directory first).slots
     rest.resting rest.routed)
+    (λ sure is. let rest = all_served c.serve_lines-served.result _ sure c.serve_lines-served.ensures.resting c.serve_lines-served.ensures.read_resting in
+    let serves = all_served c.serve_lines-served.result _ sure c.serve_lines-served.ensures.serving c.serve_lines-served.ensures.read_serving contents c.args.directory first in
+    are_settled g.D.Disk.moment_of g.D.Disk.left_since g.D.Disk.told g.D.Disk.faults_of (tree_of c.args.checked.now) contents c.args.directory
+    (log_of c.serve_lines-served.new.switch) (state_of c.serve_lines-served.new.switch) c.close-closed.new.rows.items c.close-closed.new.left.items
+    c.answers_are_asked.ensures serves.run
+    (c.close-closed.ensures.rows (tree_of c.args.checked.now) contents c.args.directory (log_of c.serve_lines-served.new.switch) has.slots)
+    (subst (λ (n : ℕ). AreThere n (log_of c.serve_lines-served.new.switch)) (sym c.close-closed.ensures.many) has.there)
+    (either_way c.close-closed.result _ ⊥ _ c.close-closed.ensures.settled (c.finish-end.ensures.closed sure is)
+    (λ settled. settled (tree_of c.args.checked.now) contents c.args.directory (log_of c.serve_lines-served.new.switch) serves.slots rest.resting rest.routed)
+    (λ never. absurd never)))
+    (λ sure is. subst (λ (n : ℕ). AreLeftIn n c.close-closed.new.left.items) (sym c.close-closed.ensures.many)
+    (either_way c.close-closed.result _ ⊥ _ c.close-closed.ensures.left_in (c.finish-end.ensures.closed sure is) (λ left_in. left_in) (λ never. absurd never)))
+    (λ sure. come_in_order g.D.Disk.moment_of g.D.Disk.left_since g.D.Disk.told g.D.Disk.faults_of (tree_of c.args.checked.now) contents c.args.directory
+    (log_of c.serve_lines-served.new.switch) (state_of c.serve_lines-served.new.switch) c.close-closed.new.rows.items c.calls_come_in_order.ensures
+    (all_served c.serve_lines-served.result _ sure c.serve_lines-served.ensures.serving c.serve_lines-served.ensures.read_serving contents c.args.directory first).run
+    (c.close-closed.ensures.rows (tree_of c.args.checked.now) contents c.args.directory (log_of c.serve_lines-served.new.switch) has.slots))
     (ap seen_log c.into_parts-out.ensures.log)
     (c.close-closed.ensures.rows (tree_of c.args.checked.now) contents c.args.directory (log_of c.serve_lines-served.new.switch) has.slots)
     c.close-closed.ensures.many (c.requires.many ∙ sym c.serve_lines-served.ensures.many) one_each c.finish-end.ensures.late

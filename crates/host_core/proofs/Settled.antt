@@ -1,0 +1,141 @@
+-- The row of an object that rests: it is quiet, or its front stands still at an answer to what it didn't ask.
+use Rattle.std.proofs.Common.{◌≡◌, ◌∙◌, ap, sym, refl, subst, inl, inr, ℕ, List, [], ◌++◌, append-nil, Option, Some, None}
+use Rattle.std.specs.Prelude.{Bool, true, false, ◌⊎◌}
+use Rattle.std.specs.List.{Contains}
+use Rattle.std.proofs.lemmas.Grind.{flat_map-append}
+use Rattle.std.proofs.lemmas.List.Elements.{Contains-append_left}
+use Rattle.batch_journal.specs.Moments.{IsTold}
+use Rattle.do_tree.specs.Tree.{Script}
+use Rattle.lane.specs.Lanes.{Both, sent_on}
+use Rattle.object_core.specs.Laws.{GoesOn, HasNothingToDo, OneIsQuiet}
+use Rattle.object_core.specs.Leaving.{OneLeaves, OneRests, left_of}
+use Rattle.object_core.specs.One.{HasItsClass, IsGivenUnasked, TellsNow, class_in}
+use Rattle.object_core.specs.Owing.{OneSticks}
+use Rattle.object_core.specs.declared.object.Core.{Core}
+use Rattle.object_front.specs.Came.{AreCome, kept}
+use Rattle.object_front.specs.Classed.{class_by}
+use Rattle.object_front.specs.Evaluated.{seen}
+use Rattle.object_front.specs.Standing.{IsClass, IsHalf}
+use Rattle.object_messages.specs.Naming.{answered_by, answered_in, asked_in, messages_of}
+use Rattle.output_gate.specs.Storing.{IsDiskOf}
+use Rattle.output_gate.specs.Telling.{opened_map}
+use Rattle.storage_map.specs.Limits.{Object}
+use Rattle.timeline.specs.Headline.{IsQuiet}
+use Rattle.timeline.specs.Logs.{Backed, Fronted, backed, fronted}
+use Rattle.timeline.specs.declared.caller.Caller.{Caller}
+use Rattle.timeline.specs.declared.event.Event.{Event}
+use Rattle.timeline.specs.declared.message.Message.{Message}
+use Rattle.timeline.specs.declared.notice.Waits.{Waits}
+use Rattle.host_core.proofs.Quiet.{all_routed, nothing_to_do}
+use Rattle.host_core.specs.Closing.{IsLeftOf, IsSettledOf}
+use Rattle.host_core.specs.Quiet.{IsSettled}
+use Rattle.host_core.specs.Slots.{IsGoing, IsResting}
+use Rattle.host_core.specs.declared.report.SlotReport.{SlotReport}
+
+-- a class that a front may have
+class_now : (has : Option ℕ) → (class : ℕ) × IsClass has class
+class_now None = (0, tt)
+class_now (Some class) = (class, refl)
+
+-- what was answered by the first events was answered by all
+answered_more : (first rest : List Event) (asked : ℕ × ℕ) → Contains (answered_in first) asked → Contains (answered_in (first ++ rest)) asked
+answered_more first rest asked has =
+    subst (λ (xs : List (ℕ × ℕ)). Contains xs asked) (sym (flat_map-append answered_by first rest))
+    (Contains-append_left (answered_in first) (answered_in rest) asked has)
+
+module _ {D : Type 0} (moment_of : D → ℕ) (left_since : D → ℕ → List ℕ → Type 0) (told : D → Option (List ℕ)) (image : D → List ℕ → Type 0) (faults_of : D → ℕ)
+    (core : Core D) (row : SlotReport D) (store_is : IsDiskOf core.back.store row.store)
+    (front_is : fronted row.front ≡ fronted core.front.half.log) (back_is : backed row.back ≡ backed core.back.log)
+    (quiet : OneIsQuiet moment_of left_since told image faults_of core) (leaves : OneLeaves moment_of left_since told image faults_of core)
+    (rests : OneRests moment_of left_since told image faults_of core) (sticks : OneSticks moment_of left_since told image faults_of core) where
+  module _ (script : Script) (content : Option (List ℕ)) (named : Option Object) (posts : List Event) (routed : List Message) (inbox : Both Event) (out : Both Message)
+      (going : IsGoing moment_of left_since told image faults_of script content named posts routed core inbox out) (resting : IsResting script core inbox)
+      (none : out.waiting ≡ []) (remaining : List (Caller × Waits)) (is_left : IsLeftOf core.front.half remaining)
+      (is_told : IsTold (told row.store)) (has : HasItsClass script named) where
+    tells : TellsNow told core.back
+    tells = (row.store, store_is, is_told)
+
+    has_class : HasItsClass script going.origin.object
+    has_class = subst (λ (o : Option Object). HasItsClass script o) (sym going.begun.object) has
+
+    nothing : HasNothingToDo script core
+    nothing = nothing_to_do script core resting.settled
+
+    -- all that was posted went to the object
+    posts_are : sent_on core.inbox ≡ posts
+    posts_are = going.gives ∙ sym (append-nil inbox.got) ∙ ap (λ (es : List Event). inbox.got ++ es) (sym resting.given) ∙ going.posted
+
+    -- ---- its front stands still
+    row_unasked : IsGivenUnasked (fronted core.front.half.log) core.inbox.got → IsGivenUnasked (fronted row.front) posts
+    row_unasked given = record {
+      asked = given.asked;
+      given = subst (λ (es : List Event). Contains (answered_in es) given.asked) posts_are (answered_more core.inbox.got core.inbox.waiting given.asked given.given);
+      unasked = subst (λ (log : Fronted). Contains (asked_in (messages_of log.sent)) given.asked → ⊥) (sym front_is) given.unasked;
+    }
+
+    -- ---- its front goes on
+    module _ (fits : core.front.half.stuck ≡ false) where
+      goes : GoesOn core
+      goes = record { front = resting.settled.front_goes; back = resting.settled.back_goes; fits = fits }
+
+      half : IsHalf seen script core.front.half going.one.st
+      half = going.one.front_stands resting.settled.front_goes
+
+      class_is : (class : ℕ) → IsClass (class_by script (class_in script named) (fronted row.front)) class → IsClass going.one.st.class class
+      class_is class is =
+          subst (λ (o : Option ℕ). IsClass o class)
+          (ap (λ (o : Option Object). class_by script (class_in script o) (fronted row.front)) (sym going.begun.object)
+          ∙ ap (λ (log : Fronted). class_by script (class_in script going.origin.object) log) front_is ∙ sym (going.one.classed.now resting.settled.front_goes)) is
+
+      core_quiet : (class : ℕ) → IsClass going.one.st.class class → (core.inbox.waiting ≡ [])
+          × IsQuiet script class (opened_map going.origin.start) (fronted core.front.half.log) (backed core.back.log) core.inbox.got (sent_on core.out)
+      core_quiet class is = quiet script going.origin tells going.one class is has_class goes nothing going.begun.left
+
+      all_got : core.inbox.got ≡ posts
+      all_got =
+          let class = class_now going.one.st.class in
+          sym (append-nil core.inbox.got) ∙ ap (λ (es : List Event). core.inbox.got ++ es) (sym (core_quiet class.0 class.1).0) ∙ posts_are
+
+      row_quiet : (class : ℕ) → IsClass going.one.st.class class
+          → IsQuiet script class (opened_map going.origin.start) (fronted row.front) (backed row.back) posts routed
+      row_quiet class is =
+          subst (λ (log : Backed). IsQuiet script class (opened_map going.origin.start) (fronted row.front) log posts routed) (sym back_is)
+          (subst (λ (log : Fronted). IsQuiet script class (opened_map going.origin.start) log (backed core.back.log) posts routed) (sym front_is)
+          (subst (λ (ms : List Message). IsQuiet script class (opened_map going.origin.start) (fronted core.front.half.log) (backed core.back.log) posts ms)
+          (all_routed moment_of left_since told image faults_of core script content named posts routed inbox out going resting none)
+          (subst (λ (es : List Event). IsQuiet script class (opened_map going.origin.start) (fronted core.front.half.log) (backed core.back.log) es (sent_on core.out)) all_got
+          (core_quiet class is).1)))
+
+      row_left : (class : ℕ) → IsClass going.one.st.class class
+          → remaining ≡ left_of script class (opened_map going.origin.start) (fronted row.front) (backed row.back) (kept going.one.st)
+      row_left class is =
+          is_left script going.one.st half (rests script going.origin tells going.one class is has_class goes nothing)
+          ∙ leaves script going.origin tells going.one class is has_class goes nothing
+          ∙ ap (λ (log : Fronted). left_of script class (opened_map going.origin.start) log (backed core.back.log) (kept going.one.st)) (sym front_is)
+          ∙ ap (λ (log : Backed). left_of script class (opened_map going.origin.start) (fronted row.front) log (kept going.one.st)) (sym back_is)
+
+      row_come : AreCome posts (fronted row.front) (kept going.one.st) []
+      row_come =
+          subst (λ (es : List Event). AreCome es (fronted row.front) (kept going.one.st) []) all_got
+          (subst (λ (log : Fronted). AreCome core.inbox.got log (kept going.one.st) []) (sym front_is)
+          (subst (λ (lost : List Event). AreCome core.inbox.got (fronted core.front.half.log) (kept going.one.st) lost)
+          (going.one.has_got.none_lost resting.settled.front_goes (sym half.stuck ∙ fits)) going.one.has_got.come))
+
+      row_settled : IsSettled script content named posts routed remaining row
+      row_settled = record {
+        origin = going.origin;
+        begun = going.begun;
+        keeps = kept going.one.st;
+        come = row_come;
+        quiet = λ class is. row_quiet class (class_is class is);
+        left = λ class is. row_left class (class_is class is);
+      }
+
+    settled_as : (stuck : Bool) → core.front.half.stuck ≡ stuck
+        → IsGivenUnasked (fronted row.front) posts ⊎ IsSettled script content named posts routed remaining row
+    settled_as true is = inl (row_unasked (sticks script going.origin tells going.one resting.settled.front_goes is))
+    settled_as false is = inr (row_settled is)
+
+  pub is_settled_of : IsSettledOf moment_of left_since told image faults_of core row
+  is_settled_of script content named posts routed inbox out going resting none remaining is_left is_told has =
+      settled_as script content named posts routed inbox out going resting none remaining is_left is_told has core.front.half.stuck refl

@@ -1,0 +1,10 @@
+pub mod Counts
+pub mod Owing
+pub mod FrontsOwing
+pub mod Numbering
+pub mod FrontsNumbering
+pub mod Early
+pub mod Passing
+pub mod Exactly
+pub mod Waiting
+pub mod Leaving

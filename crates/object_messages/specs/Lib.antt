@@ -1,0 +1,3 @@
+pub mod Naming
+pub mod Laws
+pub mod Exact

@@ -1,0 +1,43 @@
+//! Laws of what an object's messages name. A call costs nothing and tells its caller the law.
+ghost use Rattle.object_messages.specs.Exact.{LeftIsEach, PassedIsAll, RepliesAreExact};
+ghost use Rattle.object_messages.specs.Laws.{EarlyIsUnasked, NumbersAreGiven, NumbersAscend, PassedIsTaken, RepliesAreOwed};
+
+/// Each call and fetch that was sent has a number that was given.
+pub fn numbers_are_given()
+    ensures { NumbersAreGiven }
+{}
+
+/// No number is given twice: they ascend.
+pub fn numbers_ascend()
+    ensures { NumbersAscend }
+{}
+
+/// An answer that comes too early answers nothing that was sent.
+pub fn early_is_unasked()
+    ensures { EarlyIsUnasked }
+{}
+
+/// Nobody gets more replies than he made calls.
+pub fn replies_are_owed()
+    ensures { RepliesAreOwed }
+{}
+
+/// What passes names what was taken.
+pub fn passed_is_taken()
+    ensures { PassedIsTaken }
+{}
+
+/// Who called once got one reply, or is left by the newest incarnation.
+pub fn replies_are_exact()
+    ensures { RepliesAreExact }
+{}
+
+/// An idle object leaves each call that it hasn't answered, once, and then each that is deferred.
+pub fn left_is_each()
+    ensures { LeftIsEach }
+{}
+
+/// Each reply that was taken passes.
+pub fn passed_is_all()
+    ensures { PassedIsAll }
+{}

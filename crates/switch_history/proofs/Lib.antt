@@ -1,0 +1,9 @@
+mod Cases
+mod Slots
+mod Asked
+mod Numbered
+mod Standing
+mod Answered
+mod Ordered
+mod Fitted
+mod Fitting
