@@ -32,8 +32,8 @@ each_push {X} P xs x old new at y is =
     subst (λ (n : ℕ). P n y) last (subst (λ (z : X). P (length xs) z) (push_last xs x y at last is) new))
     (cases_lt at (length xs))
 
-module _ {S : Type 0} (moment_of : S → ℕ) (left_since : S → ℕ → List ℕ → Type 0) (told : S → Option (List ℕ)) (image : S → List ℕ → Type 0) (content : Option (List ℕ)) (named : Option Object)
-    (mounted : Mounted S) (row : SlotReport S) (m : Contents) (is : IsMountedAt moment_of left_since told image content named mounted) (made : IsRowOf mounted row m) where
+module _ {S : Type 0} (moment_of : S → ℕ) (left_since : S → ℕ → List ℕ → Type 0) (told : S → Option (List ℕ)) (image : S → List ℕ → Type 0) (limit : ℕ) (content : Option (List ℕ)) (named : Option Object)
+    (mounted : Mounted S) (row : SlotReport S) (m : Contents) (is : IsMountedAt moment_of left_since told image limit content named mounted) (made : IsRowOf mounted row m) where
   pub row_idle : IsIdleRow left_since content named row
   row_idle = record {
     frames = is.mount.frames;
@@ -70,17 +70,17 @@ module _ {S : Type 0} (left_since : S → ℕ → List ℕ → Type 0) (contents
   }
 
 -- the slot that was mounted next
-pub mounted_put : {S : Type 0} (moment_of : S → ℕ) (left_since : S → ℕ → List ℕ → Type 0) (told : S → Option (List ℕ)) (image : S → List ℕ → Type 0) (contents : ℕ → Option (List ℕ)) (content : Option (List ℕ))
+pub mounted_put : {S : Type 0} (moment_of : S → ℕ) (left_since : S → ℕ → List ℕ → Type 0) (told : S → Option (List ℕ)) (image : S → List ℕ → Type 0) (limit : ℕ) (contents : ℕ → Option (List ℕ)) (content : Option (List ℕ))
     (named after : Slots) (rows rows_after : List (SlotReport S)) (ms ms_after : List Contents) (mounted : Mounted S) (slot : ℕ) → length rows ≡ slot → content ≡ contents slot
-    → AreMounted left_since contents named rows ms → OnlyAt slot named after → IsMountedAt moment_of left_since told image content (object_at after slot) mounted
+    → AreMounted left_since contents named rows ms → OnlyAt slot named after → IsMountedAt moment_of left_since told image limit content (object_at after slot) mounted
     → PutsRow mounted rows rows_after ms ms_after → AreMounted left_since contents after rows_after ms_after
-mounted_put {S} moment_of left_since told image contents content named after rows rows_after ms ms_after mounted slot many content_is so_far only is puts =
+mounted_put {S} moment_of left_since told image limit contents content named after rows rows_after ms ms_after mounted slot many content_is so_far only is puts =
     let idle : IsIdleRow left_since (contents slot) (object_at after slot) puts.row =
     subst (λ (x : Option (List ℕ)). IsIdleRow left_since x (object_at after slot) puts.row) content_is
-    (row_idle moment_of left_since told image content (object_at after slot) mounted puts.row puts.m is puts.made) in
+    (row_idle moment_of left_since told image limit content (object_at after slot) mounted puts.row puts.m is puts.made) in
     let contains : Contains (contents slot) (object_at after slot) puts.m =
     subst (λ (x : Option (List ℕ)). Contains x (object_at after slot) puts.m) content_is
-    (row_contains moment_of left_since told image content (object_at after slot) mounted puts.row puts.m is puts.made) in
+    (row_contains moment_of left_since told image limit content (object_at after slot) mounted puts.row puts.m is puts.made) in
     let more : AreMounted left_since contents after (rows ++ puts.row ∷ []) (ms ++ puts.m ∷ []) =
     mounted_more left_since contents named after rows ms puts.row puts.m so_far (subst (λ (n : ℕ). OnlyAt n named after) (sym many) only)
     (subst (λ (n : ℕ). IsIdleRow left_since (contents n) (object_at after n) puts.row) (sym many) idle)

@@ -216,25 +216,25 @@ module _ {S R W : Type 0} (moment_of : S → ℕ) (left_since : S → ℕ → Li
 
 -- what holds of every run holds of one that serves, from wherever the depot stands
 module _ {S R W : Type 0} (moment_of : S → ℕ) (left_since : S → ℕ → List ℕ → Type 0) (store_told : S → Option (List ℕ)) (image : S → List ℕ → Type 0) (faults_of : S → ℕ)
-    (left : R → Option (List ℕ)) (read : R → ℕ) (taken : W → Option (List ℕ)) (wrote : W → ℕ) (tree : Script) (folder : List ℕ) (slots : ℕ)
+    (left : R → Option (List ℕ)) (read : R → ℕ) (taken : W → Option (List ℕ)) (wrote : W → ℕ) (tree : Script) (folder : List ℕ) (slots limit : ℕ)
     (input input_after : R) (out after : W) (status : ℕ) (old report : Report S) where
   pub serves_same : (contents same_contents : ℕ → Option (List ℕ)) (questions same_questions questions_after : List Ask) (depot same_depot depot_after : ℕ)
       → same_contents ≡ contents → same_questions ≡ questions → same_depot ≡ depot
-      → ServesTree moment_of left_since store_told image faults_of left read taken wrote tree folder slots same_contents same_questions questions_after same_depot depot_after input input_after out after status old report
-      → ServesTree moment_of left_since store_told image faults_of left read taken wrote tree folder slots contents questions questions_after depot depot_after input input_after out after status old report
+      → ServesTree moment_of left_since store_told image faults_of left read taken wrote tree folder slots limit same_contents same_questions questions_after same_depot depot_after input input_after out after status old report
+      → ServesTree moment_of left_since store_told image faults_of left read taken wrote tree folder slots limit contents questions questions_after depot depot_after input input_after out after status old report
   serves_same contents same_contents questions same_questions questions_after depot same_depot depot_after contents_are questions_are depot_is serves =
-      subst (λ (c : ℕ → Option (List ℕ)). ServesTree moment_of left_since store_told image faults_of left read taken wrote tree folder slots c questions questions_after depot depot_after input input_after out after status old report) contents_are
-      (subst (λ (q : List Ask). ServesTree moment_of left_since store_told image faults_of left read taken wrote tree folder slots same_contents q questions_after depot depot_after input input_after out after status old report) questions_are
-      (subst (λ (n : ℕ). ServesTree moment_of left_since store_told image faults_of left read taken wrote tree folder slots same_contents same_questions questions_after n depot_after input input_after out after status old report) depot_is serves))
+      subst (λ (c : ℕ → Option (List ℕ)). ServesTree moment_of left_since store_told image faults_of left read taken wrote tree folder slots limit c questions questions_after depot depot_after input input_after out after status old report) contents_are
+      (subst (λ (q : List Ask). ServesTree moment_of left_since store_told image faults_of left read taken wrote tree folder slots limit same_contents q questions_after depot depot_after input input_after out after status old report) questions_are
+      (subst (λ (n : ℕ). ServesTree moment_of left_since store_told image faults_of left read taken wrote tree folder slots limit same_contents same_questions questions_after n depot_after input input_after out after status old report) depot_is serves))
 
   pub any_tree : (contents : ℕ → Option (List ℕ)) (questions questions_after : List Ask) (depot depot_after : ℕ) → 1 ≤ slots
-      → ServesTree moment_of left_since store_told image faults_of left read taken wrote tree folder slots contents questions questions_after depot depot_after input input_after out after status old report
+      → ServesTree moment_of left_since store_told image faults_of left read taken wrote tree folder slots limit contents questions questions_after depot depot_after input input_after out after status old report
       → AtAnyEnd faults_of left read taken wrote depot depot_after input input_after out after status old report
   any_tree contents questions questions_after depot depot_after some serves =
       any_served moment_of left_since store_told image faults_of left read taken wrote slots depot depot_after input input_after out serves.served after status serves.end old report some
       (shows_end wrote taken serves.served after status serves.end serves.tells) serves.lines serves.opened serves.causes
 
   pub tree_no_usage : (contents : ℕ → Option (List ℕ)) (questions questions_after : List Ask) (depot depot_after : ℕ)
-      → ServesTree moment_of left_since store_told image faults_of left read taken wrote tree folder slots contents questions questions_after depot depot_after input input_after out after status old report → status ≢ 1
+      → ServesTree moment_of left_since store_told image faults_of left read taken wrote tree folder slots limit contents questions questions_after depot depot_after input input_after out after status old report → status ≢ 1
   tree_no_usage contents questions questions_after depot depot_after serves =
       not_usage wrote taken serves.served after status serves.end (shows_end wrote taken serves.served after status serves.end serves.tells)

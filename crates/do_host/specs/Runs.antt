@@ -58,15 +58,15 @@ pub record EndsEarly {S R W : Type 0} (taken : W → Option (List ℕ)) (script 
   pub refused_asked : (status ≡ 2) ⊎ (status ≡ 6) → questions_after ≡ questions ++ for_text script ∷ []
   pub failed : status ≡ 3 → Rose depot depot_after
 
--- The slots are served over this script. They end so, and leave the sink so, behind which the line of a bad slot is told. What holds at this end
--- is what serving promises.
+-- The slots are served over this script, each with a journal that may have so many bytes. They end so, and leave the sink so, behind which the line of
+-- a bad slot is told. What holds at this end is what serving promises.
 pub record ServesTree {S R W : Type 0} (moment_of : S → ℕ) (left_since : S → ℕ → List ℕ → Type 0) (told : S → Option (List ℕ)) (image : S → List ℕ → Type 0) (faults_of : S → ℕ)
-    (left : R → Option (List ℕ)) (read : R → ℕ) (taken : W → Option (List ℕ)) (wrote : W → ℕ) (tree : Script) (folder : List ℕ) (slots : ℕ) (contents : ℕ → Option (List ℕ))
+    (left : R → Option (List ℕ)) (read : R → ℕ) (taken : W → Option (List ℕ)) (wrote : W → ℕ) (tree : Script) (folder : List ℕ) (slots limit : ℕ) (contents : ℕ → Option (List ℕ))
     (questions questions_after : List Ask) (depot depot_after : ℕ) (input input_after : R) (out out_after : W) (status : ℕ) (old report : Report S) : Type 0 where
   pub end : ServeEnd
   pub served : W
   pub tells : TellsEnd taken wrote served out_after status end
-  pub reports : IsReport moment_of left_since told faults_of tree contents slots end report
+  pub reports : IsReport moment_of left_since told faults_of limit tree contents slots end report
   pub lines : ReadsLines (left input) (left input_after) end report
   pub output : PrintsLines (taken out) (taken served) end report
   pub opened : IsOpened slots input input_after out served end old report
@@ -76,20 +76,20 @@ pub record ServesTree {S R W : Type 0} (moment_of : S → ℕ) (left_since : S �
 
 -- `serve` over the slots, as the script is accepted; the depot was asked for the script, and then for slots alone.
 pub record ServesSlots {S R W : Type 0} (moment_of : S → ℕ) (left_since : S → ℕ → List ℕ → Type 0) (told : S → Option (List ℕ)) (image : S → List ℕ → Type 0) (faults_of : S → ℕ)
-    (left : R → Option (List ℕ)) (read : R → ℕ) (taken : W → Option (List ℕ)) (wrote : W → ℕ) (script folder : List ℕ) (slots : ℕ) (text : Option (List ℕ)) (contents : ℕ → Option (List ℕ))
+    (left : R → Option (List ℕ)) (read : R → ℕ) (taken : W → Option (List ℕ)) (wrote : W → ℕ) (script folder : List ℕ) (slots limit : ℕ) (text : Option (List ℕ)) (contents : ℕ → Option (List ℕ))
     (questions questions_after : List Ask) (depot depot_after : ℕ) (input input_after : R) (out out_after : W) (status : ℕ) (old report : Report S) : Type 0 where
   pub tree : Script
   pub accepted : IfTold text (λ t. IsAccepted t tree)
-  pub serves : ServesTree moment_of left_since told image faults_of left read taken wrote tree folder slots contents
+  pub serves : ServesTree moment_of left_since told image faults_of left read taken wrote tree folder slots limit contents
       (questions ++ for_text script ∷ []) questions_after depot depot_after input input_after out out_after status old report
 
 -- `serve`: it ends before a slot is asked for, or serves over the slots.
 abbrev pub ServeRun : {S R W : Type 0} → (S → ℕ) → (S → ℕ → List ℕ → Type 0) → (S → Option (List ℕ)) → (S → List ℕ → Type 0) → (S → ℕ)
-    → (R → Option (List ℕ)) → (R → ℕ) → (W → Option (List ℕ)) → (W → ℕ) → (script folder : List ℕ) → (slots : ℕ) → Option (List ℕ) → (ℕ → Option (List ℕ))
+    → (R → Option (List ℕ)) → (R → ℕ) → (W → Option (List ℕ)) → (W → ℕ) → (script folder : List ℕ) → (slots limit : ℕ) → Option (List ℕ) → (ℕ → Option (List ℕ))
     → List Ask → List Ask → ℕ → ℕ → R → R → W → W → ℕ → Report S → Report S → Type 0
-ServeRun moment_of left_since told image faults_of left read taken wrote script folder slots text contents questions questions_after depot depot_after input input_after out out_after status old report =
+ServeRun moment_of left_since told image faults_of left read taken wrote script folder slots limit text contents questions questions_after depot depot_after input input_after out out_after status old report =
     EndsEarly taken script text questions questions_after depot depot_after input input_after out out_after status old report
-    ⊎ ServesSlots moment_of left_since told image faults_of left read taken wrote script folder slots text contents questions questions_after depot depot_after
+    ⊎ ServesSlots moment_of left_since told image faults_of left read taken wrote script folder slots limit text contents questions questions_after depot depot_after
     input input_after out out_after status old report
 
 -- `check` of the script of this text: it asks the depot for the script alone, and leaves the report.

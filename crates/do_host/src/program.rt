@@ -71,7 +71,7 @@ pub fn run<P: Depot, R: Source + Send, W: Sink + Send, G: TurnGate + Sync, T: Wa
     ensures serve { (script folder : List ℕ) (slots workers journal : ℕ)
         → asked (map string_bytes words.now) ≡ spoken.serves script folder slots workers journal
         → ServeRun P.Store.moment_of P.Store.left_since P.Store.told P.Store.image P.Store.faults_of R.left R.faults_of W.taken W.faults_of
-        script folder slots (P.text_at depot.old script) (P.slot_at depot.old folder) (P.asked depot.old) (P.asked depot.new)
+        script folder slots journal (P.text_at depot.old script) (P.slot_at depot.old folder) (P.asked depot.old) (P.asked depot.new)
         (P.faults_of depot.old) (P.faults_of depot.new) input result.input out result.out result.status report.old report.new }
     ensures check { (script : List ℕ) → asked (map string_bytes words.now) ≡ spoken.checks script
         → CheckRun (P.text_at depot.old script) (W.taken out) (W.taken result.out)
@@ -111,7 +111,7 @@ fn run_serve<P: Depot, R: Source + Send, W: Sink + Send, G: TurnGate + Sync, T: 
     ensures any { AtAnyEnd P.Store.faults_of R.left R.faults_of W.taken W.faults_of (P.faults_of depot.old) (P.faults_of depot.new)
         input result.input out result.out result.status report.old report.new }
     ensures serve { ServeRun P.Store.moment_of P.Store.left_since P.Store.told P.Store.image P.Store.faults_of
-        R.left R.faults_of W.taken W.faults_of (string_bytes told.script) (string_bytes told.folder) told.slots
+        R.left R.faults_of W.taken W.faults_of (string_bytes told.script) (string_bytes told.folder) told.slots told.journal
         (P.text_at depot.old (string_bytes told.script)) (P.slot_at depot.old (string_bytes told.folder)) (P.asked depot.old) (P.asked depot.new)
         (P.faults_of depot.old) (P.faults_of depot.new) input result.input out result.out result.status report.old report.new }
     ensures no_usage { result.status ≢ 1 }
@@ -137,7 +137,7 @@ fn serve_checked<P: Depot, R: Source + Send, W: Sink + Send, G: TurnGate + Sync,
     requires range { AreInRange (settings_in told) }
     requires empty { IsEmpty report.old }
     ensures serves { ServesTree P.Store.moment_of P.Store.left_since P.Store.told P.Store.image P.Store.faults_of
-        R.left R.faults_of W.taken W.faults_of (script_in checked.now) (string_bytes told.folder) told.slots
+        R.left R.faults_of W.taken W.faults_of (script_in checked.now) (string_bytes told.folder) told.slots told.journal
         (P.slot_at depot.old (string_bytes told.folder)) (P.asked depot.old) (P.asked depot.new)
         (P.faults_of depot.old) (P.faults_of depot.new) input result.input out result.out result.status report.old report.new }
 {

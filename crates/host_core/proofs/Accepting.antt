@@ -16,7 +16,7 @@ use Rattle.host_core.specs.Running.{HasServed, IsServing}
 use Rattle.host_core.specs.declared.objects.Objects.{Objects}
 
 module _ {D W T : Type 0} (moment_of : D → ℕ) (left_since : D → ℕ → List ℕ → Type 0) (told : D → Option (List ℕ)) (image : D → List ℕ → Type 0) (faults_of : D → ℕ)
-    (script : Script) (contents : ℕ → Option (List ℕ)) (named : Slots) (before after : Switch W) (old new : Objects D)
+    (limit : ℕ) (script : Script) (contents : ℕ → Option (List ℕ)) (named : Slots) (before after : Switch W) (old new : Objects D)
     (taken : W → Option (List ℕ)) (faults : W → ℕ) (result : Result T SwitchFault) (line : Line)
     (cores : new.cores.items ≡ old.cores.items) (outs : new.outs.items ≡ old.outs.items) (acts : ActsOn taken faults before after old new result) where
   same_got : map (λ (p : Both Message). p.got) new.outs.items ≡ map (λ (p : Both Message). p.got) old.outs.items
@@ -24,19 +24,19 @@ module _ {D W T : Type 0} (moment_of : D → ℕ) (left_since : D → ℕ → Li
 
   -- The line was accepted.
   pub accept_serves : Accepts script before after line → KeepsRun script before after → fault_of after ≡ None
-      → IsServing moment_of left_since told image faults_of script contents named before old
-      → IsServing moment_of left_since told image faults_of script contents named after new
+      → IsServing moment_of left_since told image faults_of limit script contents named before old
+      → IsServing moment_of left_since told image faults_of limit script contents named after new
   accept_serves accepts keeps goes =
-      serving_line moment_of left_since told image faults_of script contents named before after old new taken faults result cores acts
+      serving_line moment_of left_since told image faults_of limit script contents named before after old new taken faults result cores acts
       (outs_same old new outs) same_got (ap (λ (log : SwitchLog). log.routed) accepts.log) keeps goes
 
   -- It was not, or in part.
   pub accept_served : (BeginsLine script before after line ⊎ ((log_of after ≡ log_of before) × (result ≡ Err NoMemory)))
-      → IsServing moment_of left_since told image faults_of script contents named before old
-      → HasServed moment_of left_since told image faults_of script contents named after new
+      → IsServing moment_of left_since told image faults_of limit script contents named before old
+      → HasServed moment_of left_since told image faults_of limit script contents named after new
   accept_served begun = elim begun [
-    | inl begins ↦ served_line moment_of left_since told image faults_of script contents named before after old new taken faults result cores acts
+    | inl begins ↦ served_line moment_of left_since told image faults_of limit script contents named before after old new taken faults result cores acts
         (outs_same old new outs) line same_got begins
-    | inr same ↦ served_still moment_of left_since told image faults_of script contents named before after old new taken faults result cores acts
+    | inr same ↦ served_still moment_of left_since told image faults_of limit script contents named before after old new taken faults result cores acts
         (outs_same old new outs) same.0 same_got
   ]

@@ -125,10 +125,10 @@ module _ {S : Type 0} (posts : List Event) (row : SlotReport S) (served : AreSer
       found_flat p caller_of posts ∙ ap finds served.first.1
       ∙ found_more (λ (e : Event). list_any p (caller_of e)) served.got served.first.0 (called_got is)
 
-module _ {S : Type 0} (moment_of : S → ℕ) (left_since : S → ℕ → List ℕ → Type 0) (told : S → Option (List ℕ)) (faults_of : S → ℕ) (script : Script)
+module _ {S : Type 0} (moment_of : S → ℕ) (left_since : S → ℕ → List ℕ → Type 0) (told : S → Option (List ℕ)) (faults_of : S → ℕ) (limit : ℕ) (script : Script)
     (contents : ℕ → Option (List ℕ)) (named : Slots) (log : SwitchLog) (after : timeline.Switch) (rows : List (SlotReport S)) (left : List (ℕ × Caller × Waits))
     (law : AnswersAreAsked) (run : IsSwitchRun script (opened named) log after)
-    (are : AreRows moment_of left_since told faults_of script contents named log rows) (there : AreThere (length rows) log) (tell : TellAll told rows) where
+    (are : AreRows moment_of left_since told faults_of limit script contents named log rows) (there : AreThere (length rows) log) (tell : TellAll told rows) where
   -- whom the row's object replied to called it
   row_replies : (slot : ℕ) (row : SlotReport S) → slice_get rows slot ≡ Some row → (caller : Caller) → Contains (replied_in (of_slot slot log.routed)) caller
       → list_any (same_caller caller) (called_in (of_slot slot log.posts)) ≡ true
@@ -165,12 +165,12 @@ module _ {S : Type 0} (moment_of : S → ℕ) (left_since : S → ℕ → List �
       (law script named log after run replies_owed slot given.asked given.given)))
 
 -- so that each row is settled
-pub are_settled : {S : Type 0} (moment_of : S → ℕ) (left_since : S → ℕ → List ℕ → Type 0) (told : S → Option (List ℕ)) (faults_of : S → ℕ) (script : Script)
+pub are_settled : {S : Type 0} (moment_of : S → ℕ) (left_since : S → ℕ → List ℕ → Type 0) (told : S → Option (List ℕ)) (faults_of : S → ℕ) (limit : ℕ) (script : Script)
     (contents : ℕ → Option (List ℕ)) (named : Slots) (log : SwitchLog) (after : timeline.Switch) (rows : List (SlotReport S)) (left : List (ℕ × Caller × Waits))
-    → AnswersAreAsked → IsSwitchRun script (opened named) log after → AreRows moment_of left_since told faults_of script contents named log rows
-    → AreThere (length rows) log → AreSettledUnless told script contents named log left rows → AreSettled told script contents named log left rows
-are_settled moment_of left_since told faults_of script contents named log after rows left law run are there unless tell classes slot row is =
+    → AnswersAreAsked → IsSwitchRun script (opened named) log after → AreRows moment_of left_since told faults_of limit script contents named log rows
+    → AreThere (length rows) log → AreSettledUnless told limit script contents named log left rows → AreSettled told limit script contents named log left rows
+are_settled moment_of left_since told faults_of limit script contents named log after rows left law run are there unless tell classes slot row is =
     ⊎_elim
-    (λ given. absurd (all_asked moment_of left_since told faults_of script contents named log after rows left law run are there tell slot row is given))
+    (λ given. absurd (all_asked moment_of left_since told faults_of limit script contents named log after rows left law run are there tell slot row is given))
     (λ settled. settled)
     (unless slot row is (tell slot row is) (classes slot))

@@ -35,15 +35,16 @@ class_known script (Some object) = named_known script object.0 (class_named scri
 pub known_as : (script : Script) (object : Option Object) (class : Option ℕ) → class ≡ class_in script object → IsKnown script class
 known_as script object class is = subst (λ (o : Option ℕ). IsKnown script o) (sym is) (class_known script object)
 
-module _ {D : Type 0} (moment_of : D → ℕ) (left_since : D → ℕ → List ℕ → Type 0) (told : D → Option (List ℕ)) (image : D → List ℕ → Type 0) (faults_of : D → ℕ) (script : Script) where
+module _ {D : Type 0} (moment_of : D → ℕ) (left_since : D → ℕ → List ℕ → Type 0) (told : D → Option (List ℕ)) (image : D → List ℕ → Type 0) (faults_of : D → ℕ)
+    (limit : ℕ) (script : Script) where
   pub has_begun : (content : Option (List ℕ)) (object : Option Object) (mounted : Mounted D) (front : Half Evaluated) (back : Back D) (core : Core D)
-      → IsMountedAt moment_of left_since told image content object mounted → IsFresh mounted back
+      → IsMountedAt moment_of left_since told image limit content object mounted → IsFresh mounted back
       → ((disk : D) (is : IsMountOf told image moment_of left_since disk mounted)
       → IsBack moment_of left_since told image faults_of (batches_in is.frames) (next_count (moment_of disk)) back)
       → AreFresh script front back
       → ((start : List (List Op)) (opening : ℕ) → IsBack moment_of left_since told image faults_of start opening back → AreFresh script front back
       → IsOne moment_of left_since told image faults_of script (mounted_at start opening back) core)
-      → core.inbox ≡ unused → core.out ≡ unused → HasBegun moment_of left_since told image faults_of script content object core
+      → core.inbox ≡ unused → core.out ≡ unused → HasBegun moment_of left_since told image faults_of limit script content object core
   has_begun content object mounted front back core at fresh known are makes inbox out = record {
     origin = mounted_at (batches_in at.mount.frames) (next_count (moment_of at.disk)) back;
     begun = record {
@@ -54,6 +55,7 @@ module _ {D : Type 0} (moment_of : D → ℕ) (left_since : D → ℕ → List �
       opening = ap next_count at.first;
       object = fresh.identity ∙ at.object;
       left = refl;
+      limited = fresh.limit ∙ at.limited;
     };
     one = makes (batches_in at.mount.frames) (next_count (moment_of at.disk)) (known at.disk at.mount) are;
     inbox = inbox;

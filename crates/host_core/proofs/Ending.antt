@@ -14,19 +14,19 @@ use Rattle.mailbox.specs.declared.switch.Switch.{Switch}
 use Rattle.host_core.proofs.Routings.{all_stand}
 use Rattle.host_core.specs.Ends.{line_stop, switch_stop, most_waiting}
 use Rattle.host_core.specs.Running.{HasServed, IsServing, Prints, PrintsUntil}
-use Rattle.host_core.specs.Running.IsRunSoFar.{whole}
+use Rattle.mailbox.specs.SoFar.IsRunSoFar.{whole}
 use Rattle.host_core.specs.declared.objects.Objects.{Objects}
 use Rattle.host_core.specs.declared.serving.Stop.{Stop}
 use Rattle.host_core.specs.declared.serving.Stop.TheVariants as stops
 
 -- A run that serves may end.
 pub serves_served : {D W : Type 0} (moment_of : D → ℕ) (left_since : D → ℕ → List ℕ → Type 0) (told : D → Option (List ℕ)) (image : D → List ℕ → Type 0) (faults_of : D → ℕ)
-    (script : Script) (contents : ℕ → Option (List ℕ)) (named : Slots) (switch : Switch W) (objects : Objects D)
-    → IsServing moment_of left_since told image faults_of script contents named switch objects
-    → HasServed moment_of left_since told image faults_of script contents named switch objects
-serves_served moment_of left_since told image faults_of script contents named switch objects serving = record {
+    (limit : ℕ) (script : Script) (contents : ℕ → Option (List ℕ)) (named : Slots) (switch : Switch W) (objects : Objects D)
+    → IsServing moment_of left_since told image faults_of limit script contents named switch objects
+    → HasServed moment_of left_since told image faults_of limit script contents named switch objects
+serves_served moment_of left_since told image faults_of limit script contents named switch objects serving = record {
   run = whole (state_of switch) serving.run;
-  slots = all_stand moment_of left_since told image faults_of script contents named (log_of switch) objects serving.slots;
+  slots = all_stand moment_of left_since told image faults_of limit script contents named (log_of switch) objects serving.slots;
   there = serving.there;
 }
 

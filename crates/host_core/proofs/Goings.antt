@@ -31,12 +31,12 @@ on_err_by (Ok x) holds = tt
 on_err_by (Err e) holds = holds
 
 module _ {D : Type 0} (moment_of : D → ℕ) (left_since : D → ℕ → List ℕ → Type 0) (told : D → Option (List ℕ)) (image : D → List ℕ → Type 0) (faults_of : D → ℕ)
-    (script : Script) (content : Option (List ℕ)) (named : Option Object) (posts : List Event) (routed : List Message) where
+    (limit : ℕ) (script : Script) (content : Option (List ℕ)) (named : Option Object) (posts : List Event) (routed : List Message) where
   abbrev Goes : Core D → Both Event → Both Message → Type 0
-  Goes = IsGoing moment_of left_since told image faults_of script content named posts routed
+  Goes = IsGoing moment_of left_since told image faults_of limit script content named posts routed
 
   abbrev Stands : Core D → Both Event → Both Message → Type 0
-  Stands = IsSlot moment_of left_since told image faults_of script content named posts routed
+  Stands = IsSlot moment_of left_since told image faults_of limit script content named posts routed
 
   abbrev Keeps : Core D → Core D → Type 0
   Keeps = KeepsOne moment_of left_since told image faults_of script

@@ -68,11 +68,11 @@ module _ {S : Type 0} (posts : List Event) (row : SlotReport S) (served : AreSer
       (subst (λ (es : List Event). IsPartOf served.got es) (sym served.first.1) (part_before served.got served.first.0)))
 
 -- so they are some of those that left, in their order
-pub come_in_order : {S : Type 0} (moment_of : S → ℕ) (left_since : S → ℕ → List ℕ → Type 0) (told : S → Option (List ℕ)) (faults_of : S → ℕ) (script : Script)
+pub come_in_order : {S : Type 0} (moment_of : S → ℕ) (left_since : S → ℕ → List ℕ → Type 0) (told : S → Option (List ℕ)) (faults_of : S → ℕ) (limit : ℕ) (script : Script)
     (contents : ℕ → Option (List ℕ)) (named : Slots) (log : SwitchLog) (after : timeline.Switch) (rows : List (SlotReport S))
-    → CallsComeInOrder → IsSwitchRun script (opened named) log after → AreRows moment_of left_since told faults_of script contents named log rows
+    → CallsComeInOrder → IsSwitchRun script (opened named) log after → AreRows moment_of left_since told faults_of limit script contents named log rows
     → AreCallsInOrder after rows
-come_in_order moment_of left_since told faults_of script contents named log after rows law run are slot other from to object is_from is_to is_object =
+come_in_order moment_of left_since told faults_of limit script contents named log after rows law run are slot other from to object is_from is_to is_object =
     let sends = are slot from is_from in
     let gets = are other to is_to in
     part_trans (calls_of slot (called_in (events to.front.delivered.items))) (calls_of slot (called_in (of_slot other log.posts)))

@@ -18,6 +18,9 @@ pub mod Remaining
 pub mod Rows
 pub mod Answered
 pub mod InOrder
+pub mod Dropped
 pub mod Reading
 pub mod Ending
+pub mod Complete
+pub mod Once
 pub mod Reporting

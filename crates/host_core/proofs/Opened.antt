@@ -7,7 +7,7 @@ use Rattle.std.proofs.lemmas.List.FromFn.{map-range_with_len_more, take-map-rang
 use Rattle.batch_journal.specs.Moments.{LeavesOnly}
 use Rattle.batch_journal.specs.Mounting.{ImageOrHeader, IsMountOf}
 use Rattle.batch_journal.specs.Reading.{IsObjectOf}
-use Rattle.batch_journal.specs.Rest.{IsStaged, disk_in}
+use Rattle.batch_journal.specs.Rest.{IsStaged, disk_in, limit_of}
 use Rattle.batch_journal.specs.declared.mount.Mounted.{Mounted}
 use Rattle.do_disk.specs.Asks.{Ask, for_slot}
 use Rattle.do_tree.specs.Tree.{Script}
@@ -60,10 +60,11 @@ asks_on folder slot slots before middle after less so_far asks =
       first = (asks.first.0 ++ rest, first);
     }
 
-module _ {D : Type 0} (moment_of : D → ℕ) (left_since : D → ℕ → List ℕ → Type 0) (told : D → Option (List ℕ)) (image : D → List ℕ → Type 0) (faults_of : D → ℕ) (script : Script) where
+module _ {D : Type 0} (moment_of : D → ℕ) (left_since : D → ℕ → List ℕ → Type 0) (told : D → Option (List ℕ)) (image : D → List ℕ → Type 0) (faults_of : D → ℕ)
+    (limit : ℕ) (script : Script) where
   -- an object that was just begun goes on
-  begun_goes : (content : Option (List ℕ)) (named : Option Object) (core : Core D) → HasBegun moment_of left_since told image faults_of script content named core
-      → IsGoing moment_of left_since told image faults_of script content named [] [] core unused unused
+  begun_goes : (content : Option (List ℕ)) (named : Option Object) (core : Core D) → HasBegun moment_of left_since told image faults_of limit script content named core
+      → IsGoing moment_of left_since told image faults_of limit script content named [] [] core unused unused
   begun_goes content named core begun = record {
     origin = begun.origin;
     begun = begun.begun;
@@ -77,9 +78,9 @@ module _ {D : Type 0} (moment_of : D → ℕ) (left_since : D → ℕ → List �
   -- the objects with that of one slot more
   pub going_more : (contents : ℕ → Option (List ℕ)) (named after : Slots) (old new : Objects D) (slot : ℕ) (core : Core D) → length old.cores.items ≡ slot
       → new.cores.items ≡ old.cores.items ++ core ∷ [] → new.inboxes.items ≡ old.inboxes.items ++ unused ∷ [] → new.outs.items ≡ old.outs.items ++ unused ∷ []
-      → OnlyAt slot named after → HasBegun moment_of left_since told image faults_of script (contents slot) (object_at after slot) core
-      → AreGoing moment_of left_since told image faults_of script contents named no_log old
-      → AreGoing moment_of left_since told image faults_of script contents after no_log new
+      → OnlyAt slot named after → HasBegun moment_of left_since told image faults_of limit script (contents slot) (object_at after slot) core
+      → AreGoing moment_of left_since told image faults_of limit script contents named no_log old
+      → AreGoing moment_of left_since told image faults_of limit script contents after no_log new
   going_more contents named after old new slot core many cores inboxes outs only begun going = record {
     inboxes = omega (arith, ap length cores, ap length inboxes, length-append old.cores.items (core ∷ []), length-append old.inboxes.items (unused {X = Event} ∷ []), going.inboxes);
     outs = omega (arith, ap length cores, ap length outs, length-append old.cores.items (core ∷ []), length-append old.outs.items (unused {X = Message} ∷ []), going.outs);
@@ -90,31 +91,31 @@ module _ {D : Type 0} (moment_of : D → ℕ) (left_since : D → ℕ → List �
         ⊎_elim
         (λ less.
         let other : at ≢ slot = λ same. omega (arith, same, less, many) in
-        subst (λ (object : Option Object). IsGoing moment_of left_since told image faults_of script (contents at) object [] [] that inbox out) (sym (only.others at other))
+        subst (λ (object : Option Object). IsGoing moment_of left_since told image faults_of limit script (contents at) object [] [] that inbox out) (sym (only.others at other))
         (going.each at that inbox out (push_before old.cores.items core that at less core_at)
         (push_before old.inboxes.items unused inbox at (omega (arith, less, going.inboxes)) inbox_at)
         (push_before old.outs.items unused out at (omega (arith, less, going.outs)) out_at)))
         (λ more.
         let last : length old.cores.items ≡ at = omega (arith, more, push_within old.cores.items core that at core_at) in
         let here : slot ≡ at = sym many ∙ last in
-        subst (λ (n : ℕ). IsGoing moment_of left_since told image faults_of script (contents n) (object_at after n) [] [] that inbox out) here
-        (subst (λ (x : Core D). IsGoing moment_of left_since told image faults_of script (contents slot) (object_at after slot) [] [] x inbox out)
+        subst (λ (n : ℕ). IsGoing moment_of left_since told image faults_of limit script (contents n) (object_at after n) [] [] that inbox out) here
+        (subst (λ (x : Core D). IsGoing moment_of left_since told image faults_of limit script (contents slot) (object_at after slot) [] [] x inbox out)
         (push_last old.cores.items core that at last core_at)
-        (subst (λ (x : Both Event). IsGoing moment_of left_since told image faults_of script (contents slot) (object_at after slot) [] [] core x out)
+        (subst (λ (x : Both Event). IsGoing moment_of left_since told image faults_of limit script (contents slot) (object_at after slot) [] [] core x out)
         (push_last old.inboxes.items unused inbox at (going.inboxes ∙ last) inbox_at)
-        (subst (λ (x : Both Message). IsGoing moment_of left_since told image faults_of script (contents slot) (object_at after slot) [] [] core unused x)
+        (subst (λ (x : Both Message). IsGoing moment_of left_since told image faults_of limit script (contents slot) (object_at after slot) [] [] core unused x)
         (push_last old.outs.items unused out at (going.outs ∙ last) out_at) (begun_goes (contents slot) (object_at after slot) core begun)))))
         (cases_lt at (length old.cores.items));
   }
 
 -- what was mounted and kept its object
 mounted_at : {D : Type 0} (told : D → Option (List ℕ)) (image : D → List ℕ → Type 0) (moment_of : D → ℕ) (left_since : D → ℕ → List ℕ → Type 0)
-    (disk : D) (mounted adopted : Mounted D) (content : Option (List ℕ)) (named : Option Object) → moment_of disk ≡ 0 → told disk ≡ content → adopted ≡ mounted → named ≡ mounted.identity
-    → IsMountOf told image moment_of left_since disk mounted → ((any : Object) → IsStaged mounted.journal any [])
-    → IsMountedAt moment_of left_since told image content named adopted
-mounted_at {D} told image moment_of left_since disk mounted adopted content named first content_is same named_is mount staged =
-    subst (λ (m : Mounted D). IsMountedAt moment_of left_since told image content named m) (sym same)
-    (record { disk = disk; first = first; content_is = content_is; mount = mount; object = sym named_is; staged = staged })
+    (disk : D) (mounted adopted : Mounted D) (limit : ℕ) (content : Option (List ℕ)) (named : Option Object) → moment_of disk ≡ 0 → told disk ≡ content → adopted ≡ mounted
+    → named ≡ mounted.identity → IsMountOf told image moment_of left_since disk mounted → ((any : Object) → IsStaged mounted.journal any []) → limit_of mounted.journal ≡ limit
+    → IsMountedAt moment_of left_since told image limit content named adopted
+mounted_at {D} told image moment_of left_since disk mounted adopted limit content named first content_is same named_is mount staged limited =
+    subst (λ (m : Mounted D). IsMountedAt moment_of left_since told image limit content named m) (sym same)
+    (record { disk = disk; first = first; content_is = content_is; mount = mount; object = sym named_is; staged = staged; limited = limited })
 
 -- why a slot isn't given its object, as a bad slot
 module _ {S : Type 0} (told : S → Option (List ℕ)) (image : S → List ℕ → Type 0) (moment_of : S → ℕ) (left_since : S → ℕ → List ℕ → Type 0)
@@ -170,10 +171,10 @@ stopped_adopting told image moment_of left_since faults_of disk mounted (Err end
 
 -- the answer is what was mounted
 pub was_mounted : {D : Type 0} (told : D → Option (List ℕ)) (image : D → List ℕ → Type 0) (moment_of : D → ℕ) (left_since : D → ℕ → List ℕ → Type 0)
-    (disk : D) (mounted : Mounted D) (result : Result (Mounted D) OpenEnd) (content : Option (List ℕ)) (named : Option Object) → moment_of disk ≡ 0 → told disk ≡ content
+    (disk : D) (mounted : Mounted D) (result : Result (Mounted D) OpenEnd) (limit : ℕ) (content : Option (List ℕ)) (named : Option Object) → moment_of disk ≡ 0 → told disk ≡ content
     → IfOk result (λ adopted. adopted ≡ mounted) → OnOk result (named ≡ mounted.identity)
-    → IsMountOf told image moment_of left_since disk mounted → ((any : Object) → IsStaged mounted.journal any [])
-    → IfOk result (IsMountedAt moment_of left_since told image content named)
-was_mounted told image moment_of left_since disk mounted (Ok adopted) content named first content_is same named_is mount staged =
-    mounted_at told image moment_of left_since disk mounted adopted content named first content_is same named_is mount staged
-was_mounted told image moment_of left_since disk mounted (Err end) content named first content_is same named_is mount staged = tt
+    → IsMountOf told image moment_of left_since disk mounted → ((any : Object) → IsStaged mounted.journal any []) → limit_of mounted.journal ≡ limit
+    → IfOk result (IsMountedAt moment_of left_since told image limit content named)
+was_mounted told image moment_of left_since disk mounted (Ok adopted) limit content named first content_is same named_is mount staged limited =
+    mounted_at told image moment_of left_since disk mounted adopted limit content named first content_is same named_is mount staged limited
+was_mounted told image moment_of left_since disk mounted (Err end) limit content named first content_is same named_is mount staged limited = tt

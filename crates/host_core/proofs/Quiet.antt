@@ -28,10 +28,10 @@ nothing_to_do script core settled = record {
 
 -- all that an object released was routed, where it rests and nothing of it waits
 pub all_routed : {D : Type 0} (moment_of : D → ℕ) (left_since : D → ℕ → List ℕ → Type 0) (told : D → Option (List ℕ)) (image : D → List ℕ → Type 0) (faults_of : D → ℕ)
-    (core : Core D) (script : Script) (content : Option (List ℕ)) (named : Option Object) (posts : List Event) (routed : List Message) (inbox : Both Event) (out : Both Message)
-    → IsGoing moment_of left_since told image faults_of script content named posts routed core inbox out → IsResting script core inbox → out.waiting ≡ []
+    (core : Core D) (limit : ℕ) (script : Script) (content : Option (List ℕ)) (named : Option Object) (posts : List Event) (routed : List Message) (inbox : Both Event) (out : Both Message)
+    → IsGoing moment_of left_since told image faults_of limit script content named posts routed core inbox out → IsResting script core inbox → out.waiting ≡ []
     → sent_on core.out ≡ routed
-all_routed moment_of left_since told image faults_of core script content named posts routed inbox out going rests none =
+all_routed moment_of left_since told image faults_of core limit script content named posts routed inbox out going rests none =
     ap (λ (ms : List Message). core.out.got ++ ms) rests.let_go ∙ append-nil core.out.got ∙ going.hands
     ∙ ap (λ (ms : List Message). out.got ++ ms) none ∙ append-nil out.got ∙ going.routed_first
 
@@ -39,8 +39,8 @@ module _ {D : Type 0} (moment_of : D → ℕ) (left_since : D → ℕ → List �
     (core : Core D) (row : SlotReport D) (store_is : IsDiskOf core.back.store row.store)
     (front_is : fronted row.front ≡ fronted core.front.half.log) (back_is : backed row.back ≡ backed core.back.log)
     (lets_go : OneHasLetGo moment_of left_since told image faults_of core) where
-  module _ (script : Script) (content : Option (List ℕ)) (named : Option Object) (posts : List Event) (routed : List Message) (inbox : Both Event) (out : Both Message)
-      (going : IsGoing moment_of left_since told image faults_of script content named posts routed core inbox out) (rests : IsResting script core inbox)
+  module _ (limit : ℕ) (script : Script) (content : Option (List ℕ)) (named : Option Object) (posts : List Event) (routed : List Message) (inbox : Both Event) (out : Both Message)
+      (going : IsGoing moment_of left_since told image faults_of limit script content named posts routed core inbox out) (rests : IsResting script core inbox)
       (none : out.waiting ≡ []) where
     core_lets_go : IsTold (told row.store) → HasItsClass script named → HasLetGo (fronted core.front.half.log) (backed core.back.log) (sent_on core.out)
     core_lets_go is_told has =
@@ -52,8 +52,8 @@ module _ {D : Type 0} (moment_of : D → ℕ) (left_since : D → ℕ → List �
         subst (λ (log : Backed). HasLetGo (fronted row.front) log routed) (sym back_is)
         (subst (λ (log : Fronted). HasLetGo log (backed core.back.log) routed) (sym front_is)
         (subst (λ (ms : List Message). HasLetGo (fronted core.front.half.log) (backed core.back.log) ms)
-        (all_routed moment_of left_since told image faults_of core script content named posts routed inbox out going rests none) (core_lets_go is_told has)))
+        (all_routed moment_of left_since told image faults_of core limit script content named posts routed inbox out going rests none) (core_lets_go is_told has)))
 
   pub is_let_go_of : IsLetGoOf moment_of left_since told image faults_of core row
-  is_let_go_of script content named posts routed inbox out going rests none =
-      record { each = row_lets_go script content named posts routed inbox out going rests none }
+  is_let_go_of limit script content named posts routed inbox out going rests none =
+      record { each = row_lets_go limit script content named posts routed inbox out going rests none }

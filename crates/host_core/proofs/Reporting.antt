@@ -26,16 +26,26 @@ use Rattle.timeline.specs.declared.caller.Caller.{Caller}
 use Rattle.timeline.specs.declared.event.Event.{Event}
 use Rattle.timeline.specs.declared.message.Message.{Message}
 use Rattle.timeline.specs.declared.notice.Waits.{Waits}
+use Rattle.object_core.specs.Drops.{DropsOnly}
+use Rattle.switch_history.specs.Laws.{PostsFit}
+use Rattle.switch_history.specs.Moments.{MomentsAreInRange}
+use Rattle.timeline.specs.Logs.{fronted}
+use Rattle.host_core.proofs.Dropped.{are_drops_only}
 use Rattle.host_core.specs.Ends.{is_late, is_served, most_waiting, opening_end, serving_end}
 use Rattle.host_core.specs.Finishing.{Finishes}
 use Rattle.host_core.specs.Objects.{AreGoing, AreThere}
 use Rattle.host_core.specs.Opening.{IsBad}
-use Rattle.host_core.specs.Quiet.{AreCallsInOrder, AreLeftIn, AreLetGo, AreSettled, IsLetGo, IsSettled, remaining_of}
+use Rattle.host_core.specs.Dropped.{AreDropsOnly}
+use Rattle.host_core.specs.Quiet.{AreCallsAnswered, AreCallsInOrder, AreLeftIn, AreLetGo, AreSettled, DropNoCalls, HaveClasses, IsLetGo, IsSettled, TellAll, remaining_of}
+use Rattle.host_core.proofs.Once.{no_calls_dropped}
 use Rattle.host_core.specs.Reading.{Accepts, AcceptsAll, AcceptsAllRead}
 use Rattle.host_core.specs.Report.{IsFinished, IsReport, PrintsLines, is_opening_end, most_unaccepted}
 use Rattle.host_core.specs.Rows.{AreRows, IsRow}
-use Rattle.host_core.specs.Running.{HasServed, IsRunSoFar, IsServing, PrintsUntil}
-use Rattle.host_core.specs.Running.IsRunSoFar.{at_end, whole}
+use Rattle.switch_history.specs.Ends.{EndsAreRouted}
+use Rattle.host_core.proofs.Complete.{are_unended, unended_none}
+use Rattle.host_core.specs.Running.{HasServed, IsServing, PrintsUntil}
+use Rattle.mailbox.specs.SoFar.{IsRunSoFar}
+use Rattle.mailbox.specs.SoFar.IsRunSoFar.{at_end, whole}
 use Rattle.host_core.specs.declared.opening.OpenEnd.{OpenEnd}
 use Rattle.host_core.specs.declared.opening.OpenEnd.TheVariants as opening
 use Rattle.host_core.specs.declared.objects.Objects.{Objects}
@@ -136,12 +146,12 @@ same_log log later same = record {
 }
 
 -- Rows that fit the one fit the other.
-pub rows_same : {S : Type 0} (moment_of : S → ℕ) (left_since : S → ℕ → List ℕ → Type 0) (told : S → Option (List ℕ)) (faults_of : S → ℕ) (script : Script)
+pub rows_same : {S : Type 0} (moment_of : S → ℕ) (left_since : S → ℕ → List ℕ → Type 0) (told : S → Option (List ℕ)) (faults_of : S → ℕ) (limit : ℕ) (script : Script)
     (contents : ℕ → Option (List ℕ)) (named : Slots) (log later : SwitchLog) (rows : List (SlotReport S)) → SamePosts log later
-    → AreRows moment_of left_since told faults_of script contents named log rows → AreRows moment_of left_since told faults_of script contents named later rows
-rows_same moment_of left_since told faults_of script contents named log later rows same are slot row is =
-    subst (λ (routed : List (ℕ × Message)). IsRow moment_of left_since told faults_of script (contents slot) (object_at named slot) (of_slot slot later.posts) (of_slot slot routed) row) (sym same.routed)
-    (subst (λ (posts : List (ℕ × Event)). IsRow moment_of left_since told faults_of script (contents slot) (object_at named slot) (of_slot slot posts) (of_slot slot log.routed) row) (sym same.posts)
+    → AreRows moment_of left_since told faults_of limit script contents named log rows → AreRows moment_of left_since told faults_of limit script contents named later rows
+rows_same moment_of left_since told faults_of limit script contents named log later rows same are slot row is =
+    subst (λ (routed : List (ℕ × Message)). IsRow moment_of left_since told faults_of limit script (contents slot) (object_at named slot) (of_slot slot later.posts) (of_slot slot routed) row) (sym same.routed)
+    (subst (λ (posts : List (ℕ × Event)). IsRow moment_of left_since told faults_of limit script (contents slot) (object_at named slot) (of_slot slot posts) (of_slot slot log.routed) row) (sym same.posts)
     (are slot row is))
 
 -- What is let go goes by the routed messages alone.
@@ -151,12 +161,12 @@ let_go_same told script named log later rows same are slot row is =
     subst (λ (routed : List (ℕ × Message)). IsLetGo told script (object_at named slot) (of_slot slot routed) row) (sym same.routed) (are slot row is)
 
 -- So does what is settled by the posts and the routed messages.
-pub settled_same : {S : Type 0} (told : S → Option (List ℕ)) (script : Script) (contents : ℕ → Option (List ℕ)) (named : Slots) (log later : SwitchLog)
+pub settled_same : {S : Type 0} (told : S → Option (List ℕ)) (limit : ℕ) (script : Script) (contents : ℕ → Option (List ℕ)) (named : Slots) (log later : SwitchLog)
     (left : List (ℕ × Caller × Waits)) (rows : List (SlotReport S)) → SamePosts log later
-    → AreSettled told script contents named log left rows → AreSettled told script contents named later left rows
-settled_same told script contents named log later left rows same are tell classes slot row is =
-    subst (λ (routed : List (ℕ × Message)). IsSettled script (contents slot) (object_at named slot) (of_slot slot later.posts) (of_slot slot routed) (remaining_of slot left) row) (sym same.routed)
-    (subst (λ (posts : List (ℕ × Event)). IsSettled script (contents slot) (object_at named slot) (of_slot slot posts) (of_slot slot log.routed) (remaining_of slot left) row) (sym same.posts)
+    → AreSettled told limit script contents named log left rows → AreSettled told limit script contents named later left rows
+settled_same told limit script contents named log later left rows same are tell classes slot row is =
+    subst (λ (routed : List (ℕ × Message)). IsSettled limit script (contents slot) (object_at named slot) (of_slot slot later.posts) (of_slot slot routed) (remaining_of slot left) row) (sym same.routed)
+    (subst (λ (posts : List (ℕ × Event)). IsSettled limit script (contents slot) (object_at named slot) (of_slot slot posts) (of_slot slot log.routed) (remaining_of slot left) row) (sym same.posts)
     (are tell classes slot row is))
 
 pub there_same : (slots : ℕ) (log later : SwitchLog) → SamePosts log later → AreThere slots log → AreThere slots later
@@ -166,14 +176,14 @@ there_same slots log later same there = subst (λ (routed : List (ℕ × Message
 
 -- A switch that was just made, over objects of which nothing is logged, serves.
 pub serves_first : {D W : Type 0} (moment_of : D → ℕ) (left_since : D → ℕ → List ℕ → Type 0) (told : D → Option (List ℕ)) (image : D → List ℕ → Type 0) (faults_of : D → ℕ)
-    (script : Script) (contents : ℕ → Option (List ℕ)) (named : Slots) (switch : Switch W) (objects : Objects D)
+    (limit : ℕ) (script : Script) (contents : ℕ → Option (List ℕ)) (named : Slots) (switch : Switch W) (objects : Objects D)
     → state_of switch ≡ opened named → log_of switch ≡ no_log → fault_of switch ≡ None → length named ≡ length objects.cores.items
-    → AreGoing moment_of left_since told image faults_of script contents named no_log objects
-    → IsServing moment_of left_since told image faults_of script contents named switch objects
-serves_first moment_of left_since told image faults_of script contents named switch objects state log goes many going = record {
+    → AreGoing moment_of left_since told image faults_of limit script contents named no_log objects
+    → IsServing moment_of left_since told image faults_of limit script contents named switch objects
+serves_first moment_of left_since told image faults_of limit script contents named switch objects state log goes many going = record {
   run = subst (λ (s : timeline.Switch). IsSwitchRun script (opened named) (log_of switch) s) (sym state)
       (subst (λ (l : SwitchLog). IsSwitchRun script (opened named) l (opened named)) (sym log) begins);
-  slots = subst (λ (l : SwitchLog). AreGoing moment_of left_since told image faults_of script contents named l objects) (sym log) going;
+  slots = subst (λ (l : SwitchLog). AreGoing moment_of left_since told image faults_of limit script contents named l objects) (sym log) going;
   there = subst (λ (l : SwitchLog). AreThere (length objects.cores.items) l) (sym log) (All-nil (λ (sent : ℕ × Message). sent.0 < length objects.cores.items));
   many = ap (λ (s : timeline.Switch). length s.objects) state ∙ many;
   goes = goes;
@@ -275,48 +285,63 @@ module _ {W : Type 0} (taken : W → Option (List ℕ)) (faults : W → ℕ) (ol
         (λ other. ap (λ (s : Switch W). faults (out_of s)) (ended.stops other).1 ∙ until.steady (λ failed. unwritten ((ended.stops other).0 ∙ ap so_ends failed)))
 
   module _ {D : Type 0} (moment_of : D → ℕ) (left_since : D → ℕ → List ℕ → Type 0) (told : D → Option (List ℕ)) (image : D → List ℕ → Type 0) (faults_of : D → ℕ)
-      (script : Script) (contents : ℕ → Option (List ℕ)) (named : Slots) (objects : Objects D) (report : Report D) where
-    pub reports : HasServed moment_of left_since told image faults_of script contents named mid objects
-        → (is_served (so_ends served) ≡ true → IsServing moment_of left_since told image faults_of script contents named mid objects)
+      (limit : ℕ) (script : Script) (contents : ℕ → Option (List ℕ)) (named : Slots) (objects : Objects D) (report : Report D) where
+    pub reports : HasServed moment_of left_since told image faults_of limit script contents named mid objects
+        → (is_served (so_ends served) ≡ true → IsServing moment_of left_since told image faults_of limit script contents named mid objects)
         → (is_served (so_ends served) ≡ true → AreLetGo told script named (log_of mid) report.slots.items)
-        → (is_served (so_ends served) ≡ true → is_served end ≡ true → AreSettled told script contents named (log_of mid) left report.slots.items)
+        → (is_served (so_ends served) ≡ true → is_served end ≡ true → AreSettled told limit script contents named (log_of mid) left report.slots.items)
         → (is_served (so_ends served) ≡ true → is_served end ≡ true → AreLeftIn (length report.slots.items) left)
         → (is_served (so_ends served) ≡ true → AreCallsInOrder (state_of mid) report.slots.items)
+        → (is_served (so_ends served) ≡ true → is_served end ≡ true
+        → (TellAll told report.slots.items → HaveClasses script named → DropNoCalls report.slots.items)
+        → AreCallsAnswered told script named (log_of mid) (state_of mid) left report.slots.items)
         → seen_log report.switch ≡ log_of new
-        → AreRows moment_of left_since told faults_of script contents named (log_of mid) report.slots.items
-        → length report.slots.items ≡ length objects.cores.items → length named ≡ length objects.cores.items → IsOneEach named → is_late end
-        → IsReport moment_of left_since told faults_of script contents (length named) end report
-    reports has serving quiet settled left_in calls log rows count many one_each late = record {
-      named = named;
-      many = refl;
-      one_each = one_each;
-      rows = subst (λ (l : SwitchLog). AreRows moment_of left_since told faults_of script contents named l report.slots.items) (sym log)
-          (rows_same moment_of left_since told faults_of script contents named (log_of mid) (log_of new) report.slots.items same_posts rows);
-      within = omega (arith, count, many);
-      run = subst (λ (l : SwitchLog). IsRunSoFar script (opened named) l) (sym log) (decided (is_served (so_ends served)) (IsRunSoFar script (opened named) (log_of new))
-          (λ sure. at_end (log_of mid) (state_of mid) left (serving sure).run (ended.finishes sure).begun)
-          (λ other. subst (λ (s : Switch W). IsRunSoFar script (opened named) (log_of s)) (sym (ended.stops other).1) has.run));
-      there = subst (λ (l : SwitchLog). AreThere (length report.slots.items) l) (sym log)
-          (subst (λ (n : ℕ). AreThere n (log_of new)) (sym count) (there_same (length objects.cores.items) (log_of mid) (log_of new) same_posts has.there));
-      finished = λ is. decided (is_served (so_ends served)) (IsFinished told script contents named (seen_log report.switch) report.slots.items)
-          (λ sure. record {
-            before = log_of mid;
-            after = state_of mid;
-            run = (serving sure).run;
-            left = left;
-            finished = log ∙ ((ended.finishes sure).whole is).1;
-            settled = subst (λ (l : SwitchLog). AreSettled told script contents named l left report.slots.items) (sym log)
-                (settled_same told script contents named (log_of mid) (log_of new) left report.slots.items same_posts (settled sure is));
-            left_in = left_in sure is;
-            calls = calls sure;
-          })
-          (λ other. absurd (true_is_not (sym is ∙ ap is_served (ended.stops other).0 ∙ other)));
-      quiet = λ is. decided (is_served (so_ends served)) (AreLetGo told script named (seen_log report.switch) report.slots.items)
-          (λ sure. subst (λ (l : SwitchLog). AreLetGo told script named l report.slots.items) (sym log)
-          (let_go_same told script named (log_of mid) (log_of new) report.slots.items same_posts (quiet sure)))
-          (λ other. absurd (true_is_not (sym is ∙ ap is_served (ended.stops other).0 ∙ other)));
-      bad = λ bad is. absurd (not_bad bad (subst is_late is late));
-    }
+        → AreRows moment_of left_since told faults_of limit script contents named (log_of mid) report.slots.items
+        → length report.slots.items ≡ length objects.cores.items → length named ≡ length objects.cores.items → IsOneEach named → is_late end → EndsAreRouted
+        → PostsFit → MomentsAreInRange → IsReport moment_of left_since told faults_of limit script contents (length named) end report
+    reports has serving quiet settled left_in calls answered log rows count many one_each late ends_routed fit moments =
+        let are : AreRows moment_of left_since told faults_of limit script contents named (seen_log report.switch) report.slots.items =
+        subst (λ (l : SwitchLog). AreRows moment_of left_since told faults_of limit script contents named l report.slots.items) (sym log)
+        (rows_same moment_of left_since told faults_of limit script contents named (log_of mid) (log_of new) report.slots.items same_posts rows) in
+        let so_far : IsRunSoFar script (opened named) (seen_log report.switch) =
+        subst (λ (l : SwitchLog). IsRunSoFar script (opened named) l) (sym log) (decided (is_served (so_ends served)) (IsRunSoFar script (opened named) (log_of new))
+        (λ sure. at_end (log_of mid) (state_of mid) left (serving sure).run (ended.finishes sure).begun)
+        (λ other. subst (λ (s : Switch W). IsRunSoFar script (opened named) (log_of s)) (sym (ended.stops other).1) has.run)) in
+        let in_rows : AreThere (length report.slots.items) (seen_log report.switch) =
+        subst (λ (l : SwitchLog). AreThere (length report.slots.items) l) (sym log)
+        (subst (λ (n : ℕ). AreThere n (log_of new)) (sym count) (there_same (length objects.cores.items) (log_of mid) (log_of new) same_posts has.there)) in
+        let dropped : AreDropsOnly told script named (seen_log report.switch) report.slots.items =
+        are_drops_only moment_of left_since told faults_of limit script contents named report.switch report.slots.items fit moments so_far are in
+        record {
+          named = named;
+          many = refl;
+          one_each = one_each;
+          rows = are;
+          within = omega (arith, count, many);
+          run = so_far;
+          there = in_rows;
+          drops = dropped;
+          unended = are_unended moment_of left_since told faults_of limit ends_routed script contents named (seen_log report.switch) report.slots.items are so_far in_rows;
+          finished = λ is. decided (is_served (so_ends served)) (IsFinished told limit script contents named (seen_log report.switch) report.slots.items)
+              (λ sure. record {
+                before = log_of mid;
+                after = state_of mid;
+                run = (serving sure).run;
+                left = left;
+                finished = log ∙ ((ended.finishes sure).whole is).1;
+                settled = subst (λ (l : SwitchLog). AreSettled told limit script contents named l left report.slots.items) (sym log)
+                    (settled_same told limit script contents named (log_of mid) (log_of new) left report.slots.items same_posts (settled sure is));
+                left_in = left_in sure is;
+                calls = calls sure;
+                once = answered sure is (λ tells classes. no_calls_dropped told script named (seen_log report.switch) report.slots.items dropped tells classes);
+              })
+              (λ other. absurd (true_is_not (sym is ∙ ap is_served (ended.stops other).0 ∙ other)));
+          quiet = λ is. decided (is_served (so_ends served)) (AreLetGo told script named (seen_log report.switch) report.slots.items)
+              (λ sure. subst (λ (l : SwitchLog). AreLetGo told script named l report.slots.items) (sym log)
+              (let_go_same told script named (log_of mid) (log_of new) report.slots.items same_posts (quiet sure)))
+              (λ other. absurd (true_is_not (sym is ∙ ap is_served (ended.stops other).0 ∙ other)));
+          bad = λ bad is. absurd (not_bad bad (subst is_late is late));
+        }
 
 -- ---- a run that ends before it serves
 
@@ -367,10 +392,10 @@ nothing_named (suc slots) zero object is = cc
 nothing_named (suc slots) (suc a) object is = nothing_named slots a object is
 
 -- No slot was mounted, for want of memory.
-pub reports_none : {S : Type 0} (moment_of : S → ℕ) (left_since : S → ℕ → List ℕ → Type 0) (told : S → Option (List ℕ)) (faults_of : S → ℕ) (script : Script)
+pub reports_none : {S : Type 0} (moment_of : S → ℕ) (left_since : S → ℕ → List ℕ → Type 0) (told : S → Option (List ℕ)) (faults_of : S → ℕ) (limit : ℕ) (script : Script)
     (contents : ℕ → Option (List ℕ)) (slots : ℕ) (report : Report S) → report.slots.items ≡ [] → seen_log report.switch ≡ no_log
-    → IsReport moment_of left_since told faults_of script contents slots ends.NoMemory report
-reports_none moment_of left_since told faults_of script contents slots report none log = record {
+    → IsReport moment_of left_since told faults_of limit script contents slots ends.NoMemory report
+reports_none moment_of left_since told faults_of limit script contents slots report none log = record {
   named = replicate slots None;
   many = length-replicate slots None;
   one_each = λ a b object is other. absurd (nothing_named slots a object is);
@@ -378,26 +403,31 @@ reports_none moment_of left_since told faults_of script contents slots report no
   within = omega (arith, ap length none);
   run = subst (λ (l : SwitchLog). IsRunSoFar script (opened (replicate slots None)) l) (sym log) (whole (opened (replicate slots None)) begins);
   there = subst (λ (l : SwitchLog). AreThere (length report.slots.items) l) (sym log) (All-nil (λ (sent : ℕ × Message). sent.0 < length report.slots.items));
+  drops = λ slot row is has is_told. none_there slot row _ (subst (λ (rows : List (SlotReport _)). slice_get rows slot ≡ Some row) none is);
   finished = λ is. cc;
   quiet = λ is. cc;
+  unended = unended_none told faults_of (seen_log report.switch) report.slots.items (ap (λ (l : SwitchLog). l.lines) log);
   bad = λ bad is. cc;
 }
 
 -- Opening stopped behind the slots of these rows.
-pub reports_opened : {S : Type 0} (moment_of : S → ℕ) (left_since : S → ℕ → List ℕ → Type 0) (told : S → Option (List ℕ)) (faults_of : S → ℕ) (script : Script)
+pub reports_opened : {S : Type 0} (moment_of : S → ℕ) (left_since : S → ℕ → List ℕ → Type 0) (told : S → Option (List ℕ)) (faults_of : S → ℕ) (limit : ℕ) (script : Script)
     (contents : ℕ → Option (List ℕ)) (named : Slots) (slots : ℕ) (end : OpenEnd) (report : Report S) → seen_log report.switch ≡ no_log
-    → AreRows moment_of left_since told faults_of script contents named no_log report.slots.items → length named ≡ slots → IsOneEach named → length report.slots.items < slots
+    → AreRows moment_of left_since told faults_of limit script contents named no_log report.slots.items → length named ≡ slots → IsOneEach named → length report.slots.items < slots
     → ((bad : Bad) → end ≡ opening.BadSlot bad → IsBad contents named (length report.slots.items) bad)
-    → IsReport moment_of left_since told faults_of script contents slots (opening_end end) report
-reports_opened moment_of left_since told faults_of script contents named slots end report log rows many one_each few bad = record {
+    → IsReport moment_of left_since told faults_of limit script contents slots (opening_end end) report
+reports_opened moment_of left_since told faults_of limit script contents named slots end report log rows many one_each few bad = record {
   named = named;
   many = many;
   one_each = one_each;
-  rows = subst (λ (l : SwitchLog). AreRows moment_of left_since told faults_of script contents named l report.slots.items) (sym log) rows;
+  rows = subst (λ (l : SwitchLog). AreRows moment_of left_since told faults_of limit script contents named l report.slots.items) (sym log) rows;
   within = omega (arith, few);
   run = subst (λ (l : SwitchLog). IsRunSoFar script (opened named) l) (sym log) (whole (opened named) begins);
   there = subst (λ (l : SwitchLog). AreThere (length report.slots.items) l) (sym log) (All-nil (λ (sent : ℕ × Message). sent.0 < length report.slots.items));
+  drops = λ slot row is has is_told.
+      subst (λ (l : SwitchLog). DropsOnly (of_slot slot l.posts) (fronted row.front) row.back.downs.items) (sym log) ((rows slot row is).drops is_told tt);
   finished = λ is. absurd (true_is_not (sym is ∙ never_served end));
+  unended = unended_none told faults_of (seen_log report.switch) report.slots.items (ap (λ (l : SwitchLog). l.lines) log);
   quiet = λ is. absurd (true_is_not (sym is ∙ never_served end));
   bad = λ why is. bad why (was_bad end why is);
 }

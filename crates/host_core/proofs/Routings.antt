@@ -114,9 +114,9 @@ module _ {D : Type 0} (before after : SwitchLog) (old new : Objects D) (moves : 
       (All-append (λ (sent : ℕ × Message). sent.0 < length old.cores.items) before.routed moves.routed there more))
 
   module _ (moment_of : D → ℕ) (left_since : D → ℕ → List ℕ → Type 0) (told : D → Option (List ℕ)) (image : D → List ℕ → Type 0) (faults_of : D → ℕ)
-      (script : Script) (contents : ℕ → Option (List ℕ)) (named : Slots) where
-    pub going_moved : AreGoing moment_of left_since told image faults_of script contents named before old
-        → AreGoing moment_of left_since told image faults_of script contents named after new
+      (limit : ℕ) (script : Script) (contents : ℕ → Option (List ℕ)) (named : Slots) where
+    pub going_moved : AreGoing moment_of left_since told image faults_of limit script contents named before old
+        → AreGoing moment_of left_since told image faults_of limit script contents named after new
     going_moved = slots_moved _ _ (λ slot core inbox later out then sent left got same going. record {
       origin = going.origin;
       begun = going.begun;
@@ -129,13 +129,13 @@ module _ {D : Type 0} (before after : SwitchLog) (old new : Objects D) (moves : 
 
 -- ---- the slots at an end
 module _ {D : Type 0} (moment_of : D → ℕ) (left_since : D → ℕ → List ℕ → Type 0) (told : D → Option (List ℕ)) (image : D → List ℕ → Type 0) (faults_of : D → ℕ)
-    (script : Script) (contents : ℕ → Option (List ℕ)) (named : Slots) (log : SwitchLog) (objects : Objects D) where
-  pub all_stand : AreGoing moment_of left_since told image faults_of script contents named log objects
-      → AreSlots moment_of left_since told image faults_of script contents named log objects
-  all_stand = slots_by _ _ objects (λ slot core inbox out within. going_stands moment_of left_since told image faults_of script _ _ _ _ core inbox out)
+    (limit : ℕ) (script : Script) (contents : ℕ → Option (List ℕ)) (named : Slots) (log : SwitchLog) (objects : Objects D) where
+  pub all_stand : AreGoing moment_of left_since told image faults_of limit script contents named log objects
+      → AreSlots moment_of left_since told image faults_of limit script contents named log objects
+  all_stand = slots_by _ _ objects (λ slot core inbox out within. going_stands moment_of left_since told image faults_of limit script _ _ _ _ core inbox out)
 
-  pub going_can : AreGoing moment_of left_since told image faults_of script contents named log objects → CanAllRun moment_of left_since told image faults_of script objects
+  pub going_can : AreGoing moment_of left_since told image faults_of limit script contents named log objects → CanAllRun moment_of left_since told image faults_of script objects
   going_can = slots_by _ _ objects (λ slot core inbox out within going. (going.origin, going.one))
 
-  pub standing_can : AreSlots moment_of left_since told image faults_of script contents named log objects → CanAllRun moment_of left_since told image faults_of script objects
+  pub standing_can : AreSlots moment_of left_since told image faults_of limit script contents named log objects → CanAllRun moment_of left_since told image faults_of script objects
   standing_can = slots_by _ _ objects (λ slot core inbox out within stands. (stands.origin, stands.one))

@@ -8,9 +8,14 @@ use Rattle.batch_journal.specs.Moments.{IsTold}
 use Rattle.do_tree.specs.Tree.{Script}
 use Rattle.lane.specs.Lanes.{Both, sent_on}
 use Rattle.mailbox.specs.Posting.{of_slot}
-use Rattle.object_core.specs.Laws.{HasIntake, OneHasClass, OneHasGot, OneHasIntake, OneHasLeft, OneHasTold, OneIsHistory}
+use Rattle.object_core.specs.Dropping.{AreFitting}
+use Rattle.object_core.specs.Drops.{DropsOnly, OneDrops}
+use Rattle.object_core.specs.Laws.{HasIntake, OneHasClass, OneHasGot, OneHasIntake, OneHasLeft, OneHasTold, OneIsHistory, OneIsLimited}
+use Rattle.object_core.specs.Limited.{IsFullAt}
 use Rattle.object_core.specs.One.{CanRun, class_in, messages}
 use Rattle.object_core.specs.Owing.{IsOwed, OneIsOwed}
+use Rattle.object_core.specs.Unended.{OneTellsNoEnd}
+use Rattle.object_messages.specs.Ends.{TellNoEnd}
 use Rattle.object_core.specs.declared.object.Core.{Core}
 use Rattle.object_front.specs.Came.{AreCome, kept}
 use Rattle.object_front.specs.Classed.{class_by}
@@ -26,6 +31,7 @@ use Rattle.storage_map.specs.Limits.{Object}
 use Rattle.timeline.specs.Headline.{IsHistory, IsPrefix}
 use Rattle.timeline.specs.Logs.{Backed, Fronted, backed, fronted}
 use Rattle.timeline.specs.Switch.{SwitchLog}
+use Rattle.timeline.specs.declared.back_log.Stop.{Stop}
 use Rattle.timeline.specs.declared.caller.Caller.{Caller}
 use Rattle.timeline.specs.declared.entry.Body.TheVariants as body
 use Rattle.timeline.specs.declared.entry.Entry.{Entry}
@@ -61,9 +67,10 @@ module _ {D : Type 0} (moment_of : D → ℕ) (left_since : D → ℕ → List �
     (history : OneIsHistory moment_of left_since told image faults_of core) (intake : OneHasIntake moment_of left_since told image faults_of core)
     (got : OneHasGot moment_of left_since told image faults_of core) (class : OneHasClass moment_of left_since told image faults_of core)
     (left : OneHasLeft moment_of left_since told image faults_of core) (tells : OneHasTold moment_of left_since told image faults_of core)
-    (owed : OneIsOwed moment_of left_since told image faults_of core) where
-  module _ (script : Script) (content : Option (List ℕ)) (named : Option Object) (posts : List Event) (routed : List Message) (inbox : Both Event) (out : Both Message)
-      (slot : IsSlot moment_of left_since told image faults_of script content named posts routed core inbox out) where
+    (owed : OneIsOwed moment_of left_since told image faults_of core) (limited : OneIsLimited moment_of left_since told image faults_of core)
+    (unended : OneTellsNoEnd moment_of left_since told image faults_of core) (drops : OneDrops moment_of left_since told image faults_of core) where
+  module _ (limit : ℕ) (script : Script) (content : Option (List ℕ)) (named : Option Object) (posts : List Event) (routed : List Message) (inbox : Both Event) (out : Both Message)
+      (slot : IsSlot moment_of left_since told image faults_of limit script content named posts routed core inbox out) where
     object_in : IsObjectIn named row
     object_in =
         ⊎_elim (λ same. inl (identity_is ∙ same ∙ slot.begun.object))
@@ -128,17 +135,38 @@ module _ {D : Type 0} (moment_of : D → ℕ) (left_since : D → ℕ → List �
         (subst (λ (log : Fronted). IsOwed log (messages core.back.log.released.items)) (sym front_is)
         (owed script slot.origin (row.store, store_is, is_told) slot.one))
 
+    unended_in : IsTold (told row.store) → (backed row.back).stops ≡ [] → TellNoEnd (messages row.back.released.items)
+    unended_in is_told none =
+        subst (λ (log : Backed). TellNoEnd (messages log.released)) (sym back_is)
+        (unended script slot.origin (row.store, store_is, is_told) slot.one (subst (λ (log : Backed). log.stops ≡ []) back_is none))
+
+    full_in : (stop : Stop) → Contains (backed row.back).stops stop → IsFullAt limit stop.cause
+    full_in stop has =
+        subst (λ (n : ℕ). IsFullAt n stop.cause) slot.begun.limited
+        ((limited script slot.origin slot.one).full stop (subst (λ (log : Backed). Contains log.stops stop) back_is has))
+
+    drops_in : IsTold (told row.store) → AreFitting script (class_in script named) posts → DropsOnly posts (fronted row.front) row.back.downs.items
+    unfolding served_in
+    drops_in is_told fit =
+        subst (λ (log : Backed). DropsOnly posts (fronted row.front) log.downs) (sym back_is)
+        (subst (λ (log : Fronted). DropsOnly posts log core.back.log.downs.items) (sym front_is)
+        (drops script slot.origin (row.store, store_is, is_told) slot.one posts served_in.first
+        (subst (λ (o : Option Object). AreFitting script (class_in script o) posts) (sym slot.begun.object) fit)))
+
   pub is_row_of : IsRowOf moment_of left_since told image faults_of core row
-  is_row_of script content named posts routed inbox out slot = record {
+  is_row_of limit script content named posts routed inbox out slot = record {
     origin = slot.origin;
     begun = slot.begun;
-    object = object_in script content named posts routed inbox out slot;
-    history = history_in script content named posts routed inbox out slot;
-    intake = intake_in script content named posts routed inbox out slot;
-    tells = tells_in script content named posts routed inbox out slot;
-    served = served_in script content named posts routed inbox out slot;
-    routes = routes_in script content named posts routed inbox out slot;
-    owed = owed_in script content named posts routed inbox out slot;
+    object = object_in limit script content named posts routed inbox out slot;
+    history = history_in limit script content named posts routed inbox out slot;
+    intake = intake_in limit script content named posts routed inbox out slot;
+    tells = tells_in limit script content named posts routed inbox out slot;
+    served = served_in limit script content named posts routed inbox out slot;
+    routes = routes_in limit script content named posts routed inbox out slot;
+    owed = owed_in limit script content named posts routed inbox out slot;
+    full = full_in limit script content named posts routed inbox out slot;
+    unended = unended_in limit script content named posts routed inbox out slot;
+    drops = drops_in limit script content named posts routed inbox out slot;
   }
 
 -- an item stands at each place of a list
@@ -174,37 +202,37 @@ module _ {D : Type 0} (moment_of : D → ℕ) (left_since : D → ℕ → List �
       (cases_lt slot (length rows))
 
   pub all_rows : (objects : Objects D) (rows : List (SlotReport D)) → AreRowsOf objects.cores.items rows
-      → (script : Script) (contents : ℕ → Option (List ℕ)) (named : Slots) (log : SwitchLog)
-      → AreSlots moment_of left_since told image faults_of script contents named log objects → AreRows moment_of left_since told faults_of script contents named log rows
-  all_rows objects rows are script contents named log slots = λ slot row there.
+      → (limit : ℕ) (script : Script) (contents : ℕ → Option (List ℕ)) (named : Slots) (log : SwitchLog)
+      → AreSlots moment_of left_since told image faults_of limit script contents named log objects → AreRows moment_of left_since told faults_of limit script contents named log rows
+  all_rows objects rows are limit script contents named log slots = λ slot row there.
       let of = are slot row there in
       let within = slice_get_within objects.cores.items slot of.0 of.1 in
       let inbox = item_at objects.inboxes.items slot (omega (arith, within, slots.inboxes)) in
       let out = item_at objects.outs.items slot (omega (arith, within, slots.outs)) in
-      of.2.row_of script (contents slot) (object_at named slot) (of_slot slot log.posts) (of_slot slot log.routed) inbox.0 out.0 (slots.each slot of.0 inbox.0 out.0 of.1 inbox.1 out.1)
+      of.2.row_of limit script (contents slot) (object_at named slot) (of_slot slot log.posts) (of_slot slot log.routed) inbox.0 out.0 (slots.each slot of.0 inbox.0 out.0 of.1 inbox.1 out.1)
 
   pub all_let_go : (objects : Objects D) (rows : List (SlotReport D)) → AreRowsOf objects.cores.items rows
-      → (script : Script) (contents : ℕ → Option (List ℕ)) (named : Slots) (log : SwitchLog)
-      → AreGoing moment_of left_since told image faults_of script contents named log objects → AreResting script objects → AreRouted objects
+      → (limit : ℕ) (script : Script) (contents : ℕ → Option (List ℕ)) (named : Slots) (log : SwitchLog)
+      → AreGoing moment_of left_since told image faults_of limit script contents named log objects → AreResting script objects → AreRouted objects
       → AreLetGo told script named log rows
-  all_let_go objects rows are script contents named log going rests routed = λ slot row there.
+  all_let_go objects rows are limit script contents named log going rests routed = λ slot row there.
       let of = are slot row there in
       let within = slice_get_within objects.cores.items slot of.0 of.1 in
       let inbox = item_at objects.inboxes.items slot (omega (arith, within, going.inboxes)) in
       let out = item_at objects.outs.items slot (omega (arith, within, going.outs)) in
-      of.2.let_go script (contents slot) (object_at named slot) (of_slot slot log.posts) (of_slot slot log.routed) inbox.0 out.0
+      of.2.let_go limit script (contents slot) (object_at named slot) (of_slot slot log.posts) (of_slot slot log.routed) inbox.0 out.0
       (going.each slot of.0 inbox.0 out.0 of.1 inbox.1 out.1) (rests.each slot of.0 inbox.0 out.0 of.1 inbox.1 out.1) (routed.each slot of.0 inbox.0 out.0 of.1 inbox.1 out.1)
 
   pub all_settled : (objects : Objects D) (rows : List (SlotReport D)) (left : List (ℕ × Caller × Waits)) → AreRowsOf objects.cores.items rows
-      → AreLeftBy objects.cores.items left → (script : Script) (contents : ℕ → Option (List ℕ)) (named : Slots) (log : SwitchLog)
-      → AreGoing moment_of left_since told image faults_of script contents named log objects → AreResting script objects → AreRouted objects
-      → AreSettledUnless told script contents named log left rows
-  all_settled objects rows left are has_left script contents named log going rests routed = λ slot row there.
+      → AreLeftBy objects.cores.items left → (limit : ℕ) (script : Script) (contents : ℕ → Option (List ℕ)) (named : Slots) (log : SwitchLog)
+      → AreGoing moment_of left_since told image faults_of limit script contents named log objects → AreResting script objects → AreRouted objects
+      → AreSettledUnless told limit script contents named log left rows
+  all_settled objects rows left are has_left limit script contents named log going rests routed = λ slot row there.
       let of = are slot row there in
       let within = slice_get_within objects.cores.items slot of.0 of.1 in
       let inbox = item_at objects.inboxes.items slot (omega (arith, within, going.inboxes)) in
       let out = item_at objects.outs.items slot (omega (arith, within, going.outs)) in
-      of.2.settled script (contents slot) (object_at named slot) (of_slot slot log.posts) (of_slot slot log.routed) inbox.0 out.0
+      of.2.settled limit script (contents slot) (object_at named slot) (of_slot slot log.posts) (of_slot slot log.routed) inbox.0 out.0
       (going.each slot of.0 inbox.0 out.0 of.1 inbox.1 out.1) (rests.each slot of.0 inbox.0 out.0 of.1 inbox.1 out.1) (routed.each slot of.0 inbox.0 out.0 of.1 inbox.1 out.1)
       (remaining_of slot left) (has_left.each slot of.0 of.1)
 

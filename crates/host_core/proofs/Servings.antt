@@ -19,7 +19,8 @@ use Rattle.mailbox.specs.declared.fault.SwitchFault.{SwitchFault}
 use Rattle.mailbox.specs.declared.switch.Switch.{Switch}
 use Rattle.host_core.proofs.Routings.{Moves, got_of, at_same, at_taken, going_moved, there_moved, all_stand, going_can, standing_can}
 use Rattle.host_core.specs.Objects.{AreGoing, AreSlots, AreThere, CanAllRun}
-use Rattle.host_core.specs.Running.{HasServed, IsServing, IsRunSoFar, whole, in_line, in_message}
+use Rattle.host_core.specs.Running.{HasServed, IsServing}
+use Rattle.mailbox.specs.SoFar.{IsRunSoFar, whole, in_line, in_message}
 use Rattle.host_core.specs.declared.objects.Objects.{Objects}
 
 -- What a call of the switch does to the inboxes of the slots.
@@ -71,12 +72,12 @@ module _ {D W T : Type 0} (taken : W → Option (List ℕ)) (faults : W → ℕ)
       at_same (λ (p : Both Message). p.got) old.outs.items new.outs.items same slot ∙ sym (append-nil (at_slot got_of old.outs.items slot)))
 
 module _ {D W : Type 0} (moment_of : D → ℕ) (left_since : D → ℕ → List ℕ → Type 0) (told : D → Option (List ℕ)) (image : D → List ℕ → Type 0) (faults_of : D → ℕ)
-    (script : Script) (contents : ℕ → Option (List ℕ)) (named : Slots) (before after : Switch W) (old new : Objects D) where
+    (limit : ℕ) (script : Script) (contents : ℕ → Option (List ℕ)) (named : Slots) (before after : Switch W) (old new : Objects D) where
   abbrev Serves : Switch W → Objects D → Type 0
-  Serves = IsServing moment_of left_since told image faults_of script contents named
+  Serves = IsServing moment_of left_since told image faults_of limit script contents named
 
   abbrev Served : Switch W → Objects D → Type 0
-  Served = HasServed moment_of left_since told image faults_of script contents named
+  Served = HasServed moment_of left_since told image faults_of limit script contents named
 
   abbrev AreOf : List (ℕ × Message) → Type 0
   AreOf = All (λ (sent : ℕ × Message). sent.0 < length old.cores.items)
@@ -85,7 +86,7 @@ module _ {D W : Type 0} (moment_of : D → ℕ) (left_since : D → ℕ → List
       → slots_of after ≡ slots_of before → fault_of after ≡ None → Serves before old → Serves after new
   serving_moved moves are keeps many goes serving = record {
     run = keeps (opened named) serving.run;
-    slots = going_moved (log_of before) (log_of after) old new moves moment_of left_since told image faults_of script contents named serving.slots;
+    slots = going_moved (log_of before) (log_of after) old new moves moment_of left_since told image faults_of limit script contents named serving.slots;
     there = there_moved (log_of before) (log_of after) old new moves serving.there are;
     many = many ∙ serving.many ∙ sym (ap length moves.cores);
     goes = goes;
@@ -95,8 +96,8 @@ module _ {D W : Type 0} (moment_of : D → ℕ) (left_since : D → ℕ → List
       → IsRunSoFar script (opened named) (log_of after) → Serves before old → Served after new
   served_moved moves are run serving = record {
     run = run;
-    slots = all_stand moment_of left_since told image faults_of script contents named (log_of after) new
-        (going_moved (log_of before) (log_of after) old new moves moment_of left_since told image faults_of script contents named serving.slots);
+    slots = all_stand moment_of left_since told image faults_of limit script contents named (log_of after) new
+        (going_moved (log_of before) (log_of after) old new moves moment_of left_since told image faults_of limit script contents named serving.slots);
     there = there_moved (log_of before) (log_of after) old new moves serving.there are;
   }
 
@@ -182,10 +183,10 @@ module _ {D : Type 0} (old new : Objects D) (inboxes later : List (Both Event)) 
 
 -- ---- the objects have run
 module _ {D W : Type 0} (moment_of : D → ℕ) (left_since : D → ℕ → List ℕ → Type 0) (told : D → Option (List ℕ)) (image : D → List ℕ → Type 0) (faults_of : D → ℕ)
-    (script : Script) (contents : ℕ → Option (List ℕ)) (named : Slots) (switch : Switch W) (old new : Objects D)
+    (limit : ℕ) (script : Script) (contents : ℕ → Option (List ℕ)) (named : Slots) (switch : Switch W) (old new : Objects D)
     (many : length new.cores.items ≡ length old.cores.items) where
-  pub serving_ran : AreGoing moment_of left_since told image faults_of script contents named (log_of switch) new
-      → IsServing moment_of left_since told image faults_of script contents named switch old → IsServing moment_of left_since told image faults_of script contents named switch new
+  pub serving_ran : AreGoing moment_of left_since told image faults_of limit script contents named (log_of switch) new
+      → IsServing moment_of left_since told image faults_of limit script contents named switch old → IsServing moment_of left_since told image faults_of limit script contents named switch new
   serving_ran slots serving = record {
     run = serving.run;
     slots = slots;
@@ -194,8 +195,8 @@ module _ {D W : Type 0} (moment_of : D → ℕ) (left_since : D → ℕ → List
     goes = serving.goes;
   }
 
-  pub served_ran : AreSlots moment_of left_since told image faults_of script contents named (log_of switch) new
-      → IsServing moment_of left_since told image faults_of script contents named switch old → HasServed moment_of left_since told image faults_of script contents named switch new
+  pub served_ran : AreSlots moment_of left_since told image faults_of limit script contents named (log_of switch) new
+      → IsServing moment_of left_since told image faults_of limit script contents named switch old → HasServed moment_of left_since told image faults_of limit script contents named switch new
   served_ran slots serving = record {
     run = whole (state_of switch) serving.run;
     slots = slots;
@@ -204,14 +205,14 @@ module _ {D W : Type 0} (moment_of : D → ℕ) (left_since : D → ℕ → List
 
 -- The objects can run on, whichever the end.
 pub can_after : {D W T : Type 0} (moment_of : D → ℕ) (left_since : D → ℕ → List ℕ → Type 0) (told : D → Option (List ℕ)) (image : D → List ℕ → Type 0) (faults_of : D → ℕ)
-    (script : Script) (contents : ℕ → Option (List ℕ)) (named : Slots) (switch : Switch W) (objects : Objects D) (result : Result T SwitchFault)
-    → OnOk result (IsServing moment_of left_since told image faults_of script contents named switch objects)
-    → OnErr result (HasServed moment_of left_since told image faults_of script contents named switch objects)
+    (limit : ℕ) (script : Script) (contents : ℕ → Option (List ℕ)) (named : Slots) (switch : Switch W) (objects : Objects D) (result : Result T SwitchFault)
+    → OnOk result (IsServing moment_of left_since told image faults_of limit script contents named switch objects)
+    → OnErr result (HasServed moment_of left_since told image faults_of limit script contents named switch objects)
     → CanAllRun moment_of left_since told image faults_of script objects
-can_after moment_of left_since told image faults_of script contents named switch objects (Ok x) serving served =
-    going_can moment_of left_since told image faults_of script contents named (log_of switch) objects serving.slots
-can_after moment_of left_since told image faults_of script contents named switch objects (Err e) serving served =
-    standing_can moment_of left_since told image faults_of script contents named (log_of switch) objects served.slots
+can_after moment_of left_since told image faults_of limit script contents named switch objects (Ok x) serving served =
+    going_can moment_of left_since told image faults_of limit script contents named (log_of switch) objects serving.slots
+can_after moment_of left_since told image faults_of limit script contents named switch objects (Err e) serving served =
+    standing_can moment_of left_since told image faults_of limit script contents named (log_of switch) objects served.slots
 
 -- What an answer gives, by what it gives.
 pub on_ok_then : {T E P Q : Type 0} (result : Result T E) → (P → Q) → OnOk result P → OnOk result Q

@@ -9,14 +9,17 @@ use Rattle.do_tree.specs.Tree.{Script}
 use Rattle.lane.specs.Lanes.{Both, sent_on}
 use Rattle.object_core.specs.Laws.{GoesOn, HasNothingToDo, OneIsQuiet}
 use Rattle.object_core.specs.Leaving.{OneLeaves, OneRests, left_of}
+use Rattle.object_core.specs.Once.{OneServesOnce}
 use Rattle.object_core.specs.One.{HasItsClass, IsGivenUnasked, TellsNow, class_in}
 use Rattle.object_core.specs.Owing.{OneSticks}
 use Rattle.object_core.specs.declared.object.Core.{Core}
 use Rattle.object_front.specs.Came.{AreCome, kept}
 use Rattle.object_front.specs.Classed.{class_by}
 use Rattle.object_front.specs.Evaluated.{seen}
+use Rattle.object_front.specs.Remaining.{left_at}
 use Rattle.object_front.specs.Standing.{IsClass, IsHalf}
-use Rattle.object_messages.specs.Naming.{answered_by, answered_in, asked_in, messages_of}
+use Rattle.object_messages.specs.Exact.{IsServedOnce, callers}
+use Rattle.object_messages.specs.Naming.{answered_by, answered_in, asked_in, called_in, messages_of, replied_in}
 use Rattle.output_gate.specs.Storing.{IsDiskOf}
 use Rattle.output_gate.specs.Telling.{opened_map}
 use Rattle.storage_map.specs.Limits.{Object}
@@ -47,9 +50,10 @@ module _ {D : Type 0} (moment_of : D → ℕ) (left_since : D → ℕ → List �
     (core : Core D) (row : SlotReport D) (store_is : IsDiskOf core.back.store row.store)
     (front_is : fronted row.front ≡ fronted core.front.half.log) (back_is : backed row.back ≡ backed core.back.log)
     (quiet : OneIsQuiet moment_of left_since told image faults_of core) (leaves : OneLeaves moment_of left_since told image faults_of core)
-    (rests : OneRests moment_of left_since told image faults_of core) (sticks : OneSticks moment_of left_since told image faults_of core) where
-  module _ (script : Script) (content : Option (List ℕ)) (named : Option Object) (posts : List Event) (routed : List Message) (inbox : Both Event) (out : Both Message)
-      (going : IsGoing moment_of left_since told image faults_of script content named posts routed core inbox out) (resting : IsResting script core inbox)
+    (rests : OneRests moment_of left_since told image faults_of core) (sticks : OneSticks moment_of left_since told image faults_of core)
+    (serves : OneServesOnce moment_of left_since told image faults_of core) where
+  module _ (limit : ℕ) (script : Script) (content : Option (List ℕ)) (named : Option Object) (posts : List Event) (routed : List Message) (inbox : Both Event) (out : Both Message)
+      (going : IsGoing moment_of left_since told image faults_of limit script content named posts routed core inbox out) (resting : IsResting script core inbox)
       (none : out.waiting ≡ []) (remaining : List (Caller × Waits)) (is_left : IsLeftOf core.front.half remaining)
       (is_told : IsTold (told row.store)) (has : HasItsClass script named) where
     tells : TellsNow told core.back
@@ -102,7 +106,7 @@ module _ {D : Type 0} (moment_of : D → ℕ) (left_since : D → ℕ → List �
           subst (λ (log : Backed). IsQuiet script class (opened_map going.origin.start) (fronted row.front) log posts routed) (sym back_is)
           (subst (λ (log : Fronted). IsQuiet script class (opened_map going.origin.start) log (backed core.back.log) posts routed) (sym front_is)
           (subst (λ (ms : List Message). IsQuiet script class (opened_map going.origin.start) (fronted core.front.half.log) (backed core.back.log) posts ms)
-          (all_routed moment_of left_since told image faults_of core script content named posts routed inbox out going resting none)
+          (all_routed moment_of left_since told image faults_of core limit script content named posts routed inbox out going resting none)
           (subst (λ (es : List Event). IsQuiet script class (opened_map going.origin.start) (fronted core.front.half.log) (backed core.back.log) es (sent_on core.out)) all_got
           (core_quiet class is).1)))
 
@@ -121,7 +125,18 @@ module _ {D : Type 0} (moment_of : D → ℕ) (left_since : D → ℕ → List �
           (subst (λ (lost : List Event). AreCome core.inbox.got (fronted core.front.half.log) (kept going.one.st) lost)
           (going.one.has_got.none_lost resting.settled.front_goes (sym half.stuck ∙ fits)) going.one.has_got.come))
 
-      row_settled : IsSettled script content named posts routed remaining row
+      row_once : called_in (fronted row.front).dropped ≡ [] → IsServedOnce (called_in posts) (replied_in routed) (callers remaining)
+      row_once dropped_none =
+          let class = class_now going.one.st.class in
+          let once : IsServedOnce (called_in core.inbox.got) (replied_in (sent_on core.out)) (callers (left_at script going.one.st)) =
+          serves script going.origin tells going.one has_class goes nothing going.begun.left (subst (λ (log : Fronted). called_in log.dropped ≡ []) front_is dropped_none) in
+          subst (λ (es : List Event). IsServedOnce (called_in es) (replied_in routed) (callers remaining)) all_got
+          (subst (λ (ms : List Message). IsServedOnce (called_in core.inbox.got) (replied_in ms) (callers remaining))
+          (all_routed moment_of left_since told image faults_of core limit script content named posts routed inbox out going resting none)
+          (subst (λ (items : List (Caller × Waits)). IsServedOnce (called_in core.inbox.got) (replied_in (sent_on core.out)) (callers items))
+          (sym (is_left script going.one.st half (rests script going.origin tells going.one class.0 class.1 has_class goes nothing))) once))
+
+      row_settled : IsSettled limit script content named posts routed remaining row
       row_settled = record {
         origin = going.origin;
         begun = going.begun;
@@ -129,13 +144,14 @@ module _ {D : Type 0} (moment_of : D → ℕ) (left_since : D → ℕ → List �
         come = row_come;
         quiet = λ class is. row_quiet class (class_is class is);
         left = λ class is. row_left class (class_is class is);
+        once = row_once;
       }
 
     settled_as : (stuck : Bool) → core.front.half.stuck ≡ stuck
-        → IsGivenUnasked (fronted row.front) posts ⊎ IsSettled script content named posts routed remaining row
+        → IsGivenUnasked (fronted row.front) posts ⊎ IsSettled limit script content named posts routed remaining row
     settled_as true is = inl (row_unasked (sticks script going.origin tells going.one resting.settled.front_goes is))
     settled_as false is = inr (row_settled is)
 
   pub is_settled_of : IsSettledOf moment_of left_since told image faults_of core row
-  is_settled_of script content named posts routed inbox out going resting none remaining is_left is_told has =
-      settled_as script content named posts routed inbox out going resting none remaining is_left is_told has core.front.half.stuck refl
+  is_settled_of limit script content named posts routed inbox out going resting none remaining is_left is_told has =
+      settled_as limit script content named posts routed inbox out going resting none remaining is_left is_told has core.front.half.stuck refl

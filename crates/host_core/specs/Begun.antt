@@ -1,7 +1,7 @@
 -- What mounting one slot gives, and how its object begins.
 use Rattle.std.specs.Prelude.{◌≡◌, ◌≢◌, ◌<◌, ◌≤◌, ℕ, List, [], length, Option, Some, None, ⊤}
 use Rattle.batch_journal.specs.Mounting.{IsMountOf}
-use Rattle.batch_journal.specs.Rest.{IsStaged}
+use Rattle.batch_journal.specs.Rest.{IsStaged, limit_of}
 use Rattle.batch_journal.specs.declared.mount.Mounted.{Mounted}
 use Rattle.batch_journal.specs.declared.mount.MountFault.{MountFault}
 use Rattle.batch_journal.specs.declared.mount.MountFault.TheVariants as fault
@@ -39,21 +39,23 @@ mounting_end slot (fault.Damaged disk place) = BadSlot (bad.Damaged slot place)
 mounting_end slot (fault.Mixed disk first other) = BadSlot (bad.Mixed slot first other)
 mounting_end slot (fault.NoMemory disk) = NoMemory
 
--- What was mounted of a slot's disk before its first call, whose file has this content. It has this object, and nothing is staged.
+-- What was mounted of a slot's disk before its first call, whose file has this content. It has this object, nothing is staged, and its journal
+-- may have so many bytes.
 pub record IsMountedAt {D : Type 0} (moment_of : D → ℕ) (left_since : D → ℕ → List ℕ → Type 0) (told : D → Option (List ℕ)) (image : D → List ℕ → Type 0)
-    (content : Option (List ℕ)) (named : Option Object) (mounted : Mounted D) : Type 0 where
+    (limit : ℕ) (content : Option (List ℕ)) (named : Option Object) (mounted : Mounted D) : Type 0 where
   pub disk : D
   pub first : moment_of disk ≡ 0
   pub content_is : told disk ≡ content
   pub mount : IsMountOf told image moment_of left_since disk mounted
   pub object : mounted.identity ≡ named
   pub staged : (any : Object) → IsStaged mounted.journal any []
+  pub limited : limit_of mounted.journal ≡ limit
 
--- An object that was just made of a slot whose file had this content, and which names this object.
+-- An object that was just made of a slot whose file had this content, and which names this object; its journal may have so many bytes.
 pub record HasBegun {D : Type 0} (moment_of : D → ℕ) (left_since : D → ℕ → List ℕ → Type 0) (told : D → Option (List ℕ)) (image : D → List ℕ → Type 0) (faults_of : D → ℕ)
-    (script : Script) (content : Option (List ℕ)) (named : Option Object) (core : Core D) : Type 0 where
+    (limit : ℕ) (script : Script) (content : Option (List ℕ)) (named : Option Object) (core : Core D) : Type 0 where
   pub origin : Origin
-  pub begun : IsBegun content named origin
+  pub begun : IsBegun limit content named origin
   pub one : IsOne moment_of left_since told image faults_of script origin core
   pub inbox : core.inbox ≡ unused
   pub out : core.out ≡ unused

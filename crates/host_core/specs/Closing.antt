@@ -29,15 +29,15 @@ use Rattle.host_core.specs.declared.report.SlotReport.{SlotReport}
 -- The row tells of this object, whichever slot it stands in.
 abbrev pub IsRowOf : {D : Type 0} (moment_of : D → ℕ) (left_since : D → ℕ → List ℕ → Type 0) (told : D → Option (List ℕ)) (image : D → List ℕ → Type 0) (faults_of : D → ℕ)
     → Core D → SlotReport D → Type 0
-IsRowOf moment_of left_since told image faults_of core row = (script : Script) (content : Option (List ℕ)) (named : Option Object) (posts : List Event) (routed : List Message)
-    (inbox : Both Event) (out : Both Message) → IsSlot moment_of left_since told image faults_of script content named posts routed core inbox out
-    → IsRow moment_of left_since told faults_of script content named posts routed row
+IsRowOf moment_of left_since told image faults_of core row = (limit : ℕ) (script : Script) (content : Option (List ℕ)) (named : Option Object)
+    (posts : List Event) (routed : List Message) (inbox : Both Event) (out : Both Message) → IsSlot moment_of left_since told image faults_of limit script content named posts routed core inbox out
+    → IsRow moment_of left_since told faults_of limit script content named posts routed row
 
 -- Where the object goes on and rests, and none of its messages waits to be routed, the row tells that nothing of it is held back.
 abbrev pub IsLetGoOf : {D : Type 0} (moment_of : D → ℕ) (left_since : D → ℕ → List ℕ → Type 0) (told : D → Option (List ℕ)) (image : D → List ℕ → Type 0) (faults_of : D → ℕ)
     → Core D → SlotReport D → Type 0
-IsLetGoOf moment_of left_since told image faults_of core row = (script : Script) (content : Option (List ℕ)) (named : Option Object) (posts : List Event) (routed : List Message)
-    (inbox : Both Event) (out : Both Message) → IsGoing moment_of left_since told image faults_of script content named posts routed core inbox out
+IsLetGoOf moment_of left_since told image faults_of core row = (limit : ℕ) (script : Script) (content : Option (List ℕ)) (named : Option Object)
+    (posts : List Event) (routed : List Message) (inbox : Both Event) (out : Both Message) → IsGoing moment_of left_since told image faults_of limit script content named posts routed core inbox out
     → IsResting script core inbox → out.waiting ≡ [] → IsLetGo told script named routed row
 
 -- A front that waits for no answer of its back has left this.
@@ -57,21 +57,21 @@ pub record AddsLeft (slot : ℕ) (front : Half Evaluated) (asked : Result (Unit 
 
 -- A slot with an object of a class that the script has, or with none, is quiet while its disk tells its content; or its front stands still at an
 -- answer to what it didn't ask.
-abbrev pub IsSettledUnless : {D : Type 0} (told : D → Option (List ℕ)) → Script → (content : Option (List ℕ)) → (named : Option Object) → (posts : List Event)
+abbrev pub IsSettledUnless : {D : Type 0} (told : D → Option (List ℕ)) → (limit : ℕ) → Script → (content : Option (List ℕ)) → (named : Option Object) → (posts : List Event)
     → (routed : List Message) → (remaining : List (Caller × Waits)) → SlotReport D → Type 0
-IsSettledUnless told script content named posts routed remaining row = IsTold (told row.store) → HasItsClass script named
-    → IsGivenUnasked (fronted row.front) posts ⊎ IsSettled script content named posts routed remaining row
+IsSettledUnless told limit script content named posts routed remaining row = IsTold (told row.store) → HasItsClass script named
+    → IsGivenUnasked (fronted row.front) posts ⊎ IsSettled limit script content named posts routed remaining row
 
 -- So does the row of this object tell, where it goes on and rests, none of its messages waits to be routed, and its front has left this.
 abbrev pub IsSettledOf : {D : Type 0} (moment_of : D → ℕ) (left_since : D → ℕ → List ℕ → Type 0) (told : D → Option (List ℕ)) (image : D → List ℕ → Type 0) (faults_of : D → ℕ)
     → Core D → SlotReport D → Type 0
-IsSettledOf moment_of left_since told image faults_of core row = (script : Script) (content : Option (List ℕ)) (named : Option Object) (posts : List Event) (routed : List Message)
-    (inbox : Both Event) (out : Both Message) → IsGoing moment_of left_since told image faults_of script content named posts routed core inbox out
+IsSettledOf moment_of left_since told image faults_of core row = (limit : ℕ) (script : Script) (content : Option (List ℕ)) (named : Option Object)
+    (posts : List Event) (routed : List Message) (inbox : Both Event) (out : Both Message) → IsGoing moment_of left_since told image faults_of limit script content named posts routed core inbox out
     → IsResting script core inbox → out.waiting ≡ [] → (remaining : List (Caller × Waits)) → IsLeftOf core.front.half remaining
-    → IsSettledUnless told script content named posts routed remaining row
+    → IsSettledUnless told limit script content named posts routed remaining row
 
 -- Each row tells this of its own slot.
-abbrev pub AreSettledUnless : {D : Type 0} (told : D → Option (List ℕ)) → Script → (contents : ℕ → Option (List ℕ)) → (named : Slots) → SwitchLog
+abbrev pub AreSettledUnless : {D : Type 0} (told : D → Option (List ℕ)) → (limit : ℕ) → Script → (contents : ℕ → Option (List ℕ)) → (named : Slots) → SwitchLog
     → (left : List (ℕ × Caller × Waits)) → List (SlotReport D) → Type 0
-AreSettledUnless {D} told script contents named log left rows = (slot : ℕ) (row : SlotReport D) → slice_get rows slot ≡ Some row
-    → IsSettledUnless told script (contents slot) (object_at named slot) (of_slot slot log.posts) (of_slot slot log.routed) (remaining_of slot left) row
+AreSettledUnless {D} told limit script contents named log left rows = (slot : ℕ) (row : SlotReport D) → slice_get rows slot ≡ Some row
+    → IsSettledUnless told limit script (contents slot) (object_at named slot) (of_slot slot log.posts) (of_slot slot log.routed) (remaining_of slot left) row

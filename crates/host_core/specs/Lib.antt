@@ -5,10 +5,12 @@ pub mod Objects
 pub mod Running
 pub mod Rows
 pub mod Quiet
+pub mod Dropped
 pub mod Closing
 pub mod Reading
 pub mod Begun
 pub mod Opening
 pub mod Ends
 pub mod Finishing
+pub mod Complete
 pub mod Report

@@ -12,13 +12,15 @@ use Rattle.timeline.specs.Switch.{SwitchLog, IsSwitchRun, gave, no_log, opened}
 use Rattle.timeline.specs.declared.caller.Caller.{Caller}
 use Rattle.timeline.specs.declared.notice.Waits.{Waits}
 use Rattle.line_server.specs.Limits.{most_lines}
+use Rattle.host_core.specs.Complete.{AreUnended}
+use Rattle.host_core.specs.Dropped.{AreDropsOnly}
 use Rattle.host_core.specs.Ends.{is_served}
 use Rattle.host_core.specs.Objects.{AreThere}
 use Rattle.host_core.specs.Opening.{Asks, HasFailedDisk, IsBad, IsRefused, LeavesFile, LeavesHanded, slot_asks}
-use Rattle.host_core.specs.Quiet.{AreCallsInOrder, AreLeftIn, AreLetGo, AreSettled}
+use Rattle.host_core.specs.Quiet.{AreCallsAnswered, AreCallsInOrder, AreLeftIn, AreLetGo, AreSettled}
 use Rattle.host_core.specs.Reading.{Accepts, AcceptsAll, AcceptsAllRead}
 use Rattle.host_core.specs.Rows.{AreRows}
-use Rattle.host_core.specs.Running.{IsRunSoFar}
+use Rattle.mailbox.specs.SoFar.{IsRunSoFar}
 use Rattle.host_core.specs.declared.report.Report.{Report}
 use Rattle.host_core.specs.declared.report.SlotReport.{SlotReport}
 use Rattle.host_core.specs.declared.settings.Bad.{Bad}
@@ -43,31 +45,36 @@ pub record IsEmpty {S : Type 0} (report : Report S) : Type 0 where
   pub lines : report.lines ≡ 0
 
 -- The log is a run, and behind it stand the lines of what is left at the end. Each slot is quiet, and what is left is what its logs show.
-pub record IsFinished {S : Type 0} (told : S → Option (List ℕ)) (script : Script) (contents : ℕ → Option (List ℕ)) (named : Slots) (log : SwitchLog)
+pub record IsFinished {S : Type 0} (told : S → Option (List ℕ)) (limit : ℕ) (script : Script) (contents : ℕ → Option (List ℕ)) (named : Slots) (log : SwitchLog)
     (rows : List (SlotReport S)) : Type 0 where
   pub before : SwitchLog
   pub after : timeline.Switch
   pub run : IsSwitchRun script (opened named) before after
   pub left : List (ℕ × Caller × Waits)
   pub finished : log ≡ gave before (finished_by after left)
-  pub settled : AreSettled told script contents named log left rows
+  pub settled : AreSettled told limit script contents named log left rows
   pub left_in : AreLeftIn (length rows) left
   pub calls : AreCallsInOrder after rows
+  pub once : AreCallsAnswered told script named before after left rows
 
 -- The report has the one actual history. The slots had these objects at the opening, each in one slot. Each row tells of its slot; the
--- switch's log is that of a run; each message that was routed came from a slot of a row.
+-- switch's log is that of a run; each message that was routed came from a slot of a row; and no call that was posted was dropped. Each slot's journal
+-- may have so many bytes.
 pub record IsReport {S : Type 0} (moment_of : S → ℕ) (left_since : S → ℕ → List ℕ → Type 0) (told : S → Option (List ℕ)) (faults_of : S → ℕ)
-    (script : Script) (contents : ℕ → Option (List ℕ)) (slots : ℕ) (end : ServeEnd) (report : Report S) : Type 0 where
+    (limit : ℕ) (script : Script) (contents : ℕ → Option (List ℕ)) (slots : ℕ) (end : ServeEnd) (report : Report S) : Type 0 where
   pub named : Slots
   pub many : length named ≡ slots
   pub one_each : IsOneEach named
-  pub rows : AreRows moment_of left_since told faults_of script contents named (seen_log report.switch) report.slots.items
+  pub rows : AreRows moment_of left_since told faults_of limit script contents named (seen_log report.switch) report.slots.items
   pub within : length report.slots.items ≤ slots
   pub run : IsRunSoFar script (opened named) (seen_log report.switch)
   pub there : AreThere (length report.slots.items) (seen_log report.switch)
-  pub finished : is_served end ≡ true → IsFinished told script contents named (seen_log report.switch) report.slots.items
+  pub drops : AreDropsOnly told script named (seen_log report.switch) report.slots.items
+  pub finished : is_served end ≡ true → IsFinished told limit script contents named (seen_log report.switch) report.slots.items
   -- where all was served that was read, nothing is held back
   pub quiet : is_served end ≡ true → AreLetGo told script named (seen_log report.switch) report.slots.items
+  -- where nothing was the cause of an end, no line says `Reset` or `Down`
+  pub unended : AreUnended told faults_of (seen_log report.switch) report.slots.items
   -- why a slot is bad, which is the one behind those that were mounted
   pub bad : (bad : Bad) → end ≡ ends.BadSlot bad → IsBad contents named (length report.slots.items) bad
 

@@ -1,21 +1,26 @@
 -- What the rows of a report tell.
-use Rattle.std.specs.Prelude.{◌≡◌, ◌⊎◌, ◌≤◌, ℕ, List, length, map, slice_get, Option, Some}
+use Rattle.std.specs.Prelude.{◌≡◌, ◌⊎◌, ◌≤◌, ℕ, List, [], length, map, slice_get, Option, Some}
 use Rattle.std.specs.List.{Contains}
 use Rattle.batch_journal.specs.Moments.{IsTold}
 use Rattle.do_tree.specs.Tree.{Script}
 use Rattle.lane.specs.Lanes.{StartsWith}
 use Rattle.mailbox.specs.Posting.{of_slot}
+use Rattle.object_core.specs.Dropping.{AreFitting}
+use Rattle.object_core.specs.Drops.{DropsOnly}
 use Rattle.object_core.specs.Laws.{HasIntake}
+use Rattle.object_core.specs.Limited.{IsFullAt}
 use Rattle.object_core.specs.One.{Origin, class_in, messages}
 use Rattle.object_core.specs.Owing.{IsOwed}
 use Rattle.object_front.specs.Came.{AreCome}
 use Rattle.object_front.specs.Classed.{class_by}
+use Rattle.object_messages.specs.Ends.{TellNoEnd}
 use Rattle.output_gate.specs.Telling.{HasTold, opened_map}
 use Rattle.placement.specs.Slots.{Slots, object_at}
 use Rattle.storage_map.specs.Limits.{Object}
 use Rattle.timeline.specs.Headline.{IsHistory, IsPrefix}
 use Rattle.timeline.specs.Logs.{fronted, backed}
 use Rattle.timeline.specs.Switch.{SwitchLog}
+use Rattle.timeline.specs.declared.back_log.Stop.{Stop}
 use Rattle.timeline.specs.declared.entry.Body.TheVariants as body
 use Rattle.timeline.specs.declared.entry.Entry.{Entry}
 use Rattle.timeline.specs.declared.event.Event.{Event}
@@ -41,12 +46,13 @@ pub record AreServed {S : Type 0} (posts : List Event) (row : SlotReport S) : Ty
 -- What one row tells of its slot, whose file had this content, to which these events were posted, and from which these messages were routed.
 -- While its disk tells its content: what the object said is what its script tells over the delivered events, each incarnation over the map
 -- with which it starts, and events were delivered through the input gate; what a crash leaves, now or at any moment since the opening,
--- recovers to a prefix of its whole batches, which since a release holds what the release needs; and nobody was replied to more often than he
--- called, and each call and fetch that left was sent.
+-- recovers to a prefix of its whole batches, which since a release holds what the release needs; nobody was replied to more often than he
+-- called, and each call and fetch that left was sent; where no incarnation has stopped, no message that left tells of an end; and where
+-- what was posted fits, no call and no binding of it was dropped. Over any disk: an end by a full journal names this number of bytes, and came only where the frame would have passed it.
 pub record IsRow {S : Type 0} (moment_of : S → ℕ) (left_since : S → ℕ → List ℕ → Type 0) (told : S → Option (List ℕ)) (faults_of : S → ℕ)
-    (script : Script) (content : Option (List ℕ)) (named : Option Object) (posts : List Event) (routed : List Message) (row : SlotReport S) : Type 0 where
+    (limit : ℕ) (script : Script) (content : Option (List ℕ)) (named : Option Object) (posts : List Event) (routed : List Message) (row : SlotReport S) : Type 0 where
   pub origin : Origin
-  pub begun : IsBegun content named origin
+  pub begun : IsBegun limit content named origin
   pub object : IsObjectIn named row
   pub history : IsTold (told row.store) → (class : ℕ) → class_by script (class_in script named) (fronted row.front) ≡ Some class
       → IsHistory script class (opened_map origin.start) (fronted row.front) (backed row.back)
@@ -57,9 +63,12 @@ pub record IsRow {S : Type 0} (moment_of : S → ℕ) (left_since : S → ℕ �
   pub served : AreServed posts row
   pub routes : IsPrefix routed (messages row.back.released.items)
   pub owed : IsTold (told row.store) → IsOwed (fronted row.front) (messages row.back.released.items)
+  pub unended : IsTold (told row.store) → (backed row.back).stops ≡ [] → TellNoEnd (messages row.back.released.items)
+  pub full : (stop : Stop) → Contains (backed row.back).stops stop → IsFullAt limit stop.cause
+  pub drops : IsTold (told row.store) → AreFitting script (class_in script named) posts → DropsOnly posts (fronted row.front) row.back.downs.items
 
 -- Each row tells this of its own slot.
 abbrev pub AreRows : {S : Type 0} (moment_of : S → ℕ) (left_since : S → ℕ → List ℕ → Type 0) (told : S → Option (List ℕ)) (faults_of : S → ℕ)
-    → Script → (contents : ℕ → Option (List ℕ)) → (named : Slots) → SwitchLog → List (SlotReport S) → Type 0
-AreRows {S} moment_of left_since told faults_of script contents named log rows = (slot : ℕ) (row : SlotReport S) → slice_get rows slot ≡ Some row
-    → IsRow moment_of left_since told faults_of script (contents slot) (object_at named slot) (of_slot slot log.posts) (of_slot slot log.routed) row
+    → (limit : ℕ) → Script → (contents : ℕ → Option (List ℕ)) → (named : Slots) → SwitchLog → List (SlotReport S) → Type 0
+AreRows {S} moment_of left_since told faults_of limit script contents named log rows = (slot : ℕ) (row : SlotReport S) → slice_get rows slot ≡ Some row
+    → IsRow moment_of left_since told faults_of limit script (contents slot) (object_at named slot) (of_slot slot log.posts) (of_slot slot log.routed) row

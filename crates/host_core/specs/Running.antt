@@ -3,14 +3,10 @@ use Rattle.std.specs.Prelude.{◌≡◌, ◌⊎◌, ℕ, List, [], ◌∷◌, �
 use Rattle.do_tree.specs.Tree.{Script}
 use Rattle.line_server.specs.declared.line.Line as read
 use Rattle.timeline.specs.Lines.{Line}
-use Rattle.timeline.specs.Switch as timeline
-use Rattle.timeline.specs.Switch.{SwitchLog, IsSwitchRun, accepts, routes, opened}
-use Rattle.timeline.specs.declared.caller.Caller.{Caller}
-use Rattle.timeline.specs.declared.message.Message.{Message}
-use Rattle.timeline.specs.declared.notice.Waits.{Waits}
-use Rattle.mailbox.specs.Left.{finished_by}
-use Rattle.mailbox.specs.Runs.{Begins, log_of, state_of, fault_of, slots_of, out_of, lines_of}
+use Rattle.timeline.specs.Switch.{IsSwitchRun, opened}
+use Rattle.mailbox.specs.Runs.{log_of, state_of, fault_of, slots_of, out_of, lines_of}
 use Rattle.mailbox.specs.Seen.{seen_line}
+use Rattle.mailbox.specs.SoFar.{IsRunSoFar}
 use Rattle.mailbox.specs.Written.{Writes, WritesInPart, CountsWrites}
 use Rattle.mailbox.specs.declared.fault.SwitchFault.{SwitchFault}
 use Rattle.mailbox.specs.declared.fault.SwitchFault.TheVariants.{NoMemory, WriteFailed}
@@ -22,22 +18,12 @@ use Rattle.host_core.specs.declared.serving.Stop.{Stop}
 use Rattle.host_core.specs.declared.serving.Stop.TheVariants as stops
 use Rattle.host_core.specs.declared.objects.Objects.{Objects}
 
--- The log of a run of the switch; or of one that a fault cut short: behind the run its last line or message stands, with the first of the
--- posts and lines that this gives; or the first of the lines of what is left at the end.
-pub data IsRunSoFar (script : Script) (first : timeline.Switch) (log : SwitchLog) : Type 0 where
-  whole : (s : timeline.Switch) → IsSwitchRun script first log s → IsRunSoFar script first log
-  in_line : (before : SwitchLog) (s : timeline.Switch) (l : Line) → IsSwitchRun script first before s
-      → Begins (record before { accepted = before.accepted ++ l ∷ [] }) log (accepts script s l) → IsRunSoFar script first log
-  in_message : (before : SwitchLog) (s : timeline.Switch) (sent : ℕ × Message) → IsSwitchRun script first before s
-      → Begins (record before { routed = before.routed ++ sent ∷ [] }) log (routes script s sent) → IsRunSoFar script first log
-  at_end : (before : SwitchLog) (s : timeline.Switch) (left : List (ℕ × Caller × Waits)) → IsSwitchRun script first before s
-      → Begins before log (finished_by s left) → IsRunSoFar script first log
-
-module _ {D W : Type 0} (moment_of : D → ℕ) (left_since : D → ℕ → List ℕ → Type 0) (told : D → Option (List ℕ)) (image : D → List ℕ → Type 0) (faults_of : D → ℕ) (script : Script) where
+module _ {D W : Type 0} (moment_of : D → ℕ) (left_since : D → ℕ → List ℕ → Type 0) (told : D → Option (List ℕ)) (image : D → List ℕ → Type 0) (faults_of : D → ℕ)
+    (limit : ℕ) (script : Script) where
   -- Between two steps, as long as nothing has failed: the switch's log is a run from the objects that the slots had, and each slot goes on.
   pub record IsServing (contents : ℕ → Option (List ℕ)) (named : Slots) (switch : Switch W) (objects : Objects D) : Type 0 where
     pub run : IsSwitchRun script (opened named) (log_of switch) (state_of switch)
-    pub slots : AreGoing moment_of left_since told image faults_of script contents named (log_of switch) objects
+    pub slots : AreGoing moment_of left_since told image faults_of limit script contents named (log_of switch) objects
     pub there : AreThere (length objects.cores.items) (log_of switch)
     pub many : slots_of switch ≡ length objects.cores.items
     pub goes : fault_of switch ≡ None
@@ -45,16 +31,22 @@ module _ {D W : Type 0} (moment_of : D → ℕ) (left_since : D → ℕ → List
   -- At any end.
   pub record HasServed (contents : ℕ → Option (List ℕ)) (named : Slots) (switch : Switch W) (objects : Objects D) : Type 0 where
     pub run : IsRunSoFar script (opened named) (log_of switch)
-    pub slots : AreSlots moment_of left_since told image faults_of script contents named (log_of switch) objects
+    pub slots : AreSlots moment_of left_since told image faults_of limit script contents named (log_of switch) objects
     pub there : AreThere (length objects.cores.items) (log_of switch)
 
+module _ {D W : Type 0} (moment_of : D → ℕ) (left_since : D → ℕ → List ℕ → Type 0) (told : D → Option (List ℕ)) (image : D → List ℕ → Type 0) (faults_of : D → ℕ)
+    (script : Script) where
   -- Where it serves, it does so again.
   abbrev pub KeepsServing : (old new : Switch W) → (before after : Objects D) → Type 0
-  KeepsServing old new before after = (contents : ℕ → Option (List ℕ)) (named : Slots) → IsServing contents named old before → IsServing contents named new after
+  KeepsServing old new before after = (limit : ℕ) (contents : ℕ → Option (List ℕ)) (named : Slots)
+      → IsServing moment_of left_since told image faults_of limit script contents named old before
+      → IsServing moment_of left_since told image faults_of limit script contents named new after
 
   -- Where it serves, this is an end.
   abbrev pub LeavesServed : (old new : Switch W) → (before after : Objects D) → Type 0
-  LeavesServed old new before after = (contents : ℕ → Option (List ℕ)) (named : Slots) → IsServing contents named old before → HasServed contents named new after
+  LeavesServed old new before after = (limit : ℕ) (contents : ℕ → Option (List ℕ)) (named : Slots)
+      → IsServing moment_of left_since told image faults_of limit script contents named old before
+      → HasServed moment_of left_since told image faults_of limit script contents named new after
 
 -- Nothing is under way: each slot rests, and no message waits.
 pub record IsAtRest {D : Type 0} (script : Script) (objects : Objects D) : Type 0 where

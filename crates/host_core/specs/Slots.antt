@@ -14,8 +14,8 @@ use Rattle.object_core.specs.declared.object.Core.{Core}
 use Rattle.host_core.specs.Acting.{HasSettled}
 
 -- An object runs from the frames that its slot's file, of this content, recovered to, and which name this object, since the first call of
--- its disk.
-pub record IsBegun (content : Option (List ℕ)) (named : Option Object) (origin : Origin) : Type 0 where
+-- its disk; its journal may have so many bytes.
+pub record IsBegun (limit : ℕ) (content : Option (List ℕ)) (named : Option Object) (origin : Origin) : Type 0 where
   pub frames : List Frame
   pub recovered : IfTold content (λ c. Recovers c frames)
   pub names : IsObjectOf named frames
@@ -23,13 +23,15 @@ pub record IsBegun (content : Option (List ℕ)) (named : Option Object) (origin
   pub opening : origin.opening ≡ next_count 0
   pub object : origin.object ≡ named
   pub left : origin.left ≡ []
+  pub limited : origin.limit ≡ limit
 
 -- The object is one; what was posted to the slot went into its queue, and the first of it to the object; what was routed from the slot came out
 -- of its queue, into which the first of what left went.
 pub record IsSlot {D : Type 0} (moment_of : D → ℕ) (left_since : D → ℕ → List ℕ → Type 0) (told : D → Option (List ℕ)) (image : D → List ℕ → Type 0) (faults_of : D → ℕ)
-    (script : Script) (content : Option (List ℕ)) (named : Option Object) (posts : List Event) (routed : List Message) (core : Core D) (inbox : Both Event) (out : Both Message) : Type 0 where
+    (limit : ℕ) (script : Script) (content : Option (List ℕ)) (named : Option Object) (posts : List Event) (routed : List Message)
+    (core : Core D) (inbox : Both Event) (out : Both Message) : Type 0 where
   pub origin : Origin
-  pub begun : IsBegun content named origin
+  pub begun : IsBegun limit content named origin
   pub one : IsOne moment_of left_since told image faults_of script origin core
   pub posted : sent_on inbox ≡ posts
   pub given : StartsWith posts (sent_on core.inbox)
@@ -38,9 +40,10 @@ pub record IsSlot {D : Type 0} (moment_of : D → ℕ) (left_since : D → ℕ �
 
 -- As long as memory suffices, all that was taken out of either queue went on.
 pub record IsGoing {D : Type 0} (moment_of : D → ℕ) (left_since : D → ℕ → List ℕ → Type 0) (told : D → Option (List ℕ)) (image : D → List ℕ → Type 0) (faults_of : D → ℕ)
-    (script : Script) (content : Option (List ℕ)) (named : Option Object) (posts : List Event) (routed : List Message) (core : Core D) (inbox : Both Event) (out : Both Message) : Type 0 where
+    (limit : ℕ) (script : Script) (content : Option (List ℕ)) (named : Option Object) (posts : List Event) (routed : List Message)
+    (core : Core D) (inbox : Both Event) (out : Both Message) : Type 0 where
   pub origin : Origin
-  pub begun : IsBegun content named origin
+  pub begun : IsBegun limit content named origin
   pub one : IsOne moment_of left_since told image faults_of script origin core
   pub posted : sent_on inbox ≡ posts
   pub gives : sent_on core.inbox ≡ inbox.got

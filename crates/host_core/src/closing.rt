@@ -38,15 +38,15 @@ pub(crate) fn close<D: Disk + Drop>(
     requires none_left { left.old.items ≡ [] }
     requires can { (script : Script) × CanAllRun D.moment_of D.left_since D.told D.image D.faults_of script objects }
     requires few { length objects.cores.items ≤ 256 }
-    ensures rows { (script : Script) (contents : ℕ → Option (List ℕ)) (named : Slots) (log : SwitchLog)
-        → AreSlots D.moment_of D.left_since D.told D.image D.faults_of script contents named log objects
-        → AreRows D.moment_of D.left_since D.told D.faults_of script contents named log rows.new.items }
-    ensures quiet { (script : Script) (contents : ℕ → Option (List ℕ)) (named : Slots) (log : SwitchLog)
-        → AreGoing D.moment_of D.left_since D.told D.image D.faults_of script contents named log objects
+    ensures rows { (limit : ℕ) (script : Script) (contents : ℕ → Option (List ℕ)) (named : Slots) (log : SwitchLog)
+        → AreSlots D.moment_of D.left_since D.told D.image D.faults_of limit script contents named log objects
+        → AreRows D.moment_of D.left_since D.told D.faults_of limit script contents named log rows.new.items }
+    ensures quiet { (limit : ℕ) (script : Script) (contents : ℕ → Option (List ℕ)) (named : Slots) (log : SwitchLog)
+        → AreGoing D.moment_of D.left_since D.told D.image D.faults_of limit script contents named log objects
         → AreResting script objects → AreRouted objects → AreLetGo D.told script named log rows.new.items }
-    ensures settled { OnOk result ((script : Script) (contents : ℕ → Option (List ℕ)) (named : Slots) (log : SwitchLog)
-        → AreGoing D.moment_of D.left_since D.told D.image D.faults_of script contents named log objects → AreResting script objects
-        → AreRouted objects → AreSettledUnless D.told script contents named log left.new.items rows.new.items) }
+    ensures settled { OnOk result ((limit : ℕ) (script : Script) (contents : ℕ → Option (List ℕ)) (named : Slots) (log : SwitchLog)
+        → AreGoing D.moment_of D.left_since D.told D.image D.faults_of limit script contents named log objects → AreResting script objects
+        → AreRouted objects → AreSettledUnless D.told limit script contents named log left.new.items rows.new.items) }
     ensures left_in { OnOk result (AreLeftIn (length objects.cores.items) left.new.items) }
     ensures many { length rows.new.items ≡ length objects.cores.items }
 {
@@ -75,6 +75,7 @@ fn close_slot<D: Disk + Drop>(
     ensures left { OnOk result.1 (AddsLeft slot core.front.half asked left.old.items left.new.items) }
 {
     laws::one_is_history(&core);
+    laws::one_is_limited(&core);
     laws::one_has_intake(&core);
     laws::one_has_got(&core);
     laws::one_has_class(&core);
@@ -82,10 +83,13 @@ fn close_slot<D: Disk + Drop>(
     laws::one_has_let_go(&core);
     laws::one_has_told(&core);
     laws::one_is_owed(&core);
+    laws::one_tells_no_end(&core);
     laws::one_is_quiet(&core);
     laws::one_leaves(&core);
     laws::one_rests(&core);
+    laws::one_serves_once(&core);
     laws::one_sticks(&core);
+    laws::one_drops(&core);
     let (front, back) = core.split();
     let asked = ask(alloc, asked, slot, &front, left);
     (row_of(front, back), asked)

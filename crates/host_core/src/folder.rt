@@ -50,7 +50,7 @@ pub fn serve<P: Depot, R: Source + Send, W: Sink + Send, G: TurnGate + Sync, T: 
 ) -> Served<R, W>
     requires settings { AreInRange settings.now }
     requires empty { IsEmpty report.old }
-    ensures report { IsReport P.Store.moment_of P.Store.left_since P.Store.told P.Store.faults_of (script_in checked.now)
+    ensures report { IsReport P.Store.moment_of P.Store.left_since P.Store.told P.Store.faults_of settings.now.journal (script_in checked.now)
         (P.slot_at depot.old (string_bytes settings.now.folder)) settings.now.slots result.end report.new }
     ensures lines { ReadsLines (R.left input) (R.left result.input) result.end report.new }
     ensures output { PrintsLines (W.taken out) (W.taken result.out) result.end report.new }
@@ -125,11 +125,11 @@ fn serve_slots<D: Disk + Drop, R: Source, W: Sink, T: Wait>(
     requires room { vec_len report.old.slots + length objects.cores.items ≤ vec_capacity report.old.slots }
     requires few { length objects.cores.items ≤ 256 }
     requires many { length directory ≡ length objects.cores.items }
-    requires going { (contents : ℕ → Option (List ℕ))
-        × AreGoing D.moment_of D.left_since D.told D.image D.faults_of (script_in checked.now) contents directory no_log objects }
-    ensures report { (contents : ℕ → Option (List ℕ)) → IsOneEach directory
-        → AreGoing D.moment_of D.left_since D.told D.image D.faults_of (script_in checked.now) contents directory no_log objects
-        → IsReport D.moment_of D.left_since D.told D.faults_of (script_in checked.now) contents (length directory) result.end report.new }
+    requires going { (limit : ℕ) × (contents : ℕ → Option (List ℕ))
+        × AreGoing D.moment_of D.left_since D.told D.image D.faults_of limit (script_in checked.now) contents directory no_log objects }
+    ensures report { (limit : ℕ) (contents : ℕ → Option (List ℕ)) → IsOneEach directory
+        → AreGoing D.moment_of D.left_since D.told D.image D.faults_of limit (script_in checked.now) contents directory no_log objects
+        → IsReport D.moment_of D.left_since D.told D.faults_of limit (script_in checked.now) contents (length directory) result.end report.new }
     ensures lines { ReadsLines (R.left input) (R.left result.input) result.end report.new }
     ensures output { PrintsLines (W.taken out) (W.taken result.out) result.end report.new }
     ensures many { length report.new.slots.items ≡ length objects.cores.items }
@@ -145,6 +145,11 @@ fn serve_slots<D: Disk + Drop, R: Source, W: Sink, T: Wait>(
     let served = serve_lines(rt, alloc, checked, &mut lines, &mut switch, &mut objects);
     switch_history::laws::answers_are_asked();
     switch_history::laws::calls_come_in_order();
+    switch_history::laws::ends_are_routed();
+    switch_history::laws::posts_fit();
+    switch_history::laws::moments_are_in_range();
+    switch_history::laws::calls_are_answered_once();
+    switch_history::laws::asks_are_answered_once();
     let mut left = Vec::new(alloc);
     let closed = close(alloc, objects, &mut report.slots, &mut left);
     let end = finish(&mut switch, served, closed, left);

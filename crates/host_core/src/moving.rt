@@ -71,13 +71,13 @@ pub(crate) fn run_slot<D: Disk, R: Wait>(
     out: &mut Plain<Message>,
 ) -> Mem<()>
     requires can { CanRun D.moment_of D.left_since D.told D.image D.faults_of (script_in checked.now) core.old }
-    ensures going { OnOk result ((content : Option (List ℕ)) (named : Option Object) (posts : List Event) (routed : List Message)
-        → IsGoing D.moment_of D.left_since D.told D.image D.faults_of (script_in checked.now) content named posts routed core.old inbox.old out.old
-        → IsGoing D.moment_of D.left_since D.told D.image D.faults_of (script_in checked.now) content named posts routed core.new inbox.new out.new) }
+    ensures going { OnOk result ((limit : ℕ) (content : Option (List ℕ)) (named : Option Object) (posts : List Event) (routed : List Message)
+        → IsGoing D.moment_of D.left_since D.told D.image D.faults_of limit (script_in checked.now) content named posts routed core.old inbox.old out.old
+        → IsGoing D.moment_of D.left_since D.told D.image D.faults_of limit (script_in checked.now) content named posts routed core.new inbox.new out.new) }
     ensures resting { OnOk result (IsResting (script_in checked.now) core.new inbox.new) }
-    ensures stands { OnErr result ((content : Option (List ℕ)) (named : Option Object) (posts : List Event) (routed : List Message)
-        → IsGoing D.moment_of D.left_since D.told D.image D.faults_of (script_in checked.now) content named posts routed core.old inbox.old out.old
-        → IsSlot D.moment_of D.left_since D.told D.image D.faults_of (script_in checked.now) content named posts routed core.new inbox.new out.new) }
+    ensures stands { OnErr result ((limit : ℕ) (content : Option (List ℕ)) (named : Option Object) (posts : List Event) (routed : List Message)
+        → IsGoing D.moment_of D.left_since D.told D.image D.faults_of limit (script_in checked.now) content named posts routed core.old inbox.old out.old
+        → IsSlot D.moment_of D.left_since D.told D.image D.faults_of limit (script_in checked.now) content named posts routed core.new inbox.new out.new) }
     ensures again { CanRun D.moment_of D.left_since D.told D.image D.faults_of (script_in checked.now) core.new }
 {
     give(alloc, checked, core, inbox)?;

@@ -3,7 +3,7 @@ ghost use Rattle.std.specs.Prelude.{◌≡◌, ◌≢◌, ◌<◌, ◌++◌, ◌
 ghost use Rattle.std.specs.Option.{option_copied};
 ghost use Rattle.batch_journal.specs.Mounting.{ImageOrHeader, IsMountOf, disk_left};
 ghost use Rattle.batch_journal.specs.Moments.{LeavesOnly};
-ghost use Rattle.batch_journal.specs.Rest.{IsStaged, disk_in};
+ghost use Rattle.batch_journal.specs.Rest.{IsStaged, disk_in, limit_of};
 ghost use Rattle.do_disk.specs.Asks.{for_slot};
 ghost use Rattle.do_tree.specs.Checked.{tree_of as script_in};
 ghost use Rattle.storage_map.specs.Limits.{Object};
@@ -56,7 +56,7 @@ pub(crate) fn open<P: Depot>(
     requires none_left { unopened.old ≡ None }
     ensures all { OnOk result (length objects.new.cores.items ≡ settings.now.slots) }
     ensures some { OnErr result (length objects.new.cores.items < settings.now.slots) }
-    ensures going { AreGoing P.Store.moment_of P.Store.left_since P.Store.told P.Store.image P.Store.faults_of (script_in checked.now)
+    ensures going { AreGoing P.Store.moment_of P.Store.left_since P.Store.told P.Store.image P.Store.faults_of settings.now.journal (script_in checked.now)
         (P.slot_at depot.old (string_bytes settings.now.folder)) directory.new no_log objects.new }
     ensures many { length directory.new ≡ settings.now.slots }
     ensures one_each { IsOneEach directory.new }
@@ -88,8 +88,8 @@ fn open_slot<P: Depot>(
     requires free { AreFreeFrom slot directory.old }
     requires one_each { IsOneEach directory.old }
     requires none_left { unopened.old ≡ None }
-    ensures begun { IfOk result (HasBegun P.Store.moment_of P.Store.left_since P.Store.told P.Store.image P.Store.faults_of (script_in checked.now)
-        (P.slot_at depot.old (string_bytes settings.now.folder) slot) (object_at directory.new slot)) }
+    ensures begun { IfOk result (HasBegun P.Store.moment_of P.Store.left_since P.Store.told P.Store.image P.Store.faults_of settings.now.journal
+        (script_in checked.now) (P.slot_at depot.old (string_bytes settings.now.folder) slot) (object_at directory.new slot)) }
     ensures only { OnlyAt slot directory.old directory.new }
     ensures asked { Asks (P.asked depot.old) (P.asked depot.new) (for_slot (string_bytes settings.now.folder) slot ∷ []) }
     ensures all_asked { OnOk result (P.asked depot.new ≡ P.asked depot.old ++ for_slot (string_bytes settings.now.folder) slot ∷ []) }
@@ -129,7 +129,7 @@ pub fn mount_slot<P: Depot>(
     requires free { AreFreeFrom slot directory.old }
     requires one_each { IsOneEach directory.old }
     requires none_left { unopened.old ≡ None }
-    ensures mounted { IfOk result (IsMountedAt P.Store.moment_of P.Store.left_since P.Store.told P.Store.image
+    ensures mounted { IfOk result (IsMountedAt P.Store.moment_of P.Store.left_since P.Store.told P.Store.image journal
         (P.slot_at depot.old folder.now slot) (object_at directory.new slot)) }
     ensures only { OnlyAt slot directory.old directory.new }
     ensures asked { Asks (P.asked depot.old) (P.asked depot.new) (for_slot folder.now slot ∷ []) }
@@ -164,6 +164,7 @@ fn mount<D: Disk + Drop>(
     requires faults { D.faults_of disk ≡ 0 }
     ensures mounted { IfOk result (IsMountOf D.told D.image D.moment_of D.left_since disk) }
     ensures staged { IfOk result (λ mounted. (object : Object) → IsStaged mounted.journal object []) }
+    ensures limited { IfOk result (λ mounted. limit_of mounted.journal ≡ limit) }
     ensures left { IfOk result (λ mounted. LeavesOnly D.moment_of D.left_since disk (disk_in mounted.journal) (ImageOrHeader (D.told disk) (D.image disk))) }
     ensures none_left { OnOk result (unopened.new ≡ None) }
     ensures stop { IfErr result (λ end. (contents : ℕ → Option (List ℕ)) (named : Slots) (before after : ℕ) → D.told disk ≡ contents slot
@@ -259,8 +260,8 @@ fn take_in(identity: Option<&Identity>, slot: u32, directory: &mut Directory) ->
 // The object of what was mounted.
 fn begin<D: Disk>(alloc: Global, checked: &Checked, mounted: Mounted<D>) -> Core<D>
     requires { (object : Object) → IsStaged mounted.journal object [] }
-    ensures { (content : Option (List ℕ)) (named : Option Object) → IsMountedAt D.moment_of D.left_since D.told D.image content named mounted
-        → HasBegun D.moment_of D.left_since D.told D.image D.faults_of (script_in checked.now) content named result }
+    ensures { (limit : ℕ) (content : Option (List ℕ)) (named : Option Object) → IsMountedAt D.moment_of D.left_since D.told D.image limit content named mounted
+        → HasBegun D.moment_of D.left_since D.told D.image D.faults_of limit (script_in checked.now) content named result }
 {
     let class = class_of(checked, mounted.identity.as_ref());
     let front = Front::new(alloc, checked, class, mounted.map.alarm());

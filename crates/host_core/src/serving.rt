@@ -6,6 +6,7 @@ ghost use Rattle.line_server.specs.Lines.{IsReading, source_of, count_of, fault_
 ghost use Rattle.placement.specs.Slots.{Slots};
 ghost use Rattle.mailbox.specs.Runs.{log_of};
 ghost use Rattle.mailbox.specs.Seen.{seen_line};
+ghost use Rattle.switch_history.specs.Answering.{AreInOrder};
 ghost use Rattle.host_core.specs.Ends.{most_waiting};
 ghost use Rattle.host_core.specs.Objects.{CanAllRun};
 ghost use Rattle.host_core.specs.Reading.{Accepts, AcceptsAll, AcceptsAllRead};
@@ -37,8 +38,8 @@ pub(crate) fn serve_lines<D: Disk, R: Source, W: Sink, T: Wait>(
     switch: &mut Switch<W>,
     objects: &mut Objects<D>,
 ) -> Result<(), Stop>
-    requires serving { (contents : ℕ → Option (List ℕ)) × (named : Slots)
-        × IsServing D.moment_of D.left_since D.told D.image D.faults_of (script_in checked.now) contents named switch.old objects.old }
+    requires serving { (limit : ℕ) × (contents : ℕ → Option (List ℕ)) × (named : Slots)
+        × IsServing D.moment_of D.left_since D.told D.image D.faults_of limit (script_in checked.now) contents named switch.old objects.old }
     requires blank { (log_of switch.old).accepted ≡ [] }
     requires unread { line_fault lines.old ≡ None }
     ensures serving { OnOk result (KeepsServing D.moment_of D.left_since D.told D.image D.faults_of (script_in checked.now) switch.old switch.new objects.old objects.new) }
@@ -49,6 +50,8 @@ pub(crate) fn serve_lines<D: Disk, R: Source, W: Sink, T: Wait>(
     ensures resting { OnOk result (IsAtRest (script_in checked.now) objects.new) }
     ensures read_resting { result ≡ Err Stop.ReadFailed → IsAtRest (script_in checked.now) objects.new }
     ensures many { length objects.new.cores.items ≡ length objects.old.cores.items }
+    ensures order { OnOk result (AreInOrder (log_of switch.new).accepted) }
+    ensures read_order { result ≡ Err Stop.ReadFailed → AreInOrder (log_of switch.new).accepted }
     ensures accepts { (whole : List ℕ) → IsReading R.left whole [] lines.old
         → Accepts whole (R.left (source_of lines.new)) (most_waiting result) (log_of switch.new).accepted (count_of lines.new) }
     ensures all { OnOk result ((whole : List ℕ) → IsReading R.left whole [] lines.old
@@ -74,8 +77,8 @@ fn serve_line<D: Disk, W: Sink, T: Wait>(
     switch: &mut Switch<W>,
     objects: &mut Objects<D>,
 ) -> Result<(), SwitchFault>
-    requires serving { (contents : ℕ → Option (List ℕ)) × (named : Slots)
-        × IsServing D.moment_of D.left_since D.told D.image D.faults_of (script_in checked.now) contents named switch.old objects.old }
+    requires serving { (limit : ℕ) × (contents : ℕ → Option (List ℕ)) × (named : Slots)
+        × IsServing D.moment_of D.left_since D.told D.image D.faults_of limit (script_in checked.now) contents named switch.old objects.old }
     ensures serving { OnOk result (KeepsServing D.moment_of D.left_since D.told D.image D.faults_of (script_in checked.now) switch.old switch.new objects.old objects.new) }
     ensures served { LeavesServed D.moment_of D.left_since D.told D.image D.faults_of (script_in checked.now) switch.old switch.new objects.old objects.new }
     ensures again { CanAllRun D.moment_of D.left_since D.told D.image D.faults_of (script_in checked.now) objects.new }

@@ -26,14 +26,14 @@ pub(crate) fn settle<D: Disk, W: Sink, T: Wait>(
     switch: &mut Switch<W>,
     objects: &mut Objects<D>,
 ) -> Result<(), SwitchFault>
-    requires serving { (contents : ℕ → Option (List ℕ)) × (named : Slots)
-        × IsServing D.moment_of D.left_since D.told D.image D.faults_of (script_in checked.now) contents named switch.old objects.old }
-    ensures serving { OnOk result ((contents : ℕ → Option (List ℕ)) (named : Slots)
-        → IsServing D.moment_of D.left_since D.told D.image D.faults_of (script_in checked.now) contents named switch.old objects.old
-        → IsServing D.moment_of D.left_since D.told D.image D.faults_of (script_in checked.now) contents named switch.new objects.new) }
-    ensures served { OnErr result ((contents : ℕ → Option (List ℕ)) (named : Slots)
-        → IsServing D.moment_of D.left_since D.told D.image D.faults_of (script_in checked.now) contents named switch.old objects.old
-        → HasServed D.moment_of D.left_since D.told D.image D.faults_of (script_in checked.now) contents named switch.new objects.new) }
+    requires serving { (limit : ℕ) × (contents : ℕ → Option (List ℕ)) × (named : Slots)
+        × IsServing D.moment_of D.left_since D.told D.image D.faults_of limit (script_in checked.now) contents named switch.old objects.old }
+    ensures serving { OnOk result ((limit : ℕ) (contents : ℕ → Option (List ℕ)) (named : Slots)
+        → IsServing D.moment_of D.left_since D.told D.image D.faults_of limit (script_in checked.now) contents named switch.old objects.old
+        → IsServing D.moment_of D.left_since D.told D.image D.faults_of limit (script_in checked.now) contents named switch.new objects.new) }
+    ensures served { OnErr result ((limit : ℕ) (contents : ℕ → Option (List ℕ)) (named : Slots)
+        → IsServing D.moment_of D.left_since D.told D.image D.faults_of limit (script_in checked.now) contents named switch.old objects.old
+        → HasServed D.moment_of D.left_since D.told D.image D.faults_of limit (script_in checked.now) contents named switch.new objects.new) }
     ensures again { CanAllRun D.moment_of D.left_since D.told D.image D.faults_of (script_in checked.now) objects.new }
     ensures resting { OnOk result (AreResting (script_in checked.now) objects.new) }
     ensures routed { OnOk result (AreRouted objects.new) }
@@ -57,14 +57,14 @@ fn go_round<D: Disk, W: Sink, T: Wait>(
     switch: &mut Switch<W>,
     objects: &mut Objects<D>,
 ) -> Result<bool, SwitchFault>
-    requires serving { (contents : ℕ → Option (List ℕ)) × (named : Slots)
-        × IsServing D.moment_of D.left_since D.told D.image D.faults_of (script_in checked.now) contents named switch.old objects.old }
-    ensures serving { OnOk result ((contents : ℕ → Option (List ℕ)) (named : Slots)
-        → IsServing D.moment_of D.left_since D.told D.image D.faults_of (script_in checked.now) contents named switch.old objects.old
-        → IsServing D.moment_of D.left_since D.told D.image D.faults_of (script_in checked.now) contents named switch.new objects.new) }
-    ensures served { OnErr result ((contents : ℕ → Option (List ℕ)) (named : Slots)
-        → IsServing D.moment_of D.left_since D.told D.image D.faults_of (script_in checked.now) contents named switch.old objects.old
-        → HasServed D.moment_of D.left_since D.told D.image D.faults_of (script_in checked.now) contents named switch.new objects.new) }
+    requires serving { (limit : ℕ) × (contents : ℕ → Option (List ℕ)) × (named : Slots)
+        × IsServing D.moment_of D.left_since D.told D.image D.faults_of limit (script_in checked.now) contents named switch.old objects.old }
+    ensures serving { OnOk result ((limit : ℕ) (contents : ℕ → Option (List ℕ)) (named : Slots)
+        → IsServing D.moment_of D.left_since D.told D.image D.faults_of limit (script_in checked.now) contents named switch.old objects.old
+        → IsServing D.moment_of D.left_since D.told D.image D.faults_of limit (script_in checked.now) contents named switch.new objects.new) }
+    ensures served { OnErr result ((limit : ℕ) (contents : ℕ → Option (List ℕ)) (named : Slots)
+        → IsServing D.moment_of D.left_since D.told D.image D.faults_of limit (script_in checked.now) contents named switch.old objects.old
+        → HasServed D.moment_of D.left_since D.told D.image D.faults_of limit (script_in checked.now) contents named switch.new objects.new) }
     ensures again { CanAllRun D.moment_of D.left_since D.told D.image D.faults_of (script_in checked.now) objects.new }
     ensures resting { result ≡ Ok false → AreResting (script_in checked.now) objects.new }
     ensures routed { OnOk result (AreRouted objects.new) }
@@ -85,14 +85,14 @@ fn route_all<D: Disk, W: Sink, T: Wait>(
     switch: &mut Switch<W>,
     objects: &mut Objects<D>,
 ) -> Result<bool, SwitchFault>
-    requires serving { (contents : ℕ → Option (List ℕ)) × (named : Slots)
-        × IsServing D.moment_of D.left_since D.told D.image D.faults_of (script_in checked.now) contents named switch.old objects.old }
-    ensures serving { OnOk result ((contents : ℕ → Option (List ℕ)) (named : Slots)
-        → IsServing D.moment_of D.left_since D.told D.image D.faults_of (script_in checked.now) contents named switch.old objects.old
-        → IsServing D.moment_of D.left_since D.told D.image D.faults_of (script_in checked.now) contents named switch.new objects.new) }
-    ensures served { OnErr result ((contents : ℕ → Option (List ℕ)) (named : Slots)
-        → IsServing D.moment_of D.left_since D.told D.image D.faults_of (script_in checked.now) contents named switch.old objects.old
-        → HasServed D.moment_of D.left_since D.told D.image D.faults_of (script_in checked.now) contents named switch.new objects.new) }
+    requires serving { (limit : ℕ) × (contents : ℕ → Option (List ℕ)) × (named : Slots)
+        × IsServing D.moment_of D.left_since D.told D.image D.faults_of limit (script_in checked.now) contents named switch.old objects.old }
+    ensures serving { OnOk result ((limit : ℕ) (contents : ℕ → Option (List ℕ)) (named : Slots)
+        → IsServing D.moment_of D.left_since D.told D.image D.faults_of limit (script_in checked.now) contents named switch.old objects.old
+        → IsServing D.moment_of D.left_since D.told D.image D.faults_of limit (script_in checked.now) contents named switch.new objects.new) }
+    ensures served { OnErr result ((limit : ℕ) (contents : ℕ → Option (List ℕ)) (named : Slots)
+        → IsServing D.moment_of D.left_since D.told D.image D.faults_of limit (script_in checked.now) contents named switch.old objects.old
+        → HasServed D.moment_of D.left_since D.told D.image D.faults_of limit (script_in checked.now) contents named switch.new objects.new) }
     ensures cores { objects.new.cores.items ≡ objects.old.cores.items }
     ensures resting { result ≡ Ok false → (script : Script) → AreResting script objects.old → AreResting script objects.new }
     ensures routed { OnOk result (AreRouted objects.new) }
@@ -115,14 +115,14 @@ fn route_one<D: Disk, W: Sink>(
     switch: &mut Switch<W>,
     objects: &mut Objects<D>,
 ) -> Result<bool, SwitchFault>
-    requires serving { (contents : ℕ → Option (List ℕ)) × (named : Slots)
-        × IsServing D.moment_of D.left_since D.told D.image D.faults_of (script_in checked.now) contents named switch.old objects.old }
-    ensures serving { OnOk result ((contents : ℕ → Option (List ℕ)) (named : Slots)
-        → IsServing D.moment_of D.left_since D.told D.image D.faults_of (script_in checked.now) contents named switch.old objects.old
-        → IsServing D.moment_of D.left_since D.told D.image D.faults_of (script_in checked.now) contents named switch.new objects.new) }
-    ensures served { OnErr result ((contents : ℕ → Option (List ℕ)) (named : Slots)
-        → IsServing D.moment_of D.left_since D.told D.image D.faults_of (script_in checked.now) contents named switch.old objects.old
-        → HasServed D.moment_of D.left_since D.told D.image D.faults_of (script_in checked.now) contents named switch.new objects.new) }
+    requires serving { (limit : ℕ) × (contents : ℕ → Option (List ℕ)) × (named : Slots)
+        × IsServing D.moment_of D.left_since D.told D.image D.faults_of limit (script_in checked.now) contents named switch.old objects.old }
+    ensures serving { OnOk result ((limit : ℕ) (contents : ℕ → Option (List ℕ)) (named : Slots)
+        → IsServing D.moment_of D.left_since D.told D.image D.faults_of limit (script_in checked.now) contents named switch.old objects.old
+        → IsServing D.moment_of D.left_since D.told D.image D.faults_of limit (script_in checked.now) contents named switch.new objects.new) }
+    ensures served { OnErr result ((limit : ℕ) (contents : ℕ → Option (List ℕ)) (named : Slots)
+        → IsServing D.moment_of D.left_since D.told D.image D.faults_of limit (script_in checked.now) contents named switch.old objects.old
+        → HasServed D.moment_of D.left_since D.told D.image D.faults_of limit (script_in checked.now) contents named switch.new objects.new) }
     ensures cores { objects.new.cores.items ≡ objects.old.cores.items }
     ensures resting { result ≡ Ok false → (script : Script) → AreResting script objects.old → AreResting script objects.new }
     ensures routed { result ≡ Ok false → AreRouted objects.new }
@@ -143,13 +143,13 @@ fn run_slots<D: Disk, T: Wait>(
     objects: &mut Objects<D>,
 ) -> Mem<()>
     requires can { CanAllRun D.moment_of D.left_since D.told D.image D.faults_of (script_in checked.now) objects.old }
-    ensures going { OnOk result ((contents : ℕ → Option (List ℕ)) (named : Slots) (log : SwitchLog)
-        → AreGoing D.moment_of D.left_since D.told D.image D.faults_of (script_in checked.now) contents named log objects.old
-        → AreGoing D.moment_of D.left_since D.told D.image D.faults_of (script_in checked.now) contents named log objects.new) }
+    ensures going { OnOk result ((limit : ℕ) (contents : ℕ → Option (List ℕ)) (named : Slots) (log : SwitchLog)
+        → AreGoing D.moment_of D.left_since D.told D.image D.faults_of limit (script_in checked.now) contents named log objects.old
+        → AreGoing D.moment_of D.left_since D.told D.image D.faults_of limit (script_in checked.now) contents named log objects.new) }
     ensures resting { OnOk result (AreResting (script_in checked.now) objects.new) }
-    ensures stands { OnErr result ((contents : ℕ → Option (List ℕ)) (named : Slots) (log : SwitchLog)
-        → AreGoing D.moment_of D.left_since D.told D.image D.faults_of (script_in checked.now) contents named log objects.old
-        → AreSlots D.moment_of D.left_since D.told D.image D.faults_of (script_in checked.now) contents named log objects.new) }
+    ensures stands { OnErr result ((limit : ℕ) (contents : ℕ → Option (List ℕ)) (named : Slots) (log : SwitchLog)
+        → AreGoing D.moment_of D.left_since D.told D.image D.faults_of limit (script_in checked.now) contents named log objects.old
+        → AreSlots D.moment_of D.left_since D.told D.image D.faults_of limit (script_in checked.now) contents named log objects.new) }
     ensures again { CanAllRun D.moment_of D.left_since D.told D.image D.faults_of (script_in checked.now) objects.new }
     ensures many { length objects.new.cores.items ≡ length objects.old.cores.items }
 {

@@ -6,3 +6,4 @@ pub mod Taken
 pub mod Written
 pub mod Left
 pub mod Runs
+pub mod SoFar

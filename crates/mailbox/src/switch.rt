@@ -281,6 +281,13 @@ impl<W: Sink> Switch<W> {
         }
     }
 
+    /// The fault at which it stands, if any.
+    pub fn fault(&self) -> Option<SwitchFault>
+        ensures { result ≡ fault_of self.now }
+    {
+        self.fault
+    }
+
     /// What it has done.
     pub fn log(&self) -> &SwitchLog
         ensures { result.now ≡ self.now.log }

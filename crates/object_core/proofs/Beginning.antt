@@ -1,18 +1,20 @@
 -- An object whose slot was just mounted.
 use Rattle.std.proofs.Common.{◌≡◌, ◌∙◌, ap, sym, refl, subst, inl, inr, true≢false, ℕ, suc, List, [], ◌++◌, length, arith, Option}
 use Rattle.std.specs.Prelude.{Bool, is_some}
-use Rattle.std.specs.List.{flat_map}
+use Rattle.std.proofs.lemmas.List.Elements.{All-nil}
+use Rattle.std.specs.List.{All, Contains, flat_map}
 use Rattle.do_tree.specs.Tree.{Script}
 use Rattle.lane.specs.Lanes.{Both}
 use Rattle.storage_map.specs.Contents.{Contents}
 use Rattle.storage_map.specs.declared.op.Op.{Op}
 use Rattle.timeline.specs.Intake.{opened}
 use Rattle.timeline.specs.Logs.{Fronted, Backed, fronted, backed}
+use Rattle.timeline.specs.declared.back_log.Stop.{Stop}
 use Rattle.timeline.specs.declared.entry.Entry.{Entry}
 use Rattle.timeline.specs.declared.event.Event.{Event}
 use Rattle.timeline.specs.declared.message.Message.{Message as Sent}
 use Rattle.timeline.specs.declared.notice.Notice.{Notice}
-use Rattle.object_front.specs.Standing.{IsTakenBy, kind_in, fresh}
+use Rattle.object_front.specs.Standing.{IsTakenBy, kind_in, fresh, nothing_logged}
 use Rattle.object_front.specs.Came.{EventsCome}
 use Rattle.object_front.specs.Classed.{class_by}
 use Rattle.object_front.specs.declared.evaluated.Evaluated.{Evaluated}
@@ -26,6 +28,7 @@ use Rattle.object_history.specs.Seen.{held_of, stand_of}
 use Rattle.front_history.specs.Turns.{FrontBegins}
 use Rattle.object_core.proofs.Due.{seen_is_rear}
 use Rattle.object_core.proofs.Rebuilding.{One, due_now}
+use Rattle.object_core.specs.Dropping.{IsFitFor, MayDrop}
 use Rattle.object_core.specs.Fitting.{known_over}
 use Rattle.object_core.specs.One.{AreFresh, Origin, class_in, messages, mounted_at, unused}
 use Rattle.object_core.specs.Seen.{due_map, seen_of}
@@ -43,6 +46,9 @@ module _ {D : Type 0} (moment_of : D → ℕ) (left_since : D → ℕ → List �
   is_mounted : (sound : Bool) → IsBackAs moment_of left_since told image faults_of start opening sound back → back.mode ≡ Mounted
   is_mounted sound (inl m) = m.safe.mode
   is_mounted sound (inr u) = none_ended (length back.log.stops.items) (length back.log.ends.items) (ap (λ (x : Backed). length x.stops) are.back_log) u.safe.gone
+
+  no_stop : {A : Type 0} (stop : Stop) → back.log.stops.items ≡ [] → Contains back.log.stops.items stop → A
+  no_stop stop none has = let few = has.1 in absurd (omega (arith, few, ap length none))
 
   -- nothing was taken
   none_taken : (class : ℕ) → IsTakenBy (kind_in script class) (opened back.cache.alarm) [] (opened back.cache.alarm) (fronted front.log)
@@ -88,6 +94,13 @@ module _ {D : Type 0} (moment_of : D → ℕ) (left_since : D → ℕ → List �
       answer = λ so. absurd (true≢false (sym so));
     };
     sticks = λ tells on stuck. absurd (true≢false (sym stuck ∙ are.stands.stuck));
+    limited = record { kept = refl; journal = are.limit; full = λ stop has. no_stop stop (ap (λ (x : Backed). x.stops) are.back_log) has };
+    drops = λ tells. record {
+      unbound = λ on none. (ap (λ (x : Option ℕ). fresh x back.cache.alarm) none, ap (λ (x : Fronted). x.sent) are.front_log);
+      keeps = λ on class is. All-nil (IsFitFor script class);
+      class = λ on fit. refl;
+      dropped = λ fit. subst (λ (x : Fronted). All (MayDrop x back.log.downs.items) x.dropped) (sym are.front_log) (All-nil (MayDrop nothing_logged back.log.downs.items));
+    };
   }
 
   -- over queues through which nothing went

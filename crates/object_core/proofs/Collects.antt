@@ -12,7 +12,8 @@ use Rattle.object_front.specs.Came.{HasGot}
 use Rattle.object_front.specs.declared.evaluated.Evaluated.{Evaluated}
 use Rattle.object_front.specs.declared.half.Half.{Half}
 use Rattle.output_gate.specs.declared.back.Back.{Back}
-use Rattle.object_core.specs.One.{IsOneOf, Origin, SticksAtAnswers}
+use Rattle.object_core.specs.Dropping.{IsDropping}
+use Rattle.object_core.specs.One.{IsOneOf, Origin, SticksAtAnswers, class_in}
 
 -- what was sent on a queue is the same whatever is taken
 pub still_sent : {X : Type 0} (queue later : Both X) (result : Option X) → IfNone result ((queue.waiting ≡ []) × (later ≡ queue))
@@ -42,6 +43,8 @@ module _ {D : Type 0} (moment_of : D → ℕ) (left_since : D → ℕ → List �
     fits = one.fits;
     heard = one.heard;
     sticks = one.sticks;
+    limited = one.limited;
+    drops = one.drops;
   }
 
 module _ {D : Type 0} (moment_of : D → ℕ) (left_since : D → ℕ → List ℕ → Type 0) (told : D → Option (List ℕ)) (image : D → List ℕ → Type 0) (faults_of : D → ℕ)
@@ -67,4 +70,6 @@ module _ {D : Type 0} (moment_of : D → ℕ) (left_since : D → ℕ → List �
     fits = one.fits;
     heard = one.heard;
     sticks = subst (λ (got : List Event). SticksAtAnswers told front back got) (sym same) one.sticks;
+    limited = one.limited;
+    drops = λ tells. subst (λ (got : List Event). IsDropping script (class_in script origin.object) one.alarm front one.st back.log.downs.items got) (sym same) (one.drops tells);
   }

@@ -16,7 +16,7 @@ use Rattle.object_front.specs.declared.evaluated.Evaluated.{Evaluated}
 use Rattle.object_front.specs.declared.half.Half.{Half}
 use Rattle.output_gate.specs.Flushing.{Flushes}
 use Rattle.output_gate.specs.Serving.{KeepsBack, is_stopped}
-use Rattle.output_gate.specs.Storing.{KeepsTelling}
+use Rattle.output_gate.specs.Storing.{KeepsLimit, KeepsTelling}
 use Rattle.output_gate.specs.Telling.{opened_map}
 use Rattle.output_gate.specs.declared.back.Back.{Back}
 use Rattle.object_history.proofs.GateStepping as gate
@@ -24,6 +24,7 @@ use Rattle.object_history.specs.Seen.{rear_of}
 use Rattle.object_history.specs.Stepping.{BackSteps}
 use Rattle.front_history.specs.Turns.{BackStepsKeep}
 use Rattle.object_core.proofs.Due.{steps_unheard}
+use Rattle.object_core.proofs.Limiting.{limited_flush}
 use Rattle.object_core.proofs.Rebuilding.{One, hears_on, stepped}
 use Rattle.object_core.specs.One.{Origin, messages}
 
@@ -33,6 +34,7 @@ pub record FlushesBy {D : Type 0} (moment_of : D → ℕ) (left_since : D → �
   pub nothing : old.before ≡ old.durable → (result ≡ Nothing) × (new ≡ old)
   pub flushed : old.before ≢ old.durable → (result ≡ Did) × Flushes faults_of old new
   pub tells : KeepsTelling told old.store new.store
+  pub limit : KeepsLimit old.store new.store
   pub stopped : is_stopped new ≡ is_stopped old
   pub back : KeepsBack moment_of left_since told image faults_of old new
 
@@ -77,6 +79,8 @@ module _ {D : Type 0} (moment_of : D → ℕ) (left_since : D → ℕ → List �
       (λ tells. record { heard = s.0; given = []; steps = s.1; are = inr refl; come = sym (append-nil notices.waiting) })
       (hears_on moment_of left_since told image faults_of script origin front inbox old new line notices out one by.tells (λ goes. sym by.stopped ∙ goes) []
       (one.lost ++ line.waiting) [] notices.waiting steps refl (sym (append-nil notices.waiting)))
+      (limited_flush moment_of left_since told image faults_of origin.start origin.opening (not (is_stopped old)) origin.limit old new one.back_stands differ flushes
+      (by.limit old.limit) one.limited)
 
   pub flush_keeps : After
   flush_keeps = ⊎_elim nothing_flown flown (cases_eq old.before old.durable)

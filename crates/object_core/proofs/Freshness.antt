@@ -31,4 +31,5 @@ are_fresh script mounted front back made stands unlogged =
       held = made.held;
       free = made.stuck;
       serves = made.stopped;
+      limit = made.journal;
     }

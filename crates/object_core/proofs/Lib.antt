@@ -1,12 +1,12 @@
-mod Due
-mod Alike
+pub mod Due
+pub mod Alike
 mod Hearing
 mod Heeding
 mod Attending
 mod Sending
 mod SentFit
 mod DownSaid
-mod FitTaken
+pub mod FitTaken
 mod KnownObject
 mod NextFits
 mod Fitting
@@ -14,9 +14,13 @@ mod Lanes
 mod Naming
 mod Pairing
 mod Sticking
+mod Becoming
+mod Dropping
 mod Owing
 mod Leaving
-mod Rebuilding
+mod Drops
+mod Limiting
+pub mod Rebuilding
 mod Taking
 mod Flushing
 mod Releasing
@@ -31,3 +35,6 @@ mod Freshness
 mod Telling
 mod Emptied
 mod Quiet
+pub mod Unended
+mod Serving
+mod Once

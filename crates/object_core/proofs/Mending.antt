@@ -16,7 +16,7 @@ use Rattle.timeline.specs.declared.notice.Stepped.TheVariants.{Did, Nothing}
 use Rattle.object_front.specs.declared.evaluated.Evaluated.{Evaluated}
 use Rattle.object_front.specs.declared.half.Half.{Half}
 use Rattle.output_gate.specs.Mending.{IsIdleMend, Mends, LosesMend, Remounts, may_mend}
-use Rattle.output_gate.specs.Storing.{KeepsTelling}
+use Rattle.output_gate.specs.Storing.{HasLimit, KeepsTelling}
 use Rattle.output_gate.specs.Serving.{IsBack, IsAsBefore, KeepsBack, StopsBy, is_stopped}
 use Rattle.output_gate.specs.Telling.{opened_map}
 use Rattle.output_gate.specs.declared.back.Back.{Back}
@@ -28,7 +28,9 @@ use Rattle.object_history.specs.Seen.{rear_of, stand_of}
 use Rattle.front_history.specs.Turns.{BackStepsKeep}
 use Rattle.object_core.proofs.Due.{steps_as_due, steps_unheard}
 use Rattle.object_core.proofs.Lanes.{took_none, sent_last}
+use Rattle.object_core.proofs.Limiting.{limited_as_before, limited_remounts}
 use Rattle.object_core.proofs.Rebuilding.{One, hears_on, due_now, told_earlier, stepped, unseen, same_queue}
+use Rattle.object_core.specs.Limited.{IsLimitedBy}
 use Rattle.object_core.specs.One.{Origin, messages}
 
 -- What the back's own contract says of a mounting.
@@ -41,6 +43,7 @@ pub record MendsBy {D : Type 0} (moment_of : D → ℕ) (left_since : D → ℕ 
   pub lost : OnErr result (LosesMend faults_of old new (sent_on notices) (sent_on later))
   pub stops : StopsBy result new
   pub tells : KeepsTelling told old.store new.store
+  pub limit : HasLimit old.limit old.store → HasLimit old.limit new.store
   pub outlet : later.got ≡ notices.got
   pub back : KeepsBack moment_of left_since told image faults_of old new
 
@@ -74,15 +77,19 @@ module _ {D : Type 0} (moment_of : D → ℕ) (left_since : D → ℕ → List �
   abbrev Known : Type 0
   Known = IsBack moment_of left_since told image faults_of origin.start origin.opening new
 
+  -- A journal that is mounted again has the back's limit.
+  abbrev KeepsOwn : Type 0
+  KeepsOwn = HasLimit old.limit old.store → HasLimit old.limit new.store
+
   idle : new ≡ old → later.got ≡ notices.got → sent_on later ≡ sent_on notices → After
   idle same got said =
       subst (λ (b : Back D). One moment_of left_since told image faults_of script origin front inbox b line later out) (sym same)
       (subst (λ (n : Both Notice). One moment_of left_since told image faults_of script origin front inbox old line n out)
       (sym (same_queue notices later got (sym (took_none notices later got said)))) one)
 
-  mounts : is_stopped old ≡ false → is_stopped new ≡ false → Known → KeepsTelling told old.store new.store → later.got ≡ notices.got
+  mounts : is_stopped old ≡ false → is_stopped new ≡ false → Known → KeepsTelling told old.store new.store → KeepsOwn → later.got ≡ notices.got
       → Mends faults_of old new (sent_on notices) (sent_on later) → After
-  mounts on goes known telling got m =
+  mounts on goes known telling own got m =
       let s = gate.mend_steps moment_of left_since told image faults_of origin.start origin.opening (not (is_stopped old)) old new (sent_on notices) (sent_on later) one.back_stands m in
       stepped moment_of left_since told image faults_of script origin front inbox keeps old new line notices later out out one known telling
       (identity_still faults_of old new m.ending m.notice m.remounts)
@@ -102,11 +109,15 @@ module _ {D : Type 0} (moment_of : D → ℕ) (left_since : D → ℕ → List �
       })
       (hears_on moment_of left_since told image faults_of script origin front inbox old new line notices out one telling (λ off. on) [] (one.lost ++ line.waiting) s.0
       later.waiting s.2 refl (sent_last notices later s.0 got s.1))
+      (limited_remounts origin.limit old new faults_of m.ending m.notice m.remounts own one.limited)
+
+  limited_noted : IsLimitedBy origin.limit (record new { stopped = old.stopped }) → IsLimitedBy origin.limit new
+  limited_noted by = record { kept = by.kept; journal = by.journal; full = by.full }
 
   -- What the front is told of it is lost.
-  unheard : is_stopped new ≡ true → Known → KeepsTelling told old.store new.store → later.got ≡ notices.got → sent_on later ≡ sent_on notices
+  unheard : is_stopped new ≡ true → Known → KeepsTelling told old.store new.store → KeepsOwn → later.got ≡ notices.got → sent_on later ≡ sent_on notices
       → (ending : Ending) (notice : Notice) → old.mode ≡ Wanted ending → Remounts faults_of old (record new { stopped = old.stopped }) ending notice → After
-  unheard off known telling got said ending notice wants remounts =
+  unheard off known telling own got said ending notice wants remounts =
       let noted : Back D = record new { stopped = old.stopped } in
       let m : Mends faults_of old noted [] (notice ∷ []) = record { ending = ending; notice = notice; wanted = wants; remounts = remounts; told = refl } in
       let s = gate.mend_steps moment_of left_since told image faults_of origin.start origin.opening (not (is_stopped old)) old noted [] (notice ∷ []) one.back_stands m in
@@ -125,21 +136,23 @@ module _ {D : Type 0} (moment_of : D → ℕ) (left_since : D → ℕ → List �
         come = sym (took_none notices later got said) ∙ sym (append-nil notices.waiting);
       })
       (λ tells on goes. absurd (true≢false (sym off ∙ goes)))
+      (limited_noted (limited_remounts origin.limit old noted faults_of ending notice remounts own one.limited))
 
-  loses : is_stopped new ≡ true → Known → KeepsTelling told old.store new.store → later.got ≡ notices.got → sent_on later ≡ sent_on notices
+  loses : is_stopped new ≡ true → Known → KeepsTelling told old.store new.store → KeepsOwn → later.got ≡ notices.got → sent_on later ≡ sent_on notices
       → IsAsBefore old new ⊎ ((ending : Ending) × (notice : Notice) × (old.mode ≡ Wanted ending) × Remounts faults_of old (record new { stopped = old.stopped }) ending notice)
       → After
-  loses off known telling got said (inl same) =
+  loses off known telling own got said (inl same) =
       unseen moment_of left_since told image faults_of script origin front inbox keeps old new line notices later out out one known telling same.identity
       (λ free on. absurd (true≢false (sym off ∙ on))) (λ on. absurd (true≢false (sym off ∙ on))) same.log same.held same.mode same.before same.durable got said refl off
-  loses off known telling got said (inr lost) = unheard off known telling got said lost.0 lost.1 lost.2 lost.3
+      (limited_as_before origin.limit old new same own one.limited)
+  loses off known telling own got said (inr lost) = unheard off known telling own got said lost.0 lost.1 lost.2 lost.3
 
   ran : (result : Result Stepped NoMemory) → is_stopped old ≡ false → Known → MendsBy moment_of left_since told image faults_of old new notices later result → After
-  ran (Ok Did) on known by = mounts on by.stops.good known by.tells by.outlet (by.mended refl)
+  ran (Ok Did) on known by = mounts on by.stops.good known by.tells by.limit by.outlet (by.mended refl)
   ran (Ok Nothing) on known by =
       let i = by.barred on (by.nothing refl) in
       idle i.back by.outlet i.told
-  ran (Err fault) on known by = loses by.stops.wanting known by.tells by.outlet by.lost.told by.lost.log
+  ran (Err fault) on known by = loses by.stops.wanting known by.tells by.limit by.outlet by.lost.told by.lost.log
 
   stopped_as : (off : Bool) → is_stopped old ≡ off → (result : Result Stepped NoMemory)
       → MendsBy moment_of left_since told image faults_of old new notices later result → After

@@ -29,19 +29,19 @@ use Rattle.object_core.specs.Owing.{IsOwed}
 use Rattle.object_core.specs.declared.object.Core.{Core}
 
 -- The messages of what was released, and of what passes.
-abbrev first_of : Sent × ℕ → Sent
+abbrev pub first_of : Sent × ℕ → Sent
 first_of item = item.0
 
-released_first : (released : List Release) → map first_of (map release_of released) ≡ messages released
+pub released_first : (released : List Release) → map first_of (map release_of released) ≡ messages released
 released_first [] = refl
 released_first (r ∷ released) = ap (λ (ms : List Sent). r.message ∷ ms) (released_first released)
 
-passed_first : (items : List Passed) → map first_of (map pass_of items) ≡ gone items
+pub passed_first : (items : List Passed) → map first_of (map pass_of items) ≡ gone items
 passed_first [] = refl
 passed_first (p ∷ items) = ap (λ (ms : List Sent). p.message ∷ ms) (passed_first items)
 
 -- What left begins what passes.
-released_begin : (released : List Release) (items : List Passed) → IsPrefix (map release_of released) (map pass_of items) → IsPrefix (messages released) (gone items)
+pub released_begin : (released : List Release) (items : List Passed) → IsPrefix (map release_of released) (map pass_of items) → IsPrefix (messages released) (gone items)
 released_begin released items (rest, is) = (
   map first_of rest,
   ap (λ (ms : List Sent). ms ++ map first_of rest) (sym (released_first released)) ∙ sym (map-append first_of (map release_of released) rest)
@@ -63,7 +63,7 @@ asks_among first whole (rest, is) asked has =
     (Contains-append_left (asked_in first) (asked_in rest) asked has)
 
 -- So the messages among what entries say.
-messages_begin : (first whole : List Entry) → IsPrefix first whole → IsPrefix (messages_of first) (messages_of whole)
+pub messages_begin : (first whole : List Entry) → IsPrefix first whole → IsPrefix (messages_of first) (messages_of whole)
 messages_begin first whole (rest, is) =
     (messages_of rest, sym (flat_map-append (λ (entry : Entry). message_of entry.body) first rest) ∙ ap messages_of is)
 

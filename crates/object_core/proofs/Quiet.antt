@@ -117,7 +117,7 @@ rests (serves (waiting o t b)) none = absurd (true≢false none)
 rests (serves (ended c)) none = tt
 rests (down call) none = tt
 
-none_wanting : (m : Mode) → waits m ≡ false → wanting m ≡ []
+pub none_wanting : (m : Mode) → waits m ≡ false → wanting m ≡ []
 none_wanting (serves state) none = refl
 none_wanting (down None) none = refl
 none_wanting (down (Some call)) none = absurd (true≢false none)
@@ -244,7 +244,7 @@ module _ {D : Type 0} (moment_of : D → ℕ) (left_since : D → ℕ → List �
     no_news (inl has) = true≢false (sym has ∙ ap (λ (ns : List Notice). list_any is_news ns) front_rests.0)
     no_news (inr want) = none_wanted back.mode no_mounting want
 
-    is_newest : one.st.front.incarnation ≡ suc (length log.stops)
+    pub is_newest : one.st.front.incarnation ≡ suc (length log.stops)
     is_newest = ⊎_elim (λ same. sym same) (λ differs. absurd (no_news (hears.news differs))) (cases_eq (newest log) one.st.front.incarnation)
 
     same_below : is_pair.below ≡ length log.stops

@@ -31,6 +31,7 @@ use Rattle.object_history.specs.Stepping.{BackSteps}
 use Rattle.front_history.specs.Paired.{ArePaired}
 use Rattle.front_history.specs.Turns.{BackStepsKeep}
 use Rattle.object_core.proofs.Alike.{class_for}
+use Rattle.object_core.proofs.Dropping.{KeepsDowns, downs_drops, steps_downs}
 use Rattle.object_core.proofs.Due.{IsDue, is_due, seen_is_rear}
 use Rattle.object_core.proofs.Hearing.{back_heard}
 use Rattle.object_core.proofs.Lanes.{took_none}
@@ -38,7 +39,8 @@ use Rattle.object_core.proofs.Naming.{named_still}
 use Rattle.object_core.proofs.Pairing.{Hears, paired_on, paired_as, pair_now}
 use Rattle.object_core.specs.Heard.{IsHeard}
 use Rattle.object_core.specs.Fitting.{known_over}
-use Rattle.object_core.specs.One.{FitsItsBack, HearsOfBack, IsNamed, IsOneOf, Origin, TellsNow, messages}
+use Rattle.object_core.specs.Limited.{IsLimitedBy}
+use Rattle.object_core.specs.One.{FitsItsBack, HearsOfBack, IsNamed, IsOneOf, Origin, TellsNow, class_in, messages}
 use Rattle.object_core.specs.Seen.{due_map, seen_of}
 
 abbrev looks : Contents → Backed → Stand → List Held → ℕ → ℕ → Rear
@@ -120,8 +122,9 @@ module _ {D : Type 0} (moment_of : D → ℕ) (left_since : D → ℕ → List �
       → (lost : List Entry) → (new.stuck ≡ false → is_stopped new ≡ false → lost ≡ [])
       → front.log.sent.items ≡ new.log.taken.items ++ lost ++ later_line.waiting → messages new.log.released.items ≡ origin.left ++ sent_on later_out
       → StaysPair old new line later_line notices later out one lost → StillHears old new line notices out one (lost ++ later_line.waiting) later.waiting
-      → FitsItsBack told script origin.object front new → One new later_line later later_out
-  rebuilt old new line later_line notices later out later_out one stands telling named lost none is_line left pair heard fits = record {
+      → FitsItsBack told script origin.object front new → IsLimitedBy origin.limit new
+      → (TellsNow told new → KeepsDowns old.log.downs.items new.log.downs.items) → One new later_line later later_out
+  rebuilt old new line later_line notices later out later_out one stands telling named lost none is_line left pair heard fits limited downs = record {
     back_stands = stands;
     alarm = one.alarm;
     st = one.st;
@@ -138,6 +141,9 @@ module _ {D : Type 0} (moment_of : D → ℕ) (left_since : D → ℕ → List �
     fits = fits;
     heard = heard;
     sticks = λ tells on stuck. one.sticks (told_earlier old new telling one.back_stands tells) on stuck;
+    limited = limited;
+    drops = λ tells. downs_drops script (class_in script origin.object) one.alarm front one.st old.log.downs.items new.log.downs.items inbox.got (downs tells)
+        (one.drops (told_earlier old new telling one.back_stands tells));
   }
 
   -- It fits still where nothing is taken.
@@ -162,20 +168,22 @@ module _ {D : Type 0} (moment_of : D → ℕ) (left_since : D → ℕ → List �
     -- A step that takes nothing of the line.
     pub stepped : new.log.taken.items ≡ old.log.taken.items → messages new.log.released.items ≡ origin.left ++ sent_on later_out
         → (TellsNow told new → Hears (seen_of (opened_map origin.start) old) (seen_of (opened_map origin.start) new) [] notices.waiting later.waiting)
-        → StillHears old new line notices out one (one.lost ++ line.waiting) later.waiting → One new line later later_out
-    stepped taken left steps heard =
+        → StillHears old new line notices out one (one.lost ++ line.waiting) later.waiting → IsLimitedBy origin.limit new → One new line later later_out
+    stepped taken left steps heard limited =
         rebuilt old new line line notices later out later_out one known telling (named_still origin.object old new same taken one.named) one.lost none (still_line taken) left
         (λ tells k paired.
         paired_on keeps k (opened_map origin.start) one.st front (seen_of (opened_map origin.start) old) (seen_of (opened_map origin.start) new)
         (one.lost ++ line.waiting) (one.lost ++ line.waiting) [] notices.waiting later.waiting (steps tells)
         (seen_is_rear moment_of left_since told image faults_of origin.start origin.opening old one.back_stands)
         (seen_is_rear moment_of left_since told image faults_of origin.start origin.opening new known) refl paired) heard
-        (fits_still old new line notices out one telling was same taken)
+        (fits_still old new line notices out one telling was same taken) limited
+        (λ tells. steps_downs (seen_of (opened_map origin.start) old) (seen_of (opened_map origin.start) new) [] (steps tells).heard (steps tells).steps)
 
     -- Nothing that is seen has changed where memory was wanting.
     pub unseen : backed new.log ≡ backed old.log → new.held.items ≡ old.held.items → new.mode ≡ old.mode → new.before ≡ old.before → new.durable ≡ old.durable
-        → later.got ≡ notices.got → sent_on later ≡ sent_on notices → later_out ≡ out → is_stopped new ≡ true → One new line later later_out
-    unseen log held mode before durable got said left off =
+        → later.got ≡ notices.got → sent_on later ≡ sent_on notices → later_out ≡ out → is_stopped new ≡ true → IsLimitedBy origin.limit new
+        → One new line later later_out
+    unseen log held mode before durable got said left off limited =
         rebuilt old new line line notices later out later_out one known telling
         (named_still origin.object old new same (ap (λ (x : Backed). x.taken) log) one.named) one.lost none (still_line (ap (λ (x : Backed). x.taken) log))
         (ap (λ (x : Backed). messages x.released) log ∙ one.left ∙ ap (λ (x : Both Sent). origin.left ++ sent_on x) (sym left))
@@ -184,4 +192,5 @@ module _ {D : Type 0} (moment_of : D → ℕ) (left_since : D → ℕ → List �
         (one.lost ++ line.waiting) (one.lost ++ line.waiting) notices.waiting later.waiting
         (seen_same (opened_map origin.start) old new log held mode before durable) refl (sym (took_none notices later got said)) paired)
         (λ tells on goes. absurd (true≢false (sym off ∙ goes)))
-        (fits_still old new line notices out one telling was same (ap (λ (x : Backed). x.taken) log))
+        (fits_still old new line notices out one telling was same (ap (λ (x : Backed). x.taken) log)) limited
+        (λ tells some none. some (ap (λ (x : Backed). x.downs) (sym log) ∙ none))

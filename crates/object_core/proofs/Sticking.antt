@@ -136,7 +136,7 @@ notice_sticks script st n led got goes fit (fits so) is = absurd (true≢false (
 notice_sticks script st n led got goes fit (sticks_at unfit) is = absurd (unfit fit)
 
 -- The first deferred event that may be taken is among the deferred ones.
-first_there : (st : Stood) (place : ℕ) (e : Event) → IsFirst st place e → Contains st.deferred e
+pub first_there : (st : Stood) (place : ℕ) (e : Event) → IsFirst st place e → Contains st.deferred e
 first_there st place e first =
     (place, slice_get_within st.deferred place e first.there, get_or_from_slice_get st.deferred place e e first.there)
 

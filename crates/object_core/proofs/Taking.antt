@@ -29,13 +29,16 @@ use Rattle.object_history.proofs.GateTaking as gate
 use Rattle.object_history.specs.Seen.{rear_of}
 use Rattle.object_history.specs.Stepping.{BackSteps}
 use Rattle.front_history.specs.Turns.{BackStepsKeep}
+use Rattle.object_core.proofs.Dropping.{steps_downs}
 use Rattle.object_core.proofs.Due.{steps_as_due, steps_unheard, seen_is_rear}
 use Rattle.object_core.proofs.Fitting.{one_fits}
 use Rattle.object_core.proofs.Lanes.{took_first, took_none, sent_last}
+use Rattle.object_core.proofs.Limiting.{limited_as_before, limited_enters}
 use Rattle.object_core.proofs.Naming.{named_enters, named_still}
 use Rattle.object_core.proofs.Pairing.{Hears, paired_on, paired_as}
 use Rattle.object_core.proofs.Rebuilding.{One, StaysPair, StillHears, hears_on, hears_as, due_now, told_earlier, rebuilt, seen_same, same_queue}
 use Rattle.object_core.specs.Fitting.{known_over}
+use Rattle.object_core.specs.Limited.{IsLimitedBy}
 use Rattle.object_core.specs.One.{FitsItsBack, HasItsClass, Origin, TellsNow, messages}
 use Rattle.object_core.specs.Seen.{seen_of}
 
@@ -128,8 +131,8 @@ module _ {D : Type 0} (moment_of : D → ℕ) (left_since : D → ℕ → List �
     -- The entry isn't logged, and nothing else that is seen changes.
     unlogged : backed new.log ≡ backed old.log → new.held.items ≡ old.held.items → new.mode ≡ old.mode → new.before ≡ old.before → new.durable ≡ old.durable
         → new.identity ≡ old.identity → (new.stuck ≡ false → is_stopped new ≡ false → ⊥) → FitsItsBack told script origin.object front new
-        → sent_on later ≡ sent_on notices → After
-    unlogged log held mode before durable same bad fits told_same =
+        → sent_on later ≡ sent_on notices → IsLimitedBy origin.limit new → After
+    unlogged log held mode before durable same bad fits told_same limited =
         rebuilt moment_of left_since told image faults_of script origin front inbox old new line later_line notices later out out one known telling
         (named_still origin.object old new same (ap (λ (x : Backed). x.taken) log) one.named) (e ∷ [])
         (λ free on. absurd (bad free on))
@@ -138,7 +141,11 @@ module _ {D : Type 0} (moment_of : D → ℕ) (left_since : D → ℕ → List �
         (λ tells k paired. paired_as k opened one.st front (seen_of opened old) (seen_of opened new) (one.lost ++ line.waiting) (e ∷ later_line.waiting)
         notices.waiting later.waiting (seen_same opened old new log held mode before durable) (sym waits_first) (sym (took_none notices later kept told_same)) paired)
         (hears_as moment_of left_since told image faults_of script origin front inbox old new line notices out one telling (λ goes. on) (e ∷ later_line.waiting) later.waiting
-        (seen_same opened old new log held mode before durable) (sym waits_first) (sym (took_none notices later kept told_same))) fits
+        (seen_same opened old new log held mode before durable) (sym waits_first) (sym (took_none notices later kept told_same))) fits limited
+        (λ tells some none. some (ap (λ (x : Backed). x.downs) (sym log) ∙ none))
+
+    limited_so : Enters old new e → IsLimitedBy origin.limit new
+    limited_so enters = limited_enters origin.limit old new e enters (same_disk.limit old.limit) one.limited
 
     unfit_enters : Enters old new e → is_unfit (fit_of old e) ≡ true → may_take old ≡ true → sent_on later ≡ sent_on notices → After
     unfit_enters enters is may told_same =
@@ -147,7 +154,7 @@ module _ {D : Type 0} (moment_of : D → ℕ) (left_since : D → ℕ → List �
         (enters.mode ∙ unfit_mode (fit_of old e) old.mode e.body is) (enters.before ∙ unfit_before (fit_of old e) old.before e.body is) enters.durable
         (enters.identity ∙ unfit_identity (fit_of old e) old.identity e.body is)
         (λ free on. true≢false (sym is ∙ sym enters.stuck ∙ free))
-        (λ has tells goes_on goes. absurd (true≢false (sym is ∙ (fits_so has tells goes_on may).0))) told_same
+        (λ has tells goes_on goes. absurd (true≢false (sym is ∙ (fits_so has tells goes_on may).0))) told_same (limited_so enters)
 
     -- The entry is logged.
     logs : Enters old new e → is_unfit (fit_of old e) ≡ false
@@ -164,7 +171,8 @@ module _ {D : Type 0} (moment_of : D → ℕ) (left_since : D → ℕ → List �
         (λ tells k paired.
         paired_on keeps k opened one.st front (seen_of opened old) (seen_of opened new) (one.lost ++ line.waiting) later_line.waiting (e ∷ []) notices.waiting later.waiting
         (steps tells) (seen_is_rear moment_of left_since told image faults_of origin.start origin.opening old one.back_stands)
-        (seen_is_rear moment_of left_since told image faults_of origin.start origin.opening new known) waits_first paired) heard fits
+        (seen_is_rear moment_of left_since told image faults_of origin.start origin.opening new known) waits_first paired) heard fits (limited_so enters)
+        (λ tells. steps_downs (seen_of opened old) (seen_of opened new) (e ∷ []) (steps tells).heard (steps tells).steps)
 
     -- The step of which the laws speak.
     steps_so : Enters old new e → is_unfit (fit_of old e) ≡ false → may_take old ≡ true
@@ -211,7 +219,7 @@ module _ {D : Type 0} (moment_of : D → ℕ) (left_since : D → ℕ → List �
         → (IsAsBefore old new ⊎ Enters old new e) → sent_on later ≡ sent_on notices → After
     loses lost may off (inl same) said =
         unlogged same.log same.held same.mode same.before same.durable same.identity (λ free on. true≢false (sym off ∙ on))
-        (λ has tells goes_on goes. absurd (true≢false (sym off ∙ goes))) said
+        (λ has tells goes_on goes. absurd (true≢false (sym off ∙ goes))) said (limited_as_before origin.limit old new same (same_disk.limit old.limit) one.limited)
     loses lost may off (inr enters) said = unheard_as (is_unfit (fit_of old e)) refl enters may off said
 
   may_not : may_take old ≡ true → old.stuck ≡ false

@@ -1,5 +1,5 @@
 -- An object whose front takes a notice or an event.
-use Rattle.std.proofs.Common.{◌≡◌, ◌∙◌, ap, sym, refl, subst, inl, inr, true≢false, ℕ, List, ◌++◌, append_assoc, Option}
+use Rattle.std.proofs.Common.{◌≡◌, ◌∙◌, ap, sym, refl, subst, inl, inr, true≢false, ℕ, List, [], ◌++◌, append_assoc, Option}
 use Rattle.std.specs.Prelude.{Bool, true, false, Result, Ok, Err, OnOk, OnErr}
 use Rattle.do_tree.specs.Tree.{Script}
 use Rattle.do_value.specs.declared.fault.NoMemory.{NoMemory}
@@ -25,17 +25,23 @@ use Rattle.object_front.specs.declared.turning.Turned.TheVariants.{Ran, Idle}
 use Rattle.output_gate.specs.Telling.{opened_map}
 use Rattle.output_gate.specs.declared.back.Back.{Back}
 use Rattle.front_history.proofs.Lanes.{under_way}
+use Rattle.front_history.specs.Paired.{ArePaired}
 use Rattle.front_history.specs.Turns.{AreUnderWay, TurnSteps}
+use Rattle.object_history.specs.Pair.{IsPair}
+use Rattle.object_messages.specs.Dropped.{DropsAreAnswered}
 use Rattle.object_messages.specs.Laws.{EarlyIsUnasked}
 use Rattle.object_core.proofs.Alike.{class_for}
 use Rattle.object_core.proofs.Attending.{turn_heard}
+use Rattle.object_core.proofs.Dropping.{first_none, halt_drops, none_stopped, still_drops, turn_drops}
 use Rattle.object_core.proofs.Due.{seen_is_rear}
 use Rattle.object_core.proofs.FitTaken.{events_logged, fit_more, taken_fit}
 use Rattle.object_core.proofs.Lanes.{took_none}
+use Rattle.object_core.proofs.Pairing.{pair_now}
 use Rattle.object_core.proofs.Sticking.{given_unasked, turn_sticks}
+use Rattle.object_core.specs.Dropping.{IsDropping}
 use Rattle.object_core.specs.Fitting.{IsFitIntake}
 use Rattle.object_core.specs.Heard.{IsHeard}
-use Rattle.object_core.specs.One.{HasTaken, HearsOfBack, IsOneOf, Origin, SticksAtAnswers, TellOfPair, class_in}
+use Rattle.object_core.specs.One.{HasTaken, HearsOfBack, IsOneOf, Origin, SticksAtAnswers, TellOfPair, TellsNow, class_in}
 use Rattle.object_core.specs.Seen.{seen_of}
 
 -- A front of an object can turn.
@@ -67,7 +73,7 @@ pub record TurnsBy (script : Script) (old new : Half Evaluated) (inbox later_inb
   pub said : later_line.got ≡ line.got
 
 module _ {D : Type 0} (moment_of : D → ℕ) (left_since : D → ℕ → List ℕ → Type 0) (told : D → Option (List ℕ)) (image : D → List ℕ → Type 0) (faults_of : D → ℕ)
-    (laws : TurnSteps) (come : EventsCome) (classes : ClassComes) (unasked : EarlyIsUnasked) (script : Script) (origin : Origin) (old new : Half Evaluated) (back : Back D)
+    (laws : TurnSteps) (come : EventsCome) (classes : ClassComes) (unasked : EarlyIsUnasked) (answered : DropsAreAnswered) (script : Script) (origin : Origin) (old new : Half Evaluated) (back : Back D)
     (inbox later_inbox : Both Event) (line later_line : Both Entry) (notices later : Both Notice) (out : Both Sent)
     (one : IsOneOf moment_of left_since told image faults_of script origin old inbox back line notices out) where
   abbrev After : Type 0
@@ -87,8 +93,9 @@ module _ {D : Type 0} (moment_of : D → ℕ) (left_since : D → ℕ → List �
     turned : (st : Stood) → (is_stopped new ≡ false → IsHalf seen script new st) → (is_stopped new ≡ false → HasTaken script (class_in script origin.object) one.alarm new st)
         → IsClassed script (class_in script origin.object) new st → HasGot new st later_inbox.got → TellOfPair told script origin.start st new back (one.lost ++ later_line.waiting) later.waiting
         → HearsOfBack told origin.start st new back (one.lost ++ later_line.waiting) later.waiting → (is_stopped new ≡ false → is_stopped old ≡ false)
-        → SticksAtAnswers told new back later_inbox.got → After
-    turned st stands has_taken classed has_got pair heard was sticks = record {
+        → SticksAtAnswers told new back later_inbox.got
+        → (TellsNow told back → IsDropping script (class_in script origin.object) one.alarm new st back.log.downs.items later_inbox.got) → After
+    turned st stands has_taken classed has_got pair heard was sticks drops = record {
       back_stands = one.back_stands;
       alarm = one.alarm;
       st = st;
@@ -105,6 +112,8 @@ module _ {D : Type 0} (moment_of : D → ℕ) (left_since : D → ℕ → List �
       fits = λ has tells on goes. one.fits has tells (was on) goes;
       heard = heard;
       sticks = sticks;
+      limited = one.limited;
+      drops = drops;
     }
 
     rests : IsStill old new (inbox.got, notices.got, sent_on line) (later_inbox.got, later.got, sent_on later_line) → After
@@ -124,6 +133,22 @@ module _ {D : Type 0} (moment_of : D → ℕ) (left_since : D → ℕ → List �
         (λ on. sym (ap is_stopped still.half) ∙ on)
         (subst (λ (h : Half Evaluated). SticksAtAnswers told h back later_inbox.got) (sym still.half)
         (subst (λ (got : List Event). SticksAtAnswers told old back got) (sym still.no_event) one.sticks))
+        (λ tells. still_drops script (class_in script origin.object) one.alarm old new one.st back.log.downs.items inbox.got later_inbox.got still.half still.no_event (one.drops tells))
+
+    -- how it stands to its back
+    pair_of : is_stopped old ≡ false → (class : ℕ)
+        → ArePaired (kind_in script class) (opened_map origin.start) one.st old (seen_of (opened_map origin.start) back) (one.lost ++ line.waiting) notices.waiting
+        → IsPair (kind_in script class) (opened_map origin.start) one.st.front (fronted old.log) (seen_of (opened_map origin.start) back) (one.lost ++ line.waiting) notices.waiting
+    pair_of on class paired =
+        pair_now (kind_in script class) (opened_map origin.start) one.st old (seen_of (opened_map origin.start) back) (one.lost ++ line.waiting) notices.waiting on paired
+
+    -- nothing has ended where nothing was sent
+    none_ended : old.log.sent.items ≡ [] → back.log.stops.items ≡ []
+    none_ended none =
+        none_stopped moment_of left_since told image faults_of origin.start origin.opening _ back one.back_stands
+        (first_none back.log.taken.items (one.lost ++ line.waiting)
+        (subst (λ (sent : List Entry). sent ≡ back.log.taken.items ++ (one.lost ++ line.waiting)) none
+        (one.is_line ∙ append_assoc back.log.taken.items one.lost line.waiting)))
 
     -- what it had taken before
     had_taken : is_stopped old ≡ false → (led : Led) → IsTaken script one.st inbox.got later_inbox.got notices.got later.got (sent_on notices) led
@@ -168,6 +193,11 @@ module _ {D : Type 0} (moment_of : D → ℕ) (left_since : D → ℕ → List �
         (seen_of (opened_map origin.start) back) (one.lost ++ line.waiting) notices.waiting later.waiting on
         (one.pair tells k.0 (laws.class script k.0 one.st inbox.got later_inbox.got notices.got later.got (sent_on notices) turns.led turns.taken k.1)) way.told one.has_got
         turns stuck))
+        (λ tells.
+        turn_drops answered script (class_in script origin.object) k.0 (opened_map origin.start) one.alarm old one.st (seen_of (opened_map origin.start) back)
+        (one.lost ++ line.waiting) notices.waiting had.0 (one.front_stands on)
+        (pair_of on k.0 (one.pair tells k.0 (laws.class script k.0 one.st inbox.got later_inbox.got notices.got later.got (sent_on notices) turns.led turns.taken k.1)))
+        had.1 on inbox.got later_inbox.got notices.got later.got (sent_on notices) later.waiting way.told (one.drops tells) none_ended new turns k.1)
 
     halts : is_stopped old ≡ false → Halts script old new one.st inbox.got later_inbox.got notices.got later.got (sent_on notices) → After
     halts on stops =
@@ -182,6 +212,11 @@ module _ {D : Type 0} (moment_of : D → ℕ) (left_since : D → ℕ → List �
         (one.pair tells class (laws.class script class one.st inbox.got later_inbox.got notices.got later.got (sent_on notices) stops.led stops.taken is)) way stops is)
         (λ tells on_then goes. absurd (true≢false (sym stops.stops.stopped ∙ on_then))) (λ on_then. on)
         (λ tells on_then stuck. absurd (true≢false (sym stops.stops.stopped ∙ on_then)))
+        (λ tells.
+        halt_drops answered script (class_in script origin.object) k.0 (opened_map origin.start) one.alarm old one.st (seen_of (opened_map origin.start) back)
+        (one.lost ++ line.waiting) notices.waiting had.0 (one.front_stands on)
+        (pair_of on k.0 (one.pair tells k.0 (laws.class script k.0 one.st inbox.got later_inbox.got notices.got later.got (sent_on notices) stops.led stops.taken k.1)))
+        had.1 on inbox.got later_inbox.got notices.got later.got (sent_on notices) later.waiting way.told (one.drops tells) none_ended new stops k.1)
 
   ran : is_stopped old ≡ false → (result : Result Turned NoMemory) → TurnsBy script old new inbox later_inbox line later_line notices later result → After
   ran on (Ok Ran) by = goes (Ok Ran) by on (by.ran refl one.st (one.front_stands on))

@@ -28,6 +28,7 @@ use Rattle.output_gate.specs.Storing.{IsDiskOf}
 use Rattle.output_gate.specs.Telling.{HasTold, opened_map}
 use Rattle.output_gate.specs.declared.back.Back.{Back}
 use Rattle.front_history.specs.Paired.{logged_with}
+use Rattle.object_core.specs.Limited.{IsLimitedBy}
 use Rattle.object_core.specs.One.{AreFresh, HasItsClass, IsNamed, IsOne, Origin, TellsNow, class_in, messages}
 use Rattle.object_core.specs.Stepping.{HasNothing}
 use Rattle.object_core.specs.declared.choice.Choice.TheVariants.{Turn, Take, Flush, Release, Mend}
@@ -92,6 +93,11 @@ OneIsWhole moment_of left_since told image faults_of core = (script : Script) (o
 abbrev pub OneHasLeft : {D : Type 0} → (D → ℕ) → (D → ℕ → List ℕ → Type 0) → (D → Option (List ℕ)) → (D → List ℕ → Type 0) → (D → ℕ) → Core D → Type 0
 OneHasLeft moment_of left_since told image faults_of core = (script : Script) (origin : Origin)
     → IsOne moment_of left_since told image faults_of script origin core → messages core.back.log.released.items ≡ origin.left ++ sent_on core.out
+
+-- The journal has the limit with which the slot was mounted, whatever has ended since, and an end by a full journal is of it.
+abbrev pub OneIsLimited : {D : Type 0} → (D → ℕ) → (D → ℕ → List ℕ → Type 0) → (D → Option (List ℕ)) → (D → List ℕ → Type 0) → (D → ℕ) → Core D → Type 0
+OneIsLimited moment_of left_since told image faults_of core = (script : Script) (origin : Origin)
+    → IsOne moment_of left_since told image faults_of script origin core → IsLimitedBy origin.limit core.back
 
 -- What left and what a crash leaves, now and at each moment since the opening.
 abbrev pub OneHasTold : {D : Type 0} → (D → ℕ) → (D → ℕ → List ℕ → Type 0) → (D → Option (List ℕ)) → (D → List ℕ → Type 0) → (D → ℕ) → Core D → Type 0

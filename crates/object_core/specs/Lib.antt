@@ -1,6 +1,8 @@
 pub mod Seen
 pub mod Heard
 pub mod Fitting
+pub mod Limited
+pub mod Dropping
 pub mod One
 pub mod Stepping
 pub mod Collecting
@@ -8,3 +10,6 @@ pub mod Running
 pub mod Laws
 pub mod Owing
 pub mod Leaving
+pub mod Unended
+pub mod Drops
+pub mod Once

@@ -1,7 +1,10 @@
 //! What holds of each object, for whoever holds one. A call costs nothing and tells its caller the law.
+ghost use Rattle.object_core.specs.Drops.{OneDrops};
 ghost use Rattle.object_core.specs.Leaving.{OneLeaves, OneRests};
+ghost use Rattle.object_core.specs.Once.{OneServesOnce};
 ghost use Rattle.object_core.specs.Owing.{OneIsOwed, OneSticks};
-ghost use Rattle.object_core.specs.Laws.{HalvesAreFresh, OneIsHistory, OneHasClass, OneHasGot, OneHasIntake, OneHasLeft, OneHasLetGo, OneHasTold, OneIsQuiet, OneIsWhole};
+ghost use Rattle.object_core.specs.Unended.{OneTellsNoEnd};
+ghost use Rattle.object_core.specs.Laws.{HalvesAreFresh, OneIsHistory, OneHasClass, OneHasGot, OneHasIntake, OneHasLeft, OneHasLetGo, OneHasTold, OneIsLimited, OneIsQuiet, OneIsWhole};
 
 use crate::object::Core;
 use do_disk::Disk;
@@ -75,6 +78,13 @@ pub fn one_has_left<D: Disk>(core: &Core<D>)
     let _ = core;
 }
 
+/// How many bytes its journal may have: as many as when its slot was mounted.
+pub fn one_is_limited<D: Disk>(core: &Core<D>)
+    ensures { OneIsLimited D.moment_of D.left_since D.told D.image D.faults_of core.now }
+{
+    let _ = core;
+}
+
 /// What has left, and what a crash leaves.
 pub fn one_has_told<D: Disk>(core: &Core<D>)
     ensures { OneHasTold D.moment_of D.left_since D.told D.image D.faults_of core.now }
@@ -99,6 +109,13 @@ pub fn one_sticks<D: Disk>(core: &Core<D>)
     let _ = core;
 }
 
+/// What its front may have dropped of events that fit it.
+pub fn one_drops<D: Disk>(core: &Core<D>)
+    ensures { OneDrops D.moment_of D.left_since D.told D.image D.faults_of core.now }
+{
+    let _ = core;
+}
+
 /// What it leaves at rest.
 pub fn one_leaves<D: Disk>(core: &Core<D>)
     ensures { OneLeaves D.moment_of D.left_since D.told D.image D.faults_of core.now }
@@ -110,6 +127,24 @@ pub fn one_leaves<D: Disk>(core: &Core<D>)
 /// Where no step has anything to do, its front waits for nothing.
 pub fn one_rests<D: Disk>(core: &Core<D>)
     ensures { OneRests D.moment_of D.left_since D.told D.image D.faults_of core.now }
+{
+    laws::halves_are_whole();
+    let _ = core;
+}
+
+/// Where no incarnation has stopped, no message that left tells of an end.
+pub fn one_tells_no_end<D: Disk>(core: &Core<D>)
+    ensures { OneTellsNoEnd D.moment_of D.left_since D.told D.image D.faults_of core.now }
+{
+    names::ends_are_needed();
+    names::unended_pass_as_taken();
+    laws::halves_are_said();
+    let _ = core;
+}
+
+/// Where no step has anything to do, who called it once got one reply or is left.
+pub fn one_serves_once<D: Disk>(core: &Core<D>)
+    ensures { OneServesOnce D.moment_of D.left_since D.told D.image D.faults_of core.now }
 {
     laws::halves_are_whole();
     let _ = core;

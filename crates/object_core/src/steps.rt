@@ -36,6 +36,7 @@ impl<D: Disk> Core<D> {
         front_laws::events_come();
         front_laws::class_comes();
         names::early_is_unasked();
+        names::drops_are_answered();
         let turned = self.front.turn(
             alloc,
             checked,

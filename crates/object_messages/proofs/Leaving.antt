@@ -107,7 +107,7 @@ deferred_once (event.Tick at ∷ deferred) = deferred_once deferred
 deferred_once (event.Evict at ∷ deferred) = deferred_once deferred
 
 -- So of an object whose tasks wait,
-object_leaves : (l : Life) (o : Object) (events : List Event) (said : List Body) (deferred : List Event) → TasksWait l o.tasks
+pub object_leaves : (l : Life) (o : Object) (events : List Event) (said : List Body) (deferred : List Event) → TasksWait l o.tasks
     → callers (left l o events said deferred) ≡ unanswered events said ++ called_in deferred
 object_leaves l o listed said deferred all =
     map-append (λ (item : Caller × Waits). item.0) (flat_map (left_call l o deferred) (unanswered listed said)) (flat_map left_event deferred)

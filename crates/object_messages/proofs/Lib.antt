@@ -7,4 +7,11 @@ pub mod Early
 pub mod Passing
 pub mod Exactly
 pub mod Waiting
+pub mod Covering
+pub mod Dropped
 pub mod Leaving
+pub mod Sound
+pub mod FrontsSound
+pub mod Whose
+pub mod FrontsWhose
+pub mod PassedNaming

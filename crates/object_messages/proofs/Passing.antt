@@ -89,7 +89,7 @@ abbrev AllFare : List Body → List Passed → Type 0
 AllFare bodies items = Within (asked_in (gone items)) (asked bodies) × (replied_in (gone items) ≡ flat_map answered_by bodies)
 
 -- What messages name that leave in two parts.
-gone_both : {X : Type 0} (names : Message → List X) (one other : List Passed)
+pub gone_both : {X : Type 0} (names : Message → List X) (one other : List Passed)
     → flat_map names (gone (one ++ other)) ≡ flat_map names (gone one) ++ flat_map names (gone other)
 gone_both names one other =
     ap (flat_map names) (map-append (λ (p : Passed). p.message) one other) ∙ flat_map-append names (gone one) (gone other)
@@ -120,7 +120,7 @@ held_fare leaves fares count (body.Halt cause ∷ bodies) = held_fare leaves far
 held_fare leaves fares count (body.Mend ∷ bodies) = held_fare leaves fares count bodies
 
 -- So those of an incarnation.
-passed_fare : (older : History) (i : Incarnation) → AllFare (said_in i.taken) (passed_in older i)
+pub passed_fare : (older : History) (i : Incarnation) → AllFare (said_in i.taken) (passed_in older i)
 passed_fare older i =
     held_fare (passes older i.number (bound_by i.stop i.flights))
     (λ held. if_fares older i.number (bound_by i.stop i.flights) held (not (is_mounted older) || held.mended)) 0 (said_in i.taken)

@@ -1,6 +1,6 @@
 -- Who is answered and who is left: laws, each proved by a function of `laws`.
 use Rattle.std.specs.Prelude.{◌≡◌, ◌≤◌, ◌+◌, ℕ, ℤ, suc, List, ◌++◌, length, map, Option}
-use Rattle.std.specs.List.{All}
+use Rattle.std.specs.List.{All, Contains}
 use Rattle.timeline.specs.History.{history}
 use Rattle.timeline.specs.Intake.{IsIntake, Kind, Taken, delivered_in, downed_in, front_after, life, opened, sent_by, serves}
 use Rattle.timeline.specs.Left.{left}
@@ -40,3 +40,19 @@ abbrev pub PassedIsAll : Type 0
 PassedIsAll = (front : Fronted) (back : Backed)
     → All (λ (e : Entry). (1 ≤ e.incarnation) × (e.incarnation ≤ suc (length back.stops))) back.taken
     → (from : Caller) → times from (replied_in (gone (passed (history front back)))) ≡ times from (replied_in (messages_of back.taken))
+
+-- Who is replied to is one who called by what was delivered or answered by `Down`, a request also by the number that its sender gave it.
+abbrev pub RepliesNameCallers : Type 0
+RepliesNameCallers = (k : Kind) (alarm : Option (ℤ × ℕ)) (taken : List Taken) (from : Caller)
+    → Contains (replied_in (messages_of (sent_by k (opened alarm) taken))) from
+    → Contains (called_in (events (delivered_in k (opened alarm) taken) ++ events (downed_in k (opened alarm) taken))) from
+
+-- So does what passes: it replies to whom what was taken does.
+abbrev pub PassedNamesTaken : Type 0
+PassedNamesTaken = (front : Fronted) (back : Backed) (from : Caller)
+    → Contains (replied_in (gone (passed (history front back)))) from → Contains (replied_in (messages_of back.taken)) from
+
+-- Who called once got one reply or is left, once; and who got a reply or is left is one who called.
+pub record IsServedOnce (called replied left : List Caller) : Type 0 where
+  pub exact : (from : Caller) → times from called ≤ 1 → times from replied + times from left ≡ times from called
+  pub named : (from : Caller) → Contains (replied ++ left) from → Contains called from

@@ -1,3 +1,5 @@
 pub mod Naming
 pub mod Laws
+pub mod Dropped
 pub mod Exact
+pub mod Ends

@@ -1,5 +1,7 @@
 //! Laws of what an object's messages name. A call costs nothing and tells its caller the law.
-ghost use Rattle.object_messages.specs.Exact.{LeftIsEach, PassedIsAll, RepliesAreExact};
+ghost use Rattle.object_messages.specs.Dropped.{DropsAreAnswered};
+ghost use Rattle.object_messages.specs.Ends.{EndsAreNeeded, UnendedPassAsTaken};
+ghost use Rattle.object_messages.specs.Exact.{LeftIsEach, PassedIsAll, PassedNamesTaken, RepliesAreExact, RepliesNameCallers};
 ghost use Rattle.object_messages.specs.Laws.{EarlyIsUnasked, NumbersAreGiven, NumbersAscend, PassedIsTaken, RepliesAreOwed};
 
 /// Each call and fetch that was sent has a number that was given.
@@ -15,6 +17,11 @@ pub fn numbers_ascend()
 /// An answer that comes too early answers nothing that was sent.
 pub fn early_is_unasked()
     ensures { EarlyIsUnasked }
+{}
+
+/// An answer that is dropped is one of an ended incarnation, or another was delivered to the same call or fetch.
+pub fn drops_are_answered()
+    ensures { DropsAreAnswered }
 {}
 
 /// Nobody gets more replies than he made calls.
@@ -40,4 +47,24 @@ pub fn left_is_each()
 /// Each reply that was taken passes.
 pub fn passed_is_all()
     ensures { PassedIsAll }
+{}
+
+/// Where no incarnation has ended, nothing that was sent tells of an end.
+pub fn ends_are_needed()
+    ensures { EndsAreNeeded }
+{}
+
+/// Where no incarnation stopped, what passes tells of an end only where what was taken does.
+pub fn unended_pass_as_taken()
+    ensures { UnendedPassAsTaken }
+{}
+
+/// Who is replied to is one who called, exactly he.
+pub fn replies_name_callers()
+    ensures { RepliesNameCallers }
+{}
+
+/// What passes replies to whom what was taken does.
+pub fn passed_names_taken()
+    ensures { PassedNamesTaken }
 {}

@@ -2,9 +2,9 @@
 use Rattle.std.proofs.Common.{◌≡◌, ◌∙◌, ap, sym, refl, subst, ℕ, List, ◌∷◌, get_or, Option}
 use Rattle.std.specs.Prelude.{is_some}
 use Rattle.batch_journal.specs.Moments.{TellsAsBefore}
-use Rattle.batch_journal.specs.Rest.{disk_in}
+use Rattle.batch_journal.specs.Rest.{disk_in, limit_of}
 use Rattle.batch_journal.specs.declared.journal.Journal.{Journal}
-use Rattle.output_gate.specs.Storing.{IsDiskOf, KeepsDisk, KeepsTelling}
+use Rattle.output_gate.specs.Storing.{HasLimit, IsDiskOf, KeepsDisk, KeepsLimit, KeepsTelling}
 use Rattle.output_gate.specs.declared.store.Store.{Store}
 use Rattle.output_gate.specs.declared.store.Store.TheVariants as store
 
@@ -29,21 +29,44 @@ same_disk store.Away a b one two = absurd one
 pub in_it : {D : Type 0} (s : Store D) (journal : Journal D) → s ≡ store.Journal journal → IsDiskOf s (disk_in journal)
 in_it {D} s journal is = let own : IsDiskOf (store.Journal journal) (disk_in journal) = refl in subst (λ (x : Store D). IsDiskOf x (disk_in journal)) (sym is) own
 
+-- this journal, of the limit, was put in it
+pub limited_in : {D : Type 0} (new : Store D) (later : Journal D) (limit : ℕ) → new ≡ store.Journal later → limit_of later ≡ limit → HasLimit limit new
+limited_in new later limit into same journal is = ap limit_of (same_journal journal later (sym is ∙ into)) ∙ same
+
+abbrev is_bare : {D : Type 0} → Store D → Type 0
+is_bare (store.Disk bare) = Unit {0}
+is_bare s = ⊥
+
+-- a disk was put in it, so it has no journal
+pub limited_bare : {D : Type 0} (new : Store D) (left : D) (limit : ℕ) → new ≡ store.Disk left → HasLimit limit new
+limited_bare new left limit into journal is = absurd (subst is_bare (sym into ∙ is) tt)
+
+-- its journal has the same limit
+pub keeps_limit : {D : Type 0} (old new : Store D) (journal later : Journal D) → old ≡ store.Journal journal → new ≡ store.Journal later → limit_of later ≡ limit_of journal
+    → KeepsLimit old new
+keeps_limit old new journal later from into same limit has = limited_in new later limit into (same ∙ has journal from)
+
+pub still_limit : {D : Type 0} (old new : Store D) → new ≡ old → KeepsLimit old new
+still_limit old new same limit has = subst (HasLimit limit) (sym same) has
+
 -- the same store has the same disk
 pub still_disk : {D : Type 0} (old new : Store D) → new ≡ old → KeepsDisk old new
-still_disk old new same disk at = subst (λ (s : Store _). IsDiskOf s disk) (sym same) at
+still_disk old new same = record { still = λ disk at. subst (λ (s : Store _). IsDiskOf s disk) (sym same) at; limit = still_limit old new same }
 
 -- something was staged in its journal
 pub staged_disk : {D : Type 0} (old new : Store D) (journal later : Journal D) → old ≡ store.Journal journal → new ≡ store.Journal later → disk_in later ≡ disk_in journal
-    → KeepsDisk old new
-staged_disk {D} old new journal later from into same disk at =
-    let was : disk ≡ disk_in journal = subst (λ (s : Store D). IsDiskOf s disk) from at in
-    let is : IsDiskOf (store.Journal later) disk = was ∙ sym same in
-    subst (λ (s : Store D). IsDiskOf s disk) (sym into) is
+    → limit_of later ≡ limit_of journal → KeepsDisk old new
+staged_disk {D} old new journal later from into same limit = record {
+  still = λ disk at.
+      let was : disk ≡ disk_in journal = subst (λ (s : Store D). IsDiskOf s disk) from at in
+      let is : IsDiskOf (store.Journal later) disk = was ∙ sym same in
+      subst (λ (s : Store D). IsDiskOf s disk) (sym into) is;
+  limit = keeps_limit old new journal later from into limit;
+}
 
 -- the same disk tells the same
 pub still_tells : {D : Type 0} (told : D → Option (List ℕ)) (old new : Store D) → KeepsDisk old new → KeepsTelling told old new
-still_tells {D} told old new keeps disk left at into = ap (λ (d : D). is_some (told d)) (same_disk new left disk into (keeps disk at))
+still_tells {D} told old new keeps disk left at into = ap (λ (d : D). is_some (told d)) (same_disk new left disk into (keeps.still disk at))
 
 -- these two disks were and are in it
 pub tells_as : {D : Type 0} (told : D → Option (List ℕ)) (old new : Store D) (disk left : D) → IsDiskOf old disk → IsDiskOf new left → TellsAsBefore (told disk) (told left)

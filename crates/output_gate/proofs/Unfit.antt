@@ -57,6 +57,12 @@ released_still fit.Own log e = refl
 released_still fit.Down log e = refl
 released_still fit.Late log e = refl
 
+pub stops_still : (f : Fit) (log : Backed) (e : Entry) → (logged_as f log e).stops ≡ log.stops
+stops_still fit.Unfit log e = refl
+stops_still fit.Own log e = refl
+stops_still fit.Down log e = refl
+stops_still fit.Late log e = refl
+
 -- An unfit entry names nobody; and an entry leaves the object that is known, or names the one that it binds.
 pub unfit_identity : (f : Fit) (identity : Option Object) (b : Body) → is_unfit f ≡ true → identity_after f identity b ≡ identity
 unfit_identity fit.Unfit identity b is = refl

@@ -4,6 +4,7 @@ use Rattle.batch_journal.specs.Rest.{limit_of}
 use Rattle.batch_journal.specs.declared.mount.Mounted.{Mounted}
 use Rattle.timeline.specs.Logs.{Backed, backed}
 use Rattle.output_gate.specs.Serving.{is_stopped}
+use Rattle.output_gate.specs.Storing.{HasLimit}
 use Rattle.output_gate.specs.declared.back.Back.{Back}
 use Rattle.output_gate.specs.declared.store.Store.TheVariants as store
 
@@ -17,6 +18,7 @@ pub record IsFresh {D : Type 0} (mounted : Mounted D) (back : Back D) : Type 0 w
   pub held : back.held.items ≡ []
   pub store : back.store ≡ store.Journal mounted.journal
   pub limit : back.limit ≡ limit_of mounted.journal
+  pub journal : HasLimit back.limit back.store
   pub identity : back.identity ≡ mounted.identity
   pub map : back.cache ≡ mounted.map
   pub stuck : back.stuck ≡ false

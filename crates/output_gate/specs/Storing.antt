@@ -22,9 +22,17 @@ IsDiskOf (store.Journal journal) disk = disk ≡ disk_in journal
 IsDiskOf (store.Disk bare) disk = disk ≡ bare
 IsDiskOf store.Away disk = ⊥
 
--- The disk that was in the store is in it still.
-abbrev pub KeepsDisk : {D : Type 0} → (old new : Store D) → Type 0
-KeepsDisk {D} old new = (disk : D) → IsDiskOf old disk → IsDiskOf new disk
+-- A journal in the store has this limit; and one has the limit that the one before it had.
+abbrev pub HasLimit : {D : Type 0} → ℕ → Store D → Type 0
+HasLimit {D} limit kept = (journal : Journal D) → kept ≡ store.Journal journal → limit_of journal ≡ limit
+
+abbrev pub KeepsLimit : {D : Type 0} → (old new : Store D) → Type 0
+KeepsLimit old new = (limit : ℕ) → HasLimit limit old → HasLimit limit new
+
+-- The disk that was in the store is in it still, and a journal has the limit that it had.
+pub record KeepsDisk {D : Type 0} (old new : Store D) : Type 0 where
+  pub still : (disk : D) → IsDiskOf old disk → IsDiskOf new disk
+  pub limit : KeepsLimit old new
 
 -- The store's disk tells its content exactly where the one before did.
 abbrev pub KeepsTelling : {D : Type 0} → (D → Option (List ℕ)) → (old new : Store D) → Type 0
@@ -39,6 +47,7 @@ pub record Stages {D : Type 0} (told : D → Option (List ℕ)) (image : D → L
   pub same_staged : OnErr result ((other : Object) (batches : List (List Op)) → IsStaged old other batches → IsStaged new other batches)
   pub frames : (frames : List Frame) → IsAtRest told image old frames → IsAtRest told image new frames
   pub disk : disk_in new ≡ disk_in old
+  pub limit : limit_of new ≡ limit_of old
 
 -- A fault of an append: the disk's count of faults rose, or the journal would have passed its limit.
 abbrev pub IsCauseOf : {D : Type 0} → (D → ℕ) → (old new : Journal D) → Cause → Type 0
@@ -67,3 +76,4 @@ pub record Appends {D : Type 0} (moment_of : D → ℕ) (left_since : D → ℕ 
   pub full_keeps : IfErr result (λ fault. (n limit : ℕ) (frames : List Frame) → fault.cause ≡ cause.Full n limit → IsAtRest told image old frames → IsAtRest told image new frames)
   pub later : faults_of (disk_in old) ≤ faults_of (disk_in new)
   pub telling : TellsAsBefore (told (disk_in old)) (told (disk_in new))
+  pub limit : limit_of new ≡ limit_of old

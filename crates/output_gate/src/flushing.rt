@@ -3,7 +3,7 @@ ghost use Rattle.std.specs.Prelude.{◌≡◌, ◌≢◌};
 ghost use Rattle.timeline.specs.declared.notice.Stepped.TheVariants.{Did, Nothing};
 ghost use Rattle.output_gate.specs.Serving.{CanServe, KeepsBack, is_stopped, CanLand, Lands, CanStop, Stops};
 ghost use Rattle.output_gate.specs.Flushing.{Flushes};
-ghost use Rattle.output_gate.specs.Storing.{KeepsTelling};
+ghost use Rattle.output_gate.specs.Storing.{KeepsLimit, KeepsTelling};
 
 use crate::back::{Back, Ending, Mode};
 use crate::held::discard_all;
@@ -19,6 +19,7 @@ impl<D: Disk> Back<D> {
         ensures nothing { self.old.before ≡ self.old.durable → (result ≡ Nothing) × (self.new ≡ self.old) }
         ensures flushed { self.old.before ≢ self.old.durable → (result ≡ Did) × Flushes D.faults_of self.old self.new }
         ensures tells { KeepsTelling D.told self.old.store self.new.store }
+        ensures limit { KeepsLimit self.old.store self.new.store }
         ensures stopped { is_stopped self.new ≡ is_stopped self.old }
         ensures back { KeepsBack D.moment_of D.left_since D.told D.image D.faults_of self.old self.new }
     {

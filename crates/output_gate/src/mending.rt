@@ -5,7 +5,7 @@ ghost use Rattle.batch_journal.specs.Rest.{disk_in};
 ghost use Rattle.storage_map.specs.declared.op.Op.{Op};
 ghost use Rattle.timeline.specs.declared.notice.Notice.TheVariants as notice;
 ghost use Rattle.output_gate.specs.Mending.{IsFound, CountsFound, IsLimited, is_own_object, Begins, Misses, CanBegin, CanMend, Remounts, may_mend, MendRoom, IsIdleMend, Mends, LosesMend, IsRefusedFor, FallsByFault};
-ghost use Rattle.output_gate.specs.Storing.{KeepsTelling};
+ghost use Rattle.output_gate.specs.Storing.{HasLimit, KeepsTelling};
 ghost use Rattle.output_gate.specs.Taking.{LogSame};
 ghost use Rattle.timeline.specs.declared.notice.Stepped.TheVariants.{Did, Nothing};
 ghost use Rattle.output_gate.specs.Serving.{IsUnmounted, IsBackAs, CanServe, CanServeAs, KeepsBack, KeepsBackAs, StopsBy, is_stopped, IsAsBefore};
@@ -44,6 +44,7 @@ impl<D: Disk> Back<D> {
         ensures mended { result ≡ Ok Did → Mends D.faults_of self.old self.new (N.sent notices.old) (N.sent notices.new) }
         ensures falls { is_stopped self.old ≡ false → may_mend self.old ≡ true → FallsByFault D.faults_of D.told self.old self.new }
         ensures tells { KeepsTelling D.told self.old.store self.new.store }
+        ensures limit { HasLimit self.old.limit self.old.store → HasLimit self.old.limit self.new.store }
         ensures lost { OnErr result (LosesMend D.faults_of self.old self.new (N.sent notices.old) (N.sent notices.new)) }
         ensures stops { StopsBy result self.new }
         ensures outlet { (N.outlet notices.new ≡ N.outlet notices.old) × (N.left notices.new ≡ N.left notices.old) }
@@ -65,6 +66,7 @@ impl<D: Disk> Back<D> {
         ensures mended { result ≡ Ok Did → Mends D.faults_of self.old self.new (N.sent notices.old) (N.sent notices.new) }
         ensures falls { may_mend self.old ≡ true → FallsByFault D.faults_of D.told self.old self.new }
         ensures tells { KeepsTelling D.told self.old.store self.new.store }
+        ensures limit { HasLimit self.old.limit self.old.store → HasLimit self.old.limit self.new.store }
         ensures lost { OnErr result (LosesMend D.faults_of self.old self.new (N.sent notices.old) (N.sent notices.new)) }
         ensures outlet { (N.outlet notices.new ≡ N.outlet notices.old) × (N.left notices.new ≡ N.left notices.old) }
         ensures back { OnOk result (KeepsBackAs D.moment_of D.left_since D.told D.image D.faults_of true true self.old self.new) }
@@ -88,6 +90,7 @@ impl<D: Disk> Back<D> {
         ensures remounts { IfOk result (λ notice. Remounts D.faults_of self.old self.new ending notice) }
         ensures falls { FallsByFault D.faults_of D.told self.old self.new }
         ensures tells { KeepsTelling D.told self.old.store self.new.store }
+        ensures limit { HasLimit self.old.limit self.old.store → HasLimit self.old.limit self.new.store }
         ensures kept { OnErr result (IsAsBefore self.old self.new) }
         ensures back { OnOk result ((start : List (List Op)) (opening : ℕ)
             → IsUnmounted D.moment_of D.left_since D.told D.image D.faults_of start opening self.old

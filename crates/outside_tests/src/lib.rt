@@ -3,3 +3,5 @@
 
 #[cfg(test)]
 mod disk_tests;
+#[cfg(test)]
+mod gate_tests;

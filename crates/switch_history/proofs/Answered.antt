@@ -81,7 +81,7 @@ module _ (script : Script) (log : SwitchLog) (s : Switch) where
   line_does l = by_line script s Does (record {
     calls = λ number of to method args. of_call number of to method args;
     ticked = λ number moment. tt;
-    refused = λ l out _ none. due_none _ _ l.number l.body none;
+    refused = λ l number why none. due_none _ _ l.number l.body none;
     closed = λ l k result fetch none _. due_none _ _ l.number l.body none;
     evicted = λ number slot object _ _. tt;
     unknown = λ number object. tt;

@@ -139,7 +139,7 @@ of_line : (script : Script) (s : Switch) (routed : List (ℕ × Message)) (befor
 of_line script s routed before sound = record {
   calls = λ at number to method args. of_call script s routed before sound (from.Request at number) to (λ slot incarnation n e. no_object at slot incarnation n number e);
   ticked = λ at moment. more script s routed before sound s.unanswered (tick_posts script moment 0 s.objects) sound.asked (ticked script s routed before sound moment 0 s.objects);
-  refused = λ l out _ _. more script s routed before sound s.unanswered [] sound.asked tt;
+  refused = λ l number why _. more script s routed before sound s.unanswered [] sound.asked tt;
   closed = λ l k result fetch _ found. more script s routed before sound (filter (λ other. not (other.k == fetch.k)) s.unanswered)
       ((fetch.slot, event.Answer fetch.incarnation fetch.number result s.tick) ∷ [])
       (all_filter (IsOpenAsked routed) (λ other. not (other.k == fetch.k)) s.unanswered sound.asked)

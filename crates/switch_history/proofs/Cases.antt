@@ -6,7 +6,7 @@ use Rattle.std.specs.List.{find, filter}
 use Rattle.do_value.specs.declared.value.Value.{Value}
 use Rattle.do_tree.specs.Lookup.{class_named, method_named}
 use Rattle.do_tree.specs.Tree.{Script}
-use Rattle.timeline.specs.Lines.{Identity, Request, OutLine, Line}
+use Rattle.timeline.specs.Lines.{Identity, Request, Line, Why}
 use Rattle.timeline.specs.Lines as line
 use Rattle.timeline.specs.Switch.{Switch, Given, OpenFetch, gives_nothing, posts, prints, slot_of, free_slot, object_at, answers_to, calls_in, calls_method, calls_class, calls_object, is_known, tick_posts, closes, evicts, accepts, fetches_from, is_fit, routes, routes_from}
 use Rattle.timeline.specs.declared.caller.Caller.{Caller}
@@ -17,7 +17,6 @@ use Rattle.timeline.specs.declared.event.Event.TheVariants as event
 use Rattle.timeline.specs.declared.message.Message.{Message}
 use Rattle.timeline.specs.declared.message.Message.TheVariants as message
 use Rattle.switch_history.specs.Laws.{IsRefusal}
-use Rattle.switch_history.specs.Posted.{fetch_in}
 
 -- A line that calls no object.
 abbrev pub IsNoCall : Result Request ℕ → Type 0
@@ -66,7 +65,7 @@ module _ (script : Script) (s : Switch) where
         → OfCall (P (record { number = at; body = Ok (line.calls number to method args) })) (from.Request at number) to
     pub ticked : (at : ℕ) (moment : ℤ)
         → P (record { number = at; body = Ok (line.ticks moment) }) (record { posts = tick_posts script moment 0 s.objects; lines = []; after = record s { tick = moment } })
-    pub refused : (l : Line) (out : OutLine) → fetch_in out ≡ [] → IsNoCall l.body → P l (prints s out)
+    pub refused : (l : Line) (number : ℕ) (why : Why) → IsNoCall l.body → P l (prints s (line.refused number why))
     pub closed : (l : Line) (k : ℕ) (result : Result Value Failure) (fetch : OpenFetch) → IsNoCall l.body → find (λ fetch. fetch.k == k) s.unanswered ≡ Some fetch
         → P l (posts (record s { unanswered = filter (λ other. not (other.k == fetch.k)) s.unanswered }) ((fetch.slot, event.Answer fetch.incarnation fetch.number result s.tick) ∷ []))
     pub evicted : (at slot : ℕ) (object : Identity) → slot_of s object ≡ Some slot → is_known script object ≡ true
@@ -81,11 +80,11 @@ module _ (script : Script) (s : Switch) where
           → P (record { number = at; body = Ok (line.ticks moment) })
           (cond in_order (record { posts = tick_posts script moment 0 s.objects; lines = []; after = record s { tick = moment } }) (prints s (line.refused at line.backwards)))
       at_tick at moment true is = of.ticked at moment
-      at_tick at moment false is = of.refused (record { number = at; body = Ok (line.ticks moment) }) (line.refused at line.backwards) refl tt
+      at_tick at moment false is = of.refused (record { number = at; body = Ok (line.ticks moment) }) at line.backwards tt
 
       at_fetch : (body : Result Request ℕ) (at k : ℕ) (result : Result Value Failure) (fetch : Option OpenFetch) → IsNoCall body
           → find (λ fetch. fetch.k == k) s.unanswered ≡ fetch → P (record { number = at; body = body }) (closes s at result fetch)
-      at_fetch body at k result None is found = of.refused (record { number = at; body = body }) (line.refused at line.no_fetch) refl is
+      at_fetch body at k result None is found = of.refused (record { number = at; body = body }) at line.no_fetch is
       at_fetch body at k result (Some fetch) is found = of.closed (record { number = at; body = body }) k result fetch is found
 
       at_known : (at slot : ℕ) (object : Identity) (known : Bool) → slot_of s object ≡ Some slot → is_known script object ≡ known
@@ -106,7 +105,7 @@ module _ (script : Script) (s : Switch) where
       at_body at (Ok (line.fetch_failed k)) =
           at_fetch (Ok (line.fetch_failed k)) at k (Err failure.NoFetch) (find (λ fetch. fetch.k == k) s.unanswered) tt refl
       at_body at (Ok (line.evicts object)) = at_slot at object (slot_of s object) refl
-      at_body at (Err why) = of.refused (record { number = at; body = Err why }) (line.refused at (line.unreadable why)) refl tt
+      at_body at (Err why) = of.refused (record { number = at; body = Err why }) at (line.unreadable why) tt
 
   -- What a message gives.
   pub record OfMessage (P : ℕ × Message → Given → Type 0) : Type 0 where

@@ -112,7 +112,7 @@ module _ (script : Script) (s : Switch) (there : HaveObjects s.objects s.unanswe
   of_line = record {
     calls = λ number of to method args. of_call (from.Request number of) to refl;
     ticked = λ number moment. same (tick_posts script moment 0 s.objects) (ticks_posted script moment s.objects);
-    refused = λ l out _ _. no_posts;
+    refused = λ l number why _. no_posts;
     closed = λ l k result fetch _ found. record {
       each = one_posted script s.objects fetch.slot (event.Answer fetch.incarnation fetch.number result s.tick)
           (answer_posted script (at s.objects fetch.slot) fetch.incarnation fetch.number result s.tick

@@ -7,3 +7,12 @@ mod Answered
 mod Ordered
 mod Fitted
 mod Fitting
+pub mod Ending
+mod Moments
+mod Balanced
+mod Keyed
+mod Requests
+mod Inside
+mod Once
+mod Asks
+mod AsksOnce

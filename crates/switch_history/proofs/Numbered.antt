@@ -4,7 +4,7 @@ use Rattle.std.specs.Prelude.{Result}
 use Rattle.std.proofs.lemmas.List.Concat.{flat_map-append}
 use Rattle.do_value.specs.declared.value.Value.{Value}
 use Rattle.do_tree.specs.Tree.{Script}
-use Rattle.timeline.specs.Lines.{Identity, OutLine, Line}
+use Rattle.timeline.specs.Lines.{Identity, OutLine}
 use Rattle.timeline.specs.Lines as line
 use Rattle.timeline.specs.Switch.{Switch, SwitchLog, Given, IsSwitchRun, opened, begins, accepted as after_line, routed as after_message, answers_to, result_line}
 use Rattle.timeline.specs.declared.caller.Caller.{Caller}
@@ -66,7 +66,7 @@ module _ (script : Script) (s : Switch) (before : List OutLine) (so_far : Ascend
   of_line = record {
     calls = λ at number to method args. of_call (from.Request at number) to;
     ticked = λ at moment. none [] refl;
-    refused = λ l out no_fetch _. none (out ∷ []) (ap (λ (ks : List ℕ). ks ++ []) no_fetch);
+    refused = λ l number why _. none (line.refused number why ∷ []) refl;
     closed = λ l k result fetch _ _. none [] refl;
     evicted = λ at slot object _ _. none [] refl;
     unknown = λ at object. none [] refl;

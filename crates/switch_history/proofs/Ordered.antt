@@ -177,7 +177,7 @@ of_line : (script : Script) (slot : ℕ) (s : Switch) (before : List (ℕ × Mes
 of_line script slot s before posted so_far = record {
   calls = λ number of to method args. of_call script slot s before posted so_far [] (from.Request number of) to (λ object _. nothing);
   ticked = λ number moment. quiet script slot s before posted so_far [] (tick_posts script moment 0 s.objects) (λ other. no_tick script slot other moment 0 s.objects);
-  refused = λ l out _ _. quiet script slot s before posted so_far [] [] (λ other. refl);
+  refused = λ l number why _. quiet script slot s before posted so_far [] [] (λ other. refl);
   closed = λ l k result fetch _ _. quiet script slot s before posted so_far [] ((fetch.slot, event.Answer fetch.incarnation fetch.number result s.tick) ∷ [])
       (λ other. no_call slot other fetch.slot (event.Answer fetch.incarnation fetch.number result s.tick) refl);
   evicted = λ number own_slot object _ _. quiet script slot s before posted so_far [] ((own_slot, event.Evict s.tick) ∷ [])

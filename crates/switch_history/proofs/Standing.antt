@@ -110,7 +110,7 @@ module _ (script : Script) (s : Switch) where
   line_stays l = by_line script s (λ l given. Stays s.objects given) (record {
     calls = λ at number to method args. of_call (from.Request at number) to;
     ticked = λ at moment slot object is. is;
-    refused = λ l out _ _ slot object is. is;
+    refused = λ l number why _ slot object is. is;
     closed = λ l k result fetch _ _ slot object is. is;
     evicted = λ at slot object _ _ other o is. is;
     unknown = λ at object slot o is. is;

@@ -1,5 +1,9 @@
 //! Laws of a run of the switch. A call costs nothing and tells its caller the law.
+ghost use Rattle.switch_history.specs.Answering.{CallsAreAnsweredOnce};
+ghost use Rattle.switch_history.specs.Asks.{AsksAreAnsweredOnce};
+ghost use Rattle.switch_history.specs.Ends.{EndsAreRouted};
 ghost use Rattle.switch_history.specs.Laws.{AnswersAreAsked, CallsComeInOrder, FetchesAreNumbered, PostsFit, RequestsAreAnswered};
+ghost use Rattle.switch_history.specs.Moments.{MomentsAreInRange};
 
 /// An answer is posted to the object that asked for it alone.
 pub fn answers_are_asked()
@@ -24,4 +28,24 @@ pub fn fetches_are_numbered()
 /// What is posted to a slot fits its object. One whose object is of no class of the script must be posted no answer.
 pub fn posts_fit()
     ensures { PostsFit }
+{}
+
+/// No line tells of an end but those of routed messages that do.
+pub fn ends_are_routed()
+    ensures { EndsAreRouted }
+{}
+
+/// Where the ticks of lines are in range, so are the moments of what is posted.
+pub fn moments_are_in_range()
+    ensures { MomentsAreInRange }
+{}
+
+/// Each accepted call has exactly one line, or is left, where each object serves each of its callers once.
+pub fn calls_are_answered_once()
+    ensures { CallsAreAnsweredOnce }
+{}
+
+/// Each call and fetch of an object that was routed got exactly one answer, or is left, or is a fetch that is open.
+pub fn asks_are_answered_once()
+    ensures { AsksAreAnsweredOnce }
 {}

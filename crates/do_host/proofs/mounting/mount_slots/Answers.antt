@@ -36,7 +36,7 @@ loop-slot-preserved g c =
     let puts = c.put.ensures.puts in
     record {
       rows = ap length puts.rows_are ∙ length-append c.loop-slot.report.slots.items (puts.row ∷ []) ∙ ap (λ (n : ℕ). n + 1) i.rows;
-      mounted = mounted_put g.P.Store.Disk.moment_of g.P.Store.Disk.left_since g.P.Store.Disk.told g.P.Store.Disk.image (g.P.Depot.slot_at c.args.depot.now folder) (g.P.Depot.slot_at c.loop-slot.depot folder slot)
+      mounted = mounted_put g.P.Store.Disk.moment_of g.P.Store.Disk.left_since g.P.Store.Disk.told g.P.Store.Disk.image _ (g.P.Depot.slot_at c.args.depot.now folder) (g.P.Depot.slot_at c.loop-slot.depot folder slot)
           c.loop-slot.directory c.mount_slot.new.directory c.loop-slot.report.slots.items _ c.loop-slot.maps.items _ c.in_ok-mounted.mounted slot i.rows (i.later slot (omega arith)) i.mounted
           c.mount_slot.ensures.only c.in_ok-mounted.ensures.mounted puts;
       room = λ more is. c.put.ensures.room more (i.room (more + 1) (omega (arith, is)));

@@ -35,12 +35,12 @@ returns-in-Ok-clause-any g c =
     let d = g.P.Store.Disk in
     let ran = c.serve_checked.result in
     let folder = string_bytes c.args.told.folder in
-    let serves = serves_same d.moment_of d.left_since d.told d.image d.faults_of g.R.Source.left g.R.Source.faults_of g.W.Sink.taken g.W.Sink.faults_of (tree_of c.in-Ok.checked) folder c.args.told.slots
+    let serves = serves_same d.moment_of d.left_since d.told d.image d.faults_of g.R.Source.left g.R.Source.faults_of g.W.Sink.taken g.W.Sink.faults_of (tree_of c.in-Ok.checked) folder c.args.told.slots c.args.told.journal
     c.args.input ran.input c.args.out ran.out ran.status c.args.report.now c.serve_checked.new.report
     (g.P.Depot.slot_at c.read_script.new.depot folder) (g.P.Depot.slot_at c.read_script.new.depot folder) (g.P.Depot.asked c.read_script.new.depot) (g.P.Depot.asked c.read_script.new.depot) (g.P.Depot.asked c.serve_checked.new.depot)
     (g.P.Depot.faults_of c.args.depot.now) (g.P.Depot.faults_of c.read_script.new.depot) (g.P.Depot.faults_of c.serve_checked.new.depot)
     refl refl c.in-Ok.ensures.steady c.serve_checked.ensures.serves in
-    any_tree d.moment_of d.left_since d.told d.image d.faults_of g.R.Source.left g.R.Source.faults_of g.W.Sink.taken g.W.Sink.faults_of (tree_of c.in-Ok.checked) folder c.args.told.slots
+    any_tree d.moment_of d.left_since d.told d.image d.faults_of g.R.Source.left g.R.Source.faults_of g.W.Sink.taken g.W.Sink.faults_of (tree_of c.in-Ok.checked) folder c.args.told.slots c.args.told.journal
     c.args.input ran.input c.args.out ran.out ran.status c.args.report.now c.serve_checked.new.report
     (g.P.Depot.slot_at c.read_script.new.depot folder) (g.P.Depot.asked c.read_script.new.depot) (g.P.Depot.asked c.serve_checked.new.depot)
     (g.P.Depot.faults_of c.args.depot.now) (g.P.Depot.faults_of c.serve_checked.new.depot) c.requires.range.some_slot serves
@@ -53,7 +53,7 @@ returns-in-Ok-clause-serve g c =
     inr (record {
       tree = tree_of c.in-Ok.checked;
       accepted = subst (λ (s : List ℕ). IfTold (g.P.Depot.text_at c.args.depot.now s) (λ t. IsAccepted t (tree_of c.in-Ok.checked))) c.as_str.ensures.value c.in-Ok.ensures.accepted;
-      serves = serves_same d.moment_of d.left_since d.told d.image d.faults_of g.R.Source.left g.R.Source.faults_of g.W.Sink.taken g.W.Sink.faults_of (tree_of c.in-Ok.checked) folder c.args.told.slots
+      serves = serves_same d.moment_of d.left_since d.told d.image d.faults_of g.R.Source.left g.R.Source.faults_of g.W.Sink.taken g.W.Sink.faults_of (tree_of c.in-Ok.checked) folder c.args.told.slots c.args.told.journal
           c.args.input ran.input c.args.out ran.out ran.status c.args.report.now c.serve_checked.new.report
           (g.P.Depot.slot_at c.args.depot.now folder) (g.P.Depot.slot_at c.read_script.new.depot folder) _ (g.P.Depot.asked c.read_script.new.depot) (g.P.Depot.asked c.serve_checked.new.depot)
           (g.P.Depot.faults_of c.args.depot.now) (g.P.Depot.faults_of c.read_script.new.depot) (g.P.Depot.faults_of c.serve_checked.new.depot)
@@ -66,7 +66,7 @@ returns-in-Ok-clause-no_usage g c =
     let d = g.P.Store.Disk in
     let ran = c.serve_checked.result in
     let folder = string_bytes c.args.told.folder in
-    tree_no_usage d.moment_of d.left_since d.told d.image d.faults_of g.R.Source.left g.R.Source.faults_of g.W.Sink.taken g.W.Sink.faults_of (tree_of c.in-Ok.checked) folder c.args.told.slots
+    tree_no_usage d.moment_of d.left_since d.told d.image d.faults_of g.R.Source.left g.R.Source.faults_of g.W.Sink.taken g.W.Sink.faults_of (tree_of c.in-Ok.checked) folder c.args.told.slots c.args.told.journal
     c.args.input ran.input c.args.out ran.out ran.status c.args.report.now c.serve_checked.new.report
     (g.P.Depot.slot_at c.read_script.new.depot folder) (g.P.Depot.asked c.read_script.new.depot) (g.P.Depot.asked c.serve_checked.new.depot)
     (g.P.Depot.faults_of c.read_script.new.depot) (g.P.Depot.faults_of c.serve_checked.new.depot) c.serve_checked.ensures.serves

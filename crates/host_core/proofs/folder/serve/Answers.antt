@@ -16,28 +16,28 @@ use Rattle.host_core.proofs.folder.serve.Goals as goal
 pub returns-in_default-clause-report : goal.returns-in_default-clause-report
 returns-in_default-clause-report g c =
     let report : Report g.row.P-Store.Denot = record { slots = c.make_rows.new.rows; unopened = c.args.report.now.unopened; switch = c.args.report.now.switch; lines = c.args.report.now.lines } in
-    subst (λ (s : Served g.row.R.Denot g.row.W.Denot). IsReport g.P.Store.Disk.moment_of g.P.Store.Disk.left_since g.P.Store.Disk.told g.P.Store.Disk.faults_of (tree_of c.args.checked.now) (g.P.Depot.slot_at c.args.depot.now (string_bytes c.args.settings.now.folder)) c.args.settings.now.slots s.end report) (sym c.without_memory.ensures)
-    (reports_none g.P.Store.Disk.moment_of g.P.Store.Disk.left_since g.P.Store.Disk.told g.P.Store.Disk.faults_of (tree_of c.args.checked.now) (g.P.Depot.slot_at c.args.depot.now (string_bytes c.args.settings.now.folder)) c.args.settings.now.slots report (c.make_rows.ensures.same ∙ c.requires.empty.slots) c.requires.empty.switch)
+    subst (λ (s : Served g.row.R.Denot g.row.W.Denot). IsReport g.P.Store.Disk.moment_of g.P.Store.Disk.left_since g.P.Store.Disk.told g.P.Store.Disk.faults_of c.args.settings.now.journal (tree_of c.args.checked.now) (g.P.Depot.slot_at c.args.depot.now (string_bytes c.args.settings.now.folder)) c.args.settings.now.slots s.end report) (sym c.without_memory.ensures)
+    (reports_none g.P.Store.Disk.moment_of g.P.Store.Disk.left_since g.P.Store.Disk.told g.P.Store.Disk.faults_of c.args.settings.now.journal (tree_of c.args.checked.now) (g.P.Depot.slot_at c.args.depot.now (string_bytes c.args.settings.now.folder)) c.args.settings.now.slots report (c.make_rows.ensures.same ∙ c.requires.empty.slots) c.requires.empty.switch)
 
 pub returns-in_default-with_room-clause-report : goal.returns-in_default-with_room-clause-report
 returns-in_default-with_room-clause-report g c =
     let report : Report g.row.P-Store.Denot = record { slots = c.make_rows.new.rows; unopened = c.args.report.now.unopened; switch = c.args.report.now.switch; lines = c.args.report.now.lines } in
-    subst (λ (s : Served g.row.R.Denot g.row.W.Denot). IsReport g.P.Store.Disk.moment_of g.P.Store.Disk.left_since g.P.Store.Disk.told g.P.Store.Disk.faults_of (tree_of c.args.checked.now) (g.P.Depot.slot_at c.args.depot.now (string_bytes c.args.settings.now.folder)) c.args.settings.now.slots s.end report) (sym c.without_memory-in_default-with_room.ensures)
-    (reports_none g.P.Store.Disk.moment_of g.P.Store.Disk.left_since g.P.Store.Disk.told g.P.Store.Disk.faults_of (tree_of c.args.checked.now) (g.P.Depot.slot_at c.args.depot.now (string_bytes c.args.settings.now.folder)) c.args.settings.now.slots report (c.make_rows.ensures.same ∙ c.requires.empty.slots) c.requires.empty.switch)
+    subst (λ (s : Served g.row.R.Denot g.row.W.Denot). IsReport g.P.Store.Disk.moment_of g.P.Store.Disk.left_since g.P.Store.Disk.told g.P.Store.Disk.faults_of c.args.settings.now.journal (tree_of c.args.checked.now) (g.P.Depot.slot_at c.args.depot.now (string_bytes c.args.settings.now.folder)) c.args.settings.now.slots s.end report) (sym c.without_memory-in_default-with_room.ensures)
+    (reports_none g.P.Store.Disk.moment_of g.P.Store.Disk.left_since g.P.Store.Disk.told g.P.Store.Disk.faults_of c.args.settings.now.journal (tree_of c.args.checked.now) (g.P.Depot.slot_at c.args.depot.now (string_bytes c.args.settings.now.folder)) c.args.settings.now.slots report (c.make_rows.ensures.same ∙ c.requires.empty.slots) c.requires.empty.switch)
 
 pub close-requires-clause-can : goal.close-requires-clause-can
 close-requires-clause-can g c =
-    (tree_of c.args.checked.now, going_can g.P.Store.Disk.moment_of g.P.Store.Disk.left_since g.P.Store.Disk.told g.P.Store.Disk.image g.P.Store.Disk.faults_of (tree_of c.args.checked.now) (g.P.Depot.slot_at c.args.depot.now (string_bytes c.args.settings.now.folder)) c.open.new.directory no_log c.open.new.objects c.open.ensures.going)
+    (tree_of c.args.checked.now, going_can g.P.Store.Disk.moment_of g.P.Store.Disk.left_since g.P.Store.Disk.told g.P.Store.Disk.image g.P.Store.Disk.faults_of c.args.settings.now.journal (tree_of c.args.checked.now) (g.P.Depot.slot_at c.args.depot.now (string_bytes c.args.settings.now.folder)) c.open.new.directory no_log c.open.new.objects c.open.ensures.going)
 
 pub returns-in-Err-clause-report : goal.returns-in-Err-clause-report
 returns-in-Err-clause-report g c =
     let few = (subst (λ (n : ℕ). n < c.args.settings.now.slots) (sym c.close.ensures.many) (at_fault c.open.result c.in-Err.end _ c.in-Err.is c.open.ensures.some)) in
     let stop = (if_fault c.open.result c.in-Err.end _ c.in-Err.is c.open.ensures.stop) in
     let report : Report g.row.P-Store.Denot = record { slots = c.close.new.rows; unopened = c.open.new.unopened; switch = c.args.report.now.switch; lines = c.args.report.now.lines } in
-    subst (λ (e : ServeEnd). IsReport g.P.Store.Disk.moment_of g.P.Store.Disk.left_since g.P.Store.Disk.told g.P.Store.Disk.faults_of (tree_of c.args.checked.now) (g.P.Depot.slot_at c.args.depot.now (string_bytes c.args.settings.now.folder)) c.args.settings.now.slots e report) (sym c.opening_end.ensures)
-    (reports_opened g.P.Store.Disk.moment_of g.P.Store.Disk.left_since g.P.Store.Disk.told g.P.Store.Disk.faults_of (tree_of c.args.checked.now) (g.P.Depot.slot_at c.args.depot.now (string_bytes c.args.settings.now.folder)) c.open.new.directory c.args.settings.now.slots c.in-Err.end report c.requires.empty.switch
-    (c.close.ensures.rows (tree_of c.args.checked.now) (g.P.Depot.slot_at c.args.depot.now (string_bytes c.args.settings.now.folder)) c.open.new.directory no_log
-    (all_stand g.P.Store.Disk.moment_of g.P.Store.Disk.left_since g.P.Store.Disk.told g.P.Store.Disk.image g.P.Store.Disk.faults_of (tree_of c.args.checked.now) (g.P.Depot.slot_at c.args.depot.now (string_bytes c.args.settings.now.folder)) c.open.new.directory no_log c.open.new.objects c.open.ensures.going))
+    subst (λ (e : ServeEnd). IsReport g.P.Store.Disk.moment_of g.P.Store.Disk.left_since g.P.Store.Disk.told g.P.Store.Disk.faults_of c.args.settings.now.journal (tree_of c.args.checked.now) (g.P.Depot.slot_at c.args.depot.now (string_bytes c.args.settings.now.folder)) c.args.settings.now.slots e report) (sym c.opening_end.ensures)
+    (reports_opened g.P.Store.Disk.moment_of g.P.Store.Disk.left_since g.P.Store.Disk.told g.P.Store.Disk.faults_of c.args.settings.now.journal (tree_of c.args.checked.now) (g.P.Depot.slot_at c.args.depot.now (string_bytes c.args.settings.now.folder)) c.open.new.directory c.args.settings.now.slots c.in-Err.end report c.requires.empty.switch
+    (c.close.ensures.rows c.args.settings.now.journal (tree_of c.args.checked.now) (g.P.Depot.slot_at c.args.depot.now (string_bytes c.args.settings.now.folder)) c.open.new.directory no_log
+    (all_stand g.P.Store.Disk.moment_of g.P.Store.Disk.left_since g.P.Store.Disk.told g.P.Store.Disk.image g.P.Store.Disk.faults_of c.args.settings.now.journal (tree_of c.args.checked.now) (g.P.Depot.slot_at c.args.depot.now (string_bytes c.args.settings.now.folder)) c.open.new.directory no_log c.open.new.objects c.open.ensures.going))
     c.open.ensures.many c.open.ensures.one_each few
     (λ bad is. subst (λ (n : ℕ). IsBad (g.P.Depot.slot_at c.args.depot.now (string_bytes c.args.settings.now.folder)) c.open.new.directory n bad) (sym c.close.ensures.many) (stop.bad bad is).0))
 

@@ -9,6 +9,7 @@ use Rattle.host_core.proofs.Reporting.{Ended, all_served, ends_by, finished_is, 
 use Rattle.host_core.proofs.Answered.{are_settled}
 use Rattle.host_core.proofs.Ending.{either_way}
 use Rattle.host_core.proofs.InOrder.{come_in_order}
+use Rattle.host_core.proofs.Once.{are_answered}
 use Rattle.host_core.proofs.Reporting.{accepts_later, all_later, read_later}
 use Rattle.host_core.proofs.Servings.{of_ok}
 use Rattle.host_core.specs.Objects.{AreThere}
@@ -20,44 +21,61 @@ use Rattle.host_core.proofs.folder.serve_slots.Goals as goal
 pub serve_lines-served-requires-clause-serving : goal.serve_lines-served-requires-clause-serving
 serve_lines-served-requires-clause-serving g c =
     let going = c.requires.going in
-    (going.0, c.args.directory, serves_first g.D.Disk.moment_of g.D.Disk.left_since g.D.Disk.told g.D.Disk.image g.D.Disk.faults_of (tree_of c.args.checked.now) going.0 c.args.directory c.new-switch.result c.args.objects c.new-switch.ensures.state c.new-switch.ensures.log c.new-switch.ensures.fault c.requires.many going.1)
+    (going.0, going.1, c.args.directory, serves_first g.D.Disk.moment_of g.D.Disk.left_since g.D.Disk.told g.D.Disk.image g.D.Disk.faults_of going.0 (tree_of c.args.checked.now) going.1 c.args.directory c.new-switch.result c.args.objects c.new-switch.ensures.state c.new-switch.ensures.log c.new-switch.ensures.fault c.requires.many going.2)
 
 pub finish-end-requires : goal.finish-end-requires
 finish-end-requires g c = λ sure.
     let going = c.requires.going in
-    (all_served c.serve_lines-served.result _ sure c.serve_lines-served.ensures.serving c.serve_lines-served.ensures.read_serving going.0 c.args.directory
-    (serves_first g.D.Disk.moment_of g.D.Disk.left_since g.D.Disk.told g.D.Disk.image g.D.Disk.faults_of (tree_of c.args.checked.now) going.0 c.args.directory c.new-switch.result c.args.objects c.new-switch.ensures.state c.new-switch.ensures.log c.new-switch.ensures.fault c.requires.many going.1)).goes
+    (all_served c.serve_lines-served.result _ sure c.serve_lines-served.ensures.serving c.serve_lines-served.ensures.read_serving going.0 going.1 c.args.directory
+    (serves_first g.D.Disk.moment_of g.D.Disk.left_since g.D.Disk.told g.D.Disk.image g.D.Disk.faults_of going.0 (tree_of c.args.checked.now) going.1 c.args.directory c.new-switch.result c.args.objects c.new-switch.ensures.state c.new-switch.ensures.log c.new-switch.ensures.fault c.requires.many going.2)).goes
 
 pub returns-clause-report : goal.returns-clause-report
-returns-clause-report g c = λ contents one_each going.
+returns-clause-report g c = λ limit contents one_each going.
     let ended : Ended g.W.Sink.taken g.W.Sink.faults_of c.serve_lines-served.new.switch c.finish-end.new.switch c.serve_lines-served.result _ c.finish-end.result = record { stops = c.finish-end.ensures.stops; finishes = c.finish-end.ensures.finishes } in
-    let first = serves_first g.D.Disk.moment_of g.D.Disk.left_since g.D.Disk.told g.D.Disk.image g.D.Disk.faults_of (tree_of c.args.checked.now) contents c.args.directory c.new-switch.result c.args.objects c.new-switch.ensures.state c.new-switch.ensures.log c.new-switch.ensures.fault c.requires.many going in
-    let has = c.serve_lines-served.ensures.served contents c.args.directory first in
-    reports g.W.Sink.taken g.W.Sink.faults_of c.new-switch.result c.serve_lines-served.new.switch c.finish-end.new.switch c.serve_lines-served.result _ c.finish-end.result ended g.D.Disk.moment_of g.D.Disk.left_since g.D.Disk.told g.D.Disk.image g.D.Disk.faults_of (tree_of c.args.checked.now) contents c.args.directory c.serve_lines-served.new.objects _ has
-    (λ sure. all_served c.serve_lines-served.result _ sure c.serve_lines-served.ensures.serving c.serve_lines-served.ensures.read_serving contents c.args.directory first)
+    let first = serves_first g.D.Disk.moment_of g.D.Disk.left_since g.D.Disk.told g.D.Disk.image g.D.Disk.faults_of limit (tree_of c.args.checked.now) contents c.args.directory c.new-switch.result c.args.objects c.new-switch.ensures.state c.new-switch.ensures.log c.new-switch.ensures.fault c.requires.many going in
+    let has = c.serve_lines-served.ensures.served limit contents c.args.directory first in
+    reports g.W.Sink.taken g.W.Sink.faults_of c.new-switch.result c.serve_lines-served.new.switch c.finish-end.new.switch c.serve_lines-served.result _ c.finish-end.result ended g.D.Disk.moment_of g.D.Disk.left_since g.D.Disk.told g.D.Disk.image g.D.Disk.faults_of limit (tree_of c.args.checked.now) contents c.args.directory c.serve_lines-served.new.objects _ has
+    (λ sure. all_served c.serve_lines-served.result _ sure c.serve_lines-served.ensures.serving c.serve_lines-served.ensures.read_serving limit contents c.args.directory first)
     (λ sure. let rest = all_served c.serve_lines-served.result _ sure c.serve_lines-served.ensures.resting c.serve_lines-served.ensures.read_resting in
-    c.close-closed.ensures.quiet (tree_of c.args.checked.now) contents c.args.directory (log_of c.serve_lines-served.new.switch)
-    (all_served c.serve_lines-served.result _ sure c.serve_lines-served.ensures.serving c.serve_lines-served.ensures.read_serving contents c.args.directory first).slots
+    c.close-closed.ensures.quiet limit (tree_of c.args.checked.now) contents c.args.directory (log_of c.serve_lines-served.new.switch)
+    (all_served c.serve_lines-served.result _ sure c.serve_lines-served.ensures.serving c.serve_lines-served.ensures.read_serving limit contents c.args.directory first).slots
     rest.resting rest.routed)
     (λ sure is. let rest = all_served c.serve_lines-served.result _ sure c.serve_lines-served.ensures.resting c.serve_lines-served.ensures.read_resting in
-    let serves = all_served c.serve_lines-served.result _ sure c.serve_lines-served.ensures.serving c.serve_lines-served.ensures.read_serving contents c.args.directory first in
-    are_settled g.D.Disk.moment_of g.D.Disk.left_since g.D.Disk.told g.D.Disk.faults_of (tree_of c.args.checked.now) contents c.args.directory
+    let serves = all_served c.serve_lines-served.result _ sure c.serve_lines-served.ensures.serving c.serve_lines-served.ensures.read_serving limit contents c.args.directory first in
+    are_settled g.D.Disk.moment_of g.D.Disk.left_since g.D.Disk.told g.D.Disk.faults_of limit (tree_of c.args.checked.now) contents c.args.directory
     (log_of c.serve_lines-served.new.switch) (state_of c.serve_lines-served.new.switch) c.close-closed.new.rows.items c.close-closed.new.left.items
     c.answers_are_asked.ensures serves.run
-    (c.close-closed.ensures.rows (tree_of c.args.checked.now) contents c.args.directory (log_of c.serve_lines-served.new.switch) has.slots)
+    (c.close-closed.ensures.rows limit (tree_of c.args.checked.now) contents c.args.directory (log_of c.serve_lines-served.new.switch) has.slots)
     (subst (λ (n : ℕ). AreThere n (log_of c.serve_lines-served.new.switch)) (sym c.close-closed.ensures.many) has.there)
     (either_way c.close-closed.result _ ⊥ _ c.close-closed.ensures.settled (c.finish-end.ensures.closed sure is)
-    (λ settled. settled (tree_of c.args.checked.now) contents c.args.directory (log_of c.serve_lines-served.new.switch) serves.slots rest.resting rest.routed)
+    (λ settled. settled limit (tree_of c.args.checked.now) contents c.args.directory (log_of c.serve_lines-served.new.switch) serves.slots rest.resting rest.routed)
     (λ never. absurd never)))
     (λ sure is. subst (λ (n : ℕ). AreLeftIn n c.close-closed.new.left.items) (sym c.close-closed.ensures.many)
     (either_way c.close-closed.result _ ⊥ _ c.close-closed.ensures.left_in (c.finish-end.ensures.closed sure is) (λ left_in. left_in) (λ never. absurd never)))
-    (λ sure. come_in_order g.D.Disk.moment_of g.D.Disk.left_since g.D.Disk.told g.D.Disk.faults_of (tree_of c.args.checked.now) contents c.args.directory
+    (λ sure. come_in_order g.D.Disk.moment_of g.D.Disk.left_since g.D.Disk.told g.D.Disk.faults_of limit (tree_of c.args.checked.now) contents c.args.directory
     (log_of c.serve_lines-served.new.switch) (state_of c.serve_lines-served.new.switch) c.close-closed.new.rows.items c.calls_come_in_order.ensures
-    (all_served c.serve_lines-served.result _ sure c.serve_lines-served.ensures.serving c.serve_lines-served.ensures.read_serving contents c.args.directory first).run
-    (c.close-closed.ensures.rows (tree_of c.args.checked.now) contents c.args.directory (log_of c.serve_lines-served.new.switch) has.slots))
+    (all_served c.serve_lines-served.result _ sure c.serve_lines-served.ensures.serving c.serve_lines-served.ensures.read_serving limit contents c.args.directory first).run
+    (c.close-closed.ensures.rows limit (tree_of c.args.checked.now) contents c.args.directory (log_of c.serve_lines-served.new.switch) has.slots))
+    (λ sure is. let rest = all_served c.serve_lines-served.result _ sure c.serve_lines-served.ensures.resting c.serve_lines-served.ensures.read_resting in
+    let serves = all_served c.serve_lines-served.result _ sure c.serve_lines-served.ensures.serving c.serve_lines-served.ensures.read_serving limit contents c.args.directory first in
+    are_answered g.D.Disk.told limit (tree_of c.args.checked.now) contents c.args.directory (log_of c.serve_lines-served.new.switch) (state_of c.serve_lines-served.new.switch)
+    c.close-closed.new.left.items c.close-closed.new.rows.items c.calls_are_answered_once.ensures c.asks_are_answered_once.ensures
+    (all_served c.serve_lines-served.result _ sure c.serve_lines-served.ensures.order c.serve_lines-served.ensures.read_order)
+    (c.close-closed.ensures.many ∙ c.serve_lines-served.ensures.many ∙ sym c.requires.many)
+    (subst (λ (n : ℕ). AreLeftIn n c.close-closed.new.left.items) (sym c.close-closed.ensures.many)
+    (either_way c.close-closed.result _ ⊥ _ c.close-closed.ensures.left_in (c.finish-end.ensures.closed sure is) (λ left_in. left_in) (λ never. absurd never)))
+    (are_settled g.D.Disk.moment_of g.D.Disk.left_since g.D.Disk.told g.D.Disk.faults_of limit (tree_of c.args.checked.now) contents c.args.directory
+    (log_of c.serve_lines-served.new.switch) (state_of c.serve_lines-served.new.switch) c.close-closed.new.rows.items c.close-closed.new.left.items
+    c.answers_are_asked.ensures serves.run
+    (c.close-closed.ensures.rows limit (tree_of c.args.checked.now) contents c.args.directory (log_of c.serve_lines-served.new.switch) has.slots)
+    (subst (λ (n : ℕ). AreThere n (log_of c.serve_lines-served.new.switch)) (sym c.close-closed.ensures.many) has.there)
+    (either_way c.close-closed.result _ ⊥ _ c.close-closed.ensures.settled (c.finish-end.ensures.closed sure is)
+    (λ settled. settled limit (tree_of c.args.checked.now) contents c.args.directory (log_of c.serve_lines-served.new.switch) serves.slots rest.resting rest.routed)
+    (λ never. absurd never))))
     (ap seen_log c.into_parts-out.ensures.log)
-    (c.close-closed.ensures.rows (tree_of c.args.checked.now) contents c.args.directory (log_of c.serve_lines-served.new.switch) has.slots)
-    c.close-closed.ensures.many (c.requires.many ∙ sym c.serve_lines-served.ensures.many) one_each c.finish-end.ensures.late
+    (c.close-closed.ensures.rows limit (tree_of c.args.checked.now) contents c.args.directory (log_of c.serve_lines-served.new.switch) has.slots)
+    c.close-closed.ensures.many (c.requires.many ∙ sym c.serve_lines-served.ensures.many) one_each c.finish-end.ensures.late c.ends_are_routed.ensures
+    c.posts_fit.ensures c.moments_are_in_range.ensures
 
 pub returns-clause-lines : goal.returns-clause-lines
 returns-clause-lines g c =

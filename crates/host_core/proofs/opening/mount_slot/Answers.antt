@@ -11,8 +11,8 @@ returns-in_err-mounted-clause-stop g c =
 
 pub returns-clause-mounted : goal.returns-clause-mounted
 returns-clause-mounted g c =
-    was_mounted g.P.Store.Disk.told g.P.Store.Disk.image g.P.Store.Disk.moment_of g.P.Store.Disk.left_since c.in-Ok.disk c.in_ok-mounted.mounted c.adopt.result _ _
-    c.in-Ok.ensures.fresh.0 c.in-Ok.ensures.content c.adopt.ensures.same c.adopt.ensures.here c.in_ok-mounted.ensures.mounted c.in_ok-mounted.ensures.staged
+    was_mounted g.P.Store.Disk.told g.P.Store.Disk.image g.P.Store.Disk.moment_of g.P.Store.Disk.left_since c.in-Ok.disk c.in_ok-mounted.mounted c.adopt.result _ _ _
+    c.in-Ok.ensures.fresh.0 c.in-Ok.ensures.content c.adopt.ensures.same c.adopt.ensures.here c.in_ok-mounted.ensures.mounted c.in_ok-mounted.ensures.staged c.in_ok-mounted.ensures.limited
 
 pub returns-clause-stop : goal.returns-clause-stop
 returns-clause-stop g c =

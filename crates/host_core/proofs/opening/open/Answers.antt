@@ -26,11 +26,11 @@ loop-slot-preserved g c =
     let slot = c.loop-slot.slot in
     record {
       many = ap length c.put.ensures.core ∙ length-append c.loop-slot.objects.cores.items (c.in_ok-core.core ∷ []) ∙ ap (λ (n : ℕ). n + 1) i.many;
-      going = going_more g.P.Store.Disk.moment_of g.P.Store.Disk.left_since g.P.Store.Disk.told g.P.Store.Disk.image g.P.Store.Disk.faults_of (tree_of c.args.checked.now)
+      going = going_more g.P.Store.Disk.moment_of g.P.Store.Disk.left_since g.P.Store.Disk.told g.P.Store.Disk.image g.P.Store.Disk.faults_of c.args.settings.now.journal (tree_of c.args.checked.now)
           (g.P.Depot.slot_at c.args.depot.now folder) c.loop-slot.directory c.open_slot.new.directory c.loop-slot.objects c.put.new.self slot c.in_ok-core.core i.many
           c.put.ensures.core c.put.ensures.inbox c.put.ensures.out c.open_slot.ensures.only
           (subst (λ (content : Option (List ℕ)). HasBegun g.P.Store.Disk.moment_of g.P.Store.Disk.left_since g.P.Store.Disk.told g.P.Store.Disk.image g.P.Store.Disk.faults_of
-          (tree_of c.args.checked.now) content (object_at c.open_slot.new.directory slot) c.in_ok-core.core) (i.later slot (omega arith)) c.in_ok-core.ensures.begun)
+          c.args.settings.now.journal (tree_of c.args.checked.now) content (object_at c.open_slot.new.directory slot) c.in_ok-core.core) (i.later slot (omega arith)) c.in_ok-core.ensures.begun)
           i.going;
       room = λ more is. c.put.ensures.room more (i.room (more + 1) (omega (arith, is)));
       slots = c.open_slot.ensures.only.many ∙ i.slots;

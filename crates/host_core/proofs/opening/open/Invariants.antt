@@ -11,7 +11,7 @@ use Rattle.host_core.proofs.opening.open.Given as goal
 abbrev pub invariant-loop-slot : goal.invariant-loop-slot
 invariant-loop-slot g l = record {
   many : length l.objects.cores.items ≡ l.slot;
-  going : AreGoing g.P.Store.Disk.moment_of g.P.Store.Disk.left_since g.P.Store.Disk.told g.P.Store.Disk.image g.P.Store.Disk.faults_of (tree_of l.checked)
+  going : AreGoing g.P.Store.Disk.moment_of g.P.Store.Disk.left_since g.P.Store.Disk.told g.P.Store.Disk.image g.P.Store.Disk.faults_of l.settings.journal (tree_of l.checked)
       (g.P.Depot.slot_at l.fn.depot (string_bytes l.settings.folder)) l.directory no_log l.objects;
   room : (more : ℕ) → l.slot + more ≡ l.settings.slots → HasRoom more l.objects;
   slots : length l.directory ≡ l.settings.slots;

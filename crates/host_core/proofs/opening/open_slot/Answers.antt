@@ -13,6 +13,6 @@ returns-in_err-mounted-clause-stop g c =
 
 pub returns-clause-begun : goal.returns-clause-begun
 returns-clause-begun g c =
-    subst (λ (text : List ℕ). HasBegun g.P.Store.Disk.moment_of g.P.Store.Disk.left_since g.P.Store.Disk.told g.P.Store.Disk.image g.P.Store.Disk.faults_of (tree_of c.args.checked.now)
+    subst (λ (text : List ℕ). HasBegun g.P.Store.Disk.moment_of g.P.Store.Disk.left_since g.P.Store.Disk.told g.P.Store.Disk.image g.P.Store.Disk.faults_of c.args.settings.now.journal (tree_of c.args.checked.now)
     (g.P.Depot.slot_at c.args.depot.now text c.args.slot) (object_at c.mount_slot.new.directory c.args.slot) c.begin.result) c.deref.ensures
-    (c.begin.ensures _ _ c.in_ok-mounted.ensures.mounted)
+    (c.begin.ensures _ _ _ c.in_ok-mounted.ensures.mounted)

@@ -14,13 +14,13 @@ use Rattle.host_core.specs.declared.objects.Objects.{Objects}
 use Rattle.host_core.proofs.serving.serve_line.Goals as goal
 
 pub returns-in_err-accept-clause-served : goal.returns-in_err-accept-clause-served
-returns-in_err-accept-clause-served g c = λ contents named serving.
+returns-in_err-accept-clause-served g c = λ limit contents named serving.
     let old = c.args.objects.now in
     let new : Objects g.row.D.Denot = record { cores = old.cores; inboxes = with_items old.inboxes c.accept.new.inboxes; outs = old.outs } in
     let are = with_items_is old.inboxes c.accept.new.inboxes (omega (arith, c.accept.auto.inboxes, ap length c.deref_mut.ensures.value, old.inboxes.ok.0)) in
     let acts = acts_on old new c.deref_mut.result.now c.accept.new.inboxes old.outs.items old.outs.items c.deref_mut.ensures.value are refl refl
     g.W.Sink.taken g.W.Sink.faults_of c.args.switch.now c.accept.new.self c.accept.result c.accept.ensures.acts in
-    accept_served g.D.Disk.moment_of g.D.Disk.left_since g.D.Disk.told g.D.Disk.image g.D.Disk.faults_of (tree_of c.args.checked.now) contents named c.args.switch.now c.accept.new.self old new g.W.Sink.taken g.W.Sink.faults_of c.accept.result c.args.line refl refl acts (at_fault c.accept.result c.in_err-accept.field-0.0 _ c.in_err-accept.was (c.accept.ensures.begun serving.goes)) serving
+    accept_served g.D.Disk.moment_of g.D.Disk.left_since g.D.Disk.told g.D.Disk.image g.D.Disk.faults_of limit (tree_of c.args.checked.now) contents named c.args.switch.now c.accept.new.self old new g.W.Sink.taken g.W.Sink.faults_of c.accept.result c.args.line refl refl acts (at_fault c.accept.result c.in_err-accept.field-0.0 _ c.in_err-accept.was (c.accept.ensures.begun serving.goes)) serving
 
 pub returns-in_err-accept-clause-again : goal.returns-in_err-accept-clause-again
 returns-in_err-accept-clause-again g c =
@@ -30,8 +30,8 @@ returns-in_err-accept-clause-again g c =
     let are = with_items_is old.inboxes c.accept.new.inboxes (omega (arith, c.accept.auto.inboxes, ap length c.deref_mut.ensures.value, old.inboxes.ok.0)) in
     let acts = acts_on old new c.deref_mut.result.now c.accept.new.inboxes old.outs.items old.outs.items c.deref_mut.ensures.value are refl refl
     g.W.Sink.taken g.W.Sink.faults_of c.args.switch.now c.accept.new.self c.accept.result c.accept.ensures.acts in
-    standing_can g.D.Disk.moment_of g.D.Disk.left_since g.D.Disk.told g.D.Disk.image g.D.Disk.faults_of (tree_of c.args.checked.now) s.0 s.1 (log_of c.accept.new.self) new
-    (accept_served g.D.Disk.moment_of g.D.Disk.left_since g.D.Disk.told g.D.Disk.image g.D.Disk.faults_of (tree_of c.args.checked.now) s.0 s.1 c.args.switch.now c.accept.new.self old new g.W.Sink.taken g.W.Sink.faults_of c.accept.result c.args.line refl refl acts (at_fault c.accept.result c.in_err-accept.field-0.0 _ c.in_err-accept.was (c.accept.ensures.begun s.2.goes)) s.2).slots
+    standing_can g.D.Disk.moment_of g.D.Disk.left_since g.D.Disk.told g.D.Disk.image g.D.Disk.faults_of s.0 (tree_of c.args.checked.now) s.1 s.2 (log_of c.accept.new.self) new
+    (accept_served g.D.Disk.moment_of g.D.Disk.left_since g.D.Disk.told g.D.Disk.image g.D.Disk.faults_of s.0 (tree_of c.args.checked.now) s.1 s.2 c.args.switch.now c.accept.new.self old new g.W.Sink.taken g.W.Sink.faults_of c.accept.result c.args.line refl refl acts (at_fault c.accept.result c.in_err-accept.field-0.0 _ c.in_err-accept.was (c.accept.ensures.begun s.3.goes)) s.3).slots
 
 pub settle-requires : goal.settle-requires
 settle-requires g c =
@@ -41,7 +41,7 @@ settle-requires g c =
     let are = with_items_is old.inboxes c.accept.new.inboxes (omega (arith, c.accept.auto.inboxes, ap length c.deref_mut.ensures.value, old.inboxes.ok.0)) in
     let acts = acts_on old new c.deref_mut.result.now c.accept.new.inboxes old.outs.items old.outs.items c.deref_mut.ensures.value are refl refl
     g.W.Sink.taken g.W.Sink.faults_of c.args.switch.now c.accept.new.self c.accept.result c.accept.ensures.acts in
-    record { serving = (s.0, s.1, accept_serves g.D.Disk.moment_of g.D.Disk.left_since g.D.Disk.told g.D.Disk.image g.D.Disk.faults_of (tree_of c.args.checked.now) s.0 s.1 c.args.switch.now c.accept.new.self old new g.W.Sink.taken g.W.Sink.faults_of c.accept.result c.args.line refl refl acts c.in_ok-accept.ensures.accepted c.in_ok-accept.ensures.run c.in_ok-accept.ensures.fault s.2) }
+    record { serving = (s.0, s.1, s.2, accept_serves g.D.Disk.moment_of g.D.Disk.left_since g.D.Disk.told g.D.Disk.image g.D.Disk.faults_of s.0 (tree_of c.args.checked.now) s.1 s.2 c.args.switch.now c.accept.new.self old new g.W.Sink.taken g.W.Sink.faults_of c.accept.result c.args.line refl refl acts c.in_ok-accept.ensures.accepted c.in_ok-accept.ensures.run c.in_ok-accept.ensures.fault s.3) }
 
 pub returns-clause-serving : goal.returns-clause-serving
 returns-clause-serving g c =
@@ -50,20 +50,20 @@ returns-clause-serving g c =
     let are = with_items_is old.inboxes c.accept.new.inboxes (omega (arith, c.accept.auto.inboxes, ap length c.deref_mut.ensures.value, old.inboxes.ok.0)) in
     let acts = acts_on old new c.deref_mut.result.now c.accept.new.inboxes old.outs.items old.outs.items c.deref_mut.ensures.value are refl refl
     g.W.Sink.taken g.W.Sink.faults_of c.args.switch.now c.accept.new.self c.accept.result c.accept.ensures.acts in
-    on_ok_weaker c.settle.result (λ keeps contents named serving. keeps contents named
-    (accept_serves g.D.Disk.moment_of g.D.Disk.left_since g.D.Disk.told g.D.Disk.image g.D.Disk.faults_of (tree_of c.args.checked.now) contents named c.args.switch.now c.accept.new.self old new g.W.Sink.taken g.W.Sink.faults_of c.accept.result c.args.line refl refl acts c.in_ok-accept.ensures.accepted c.in_ok-accept.ensures.run c.in_ok-accept.ensures.fault serving)) c.settle.ensures.serving
+    on_ok_weaker c.settle.result (λ keeps limit contents named serving. keeps limit contents named
+    (accept_serves g.D.Disk.moment_of g.D.Disk.left_since g.D.Disk.told g.D.Disk.image g.D.Disk.faults_of limit (tree_of c.args.checked.now) contents named c.args.switch.now c.accept.new.self old new g.W.Sink.taken g.W.Sink.faults_of c.accept.result c.args.line refl refl acts c.in_ok-accept.ensures.accepted c.in_ok-accept.ensures.run c.in_ok-accept.ensures.fault serving)) c.settle.ensures.serving
 
 pub returns-clause-served : goal.returns-clause-served
-returns-clause-served g c = λ contents named serving.
+returns-clause-served g c = λ limit contents named serving.
     let old = c.args.objects.now in
     let new : Objects g.row.D.Denot = record { cores = old.cores; inboxes = with_items old.inboxes c.accept.new.inboxes; outs = old.outs } in
     let are = with_items_is old.inboxes c.accept.new.inboxes (omega (arith, c.accept.auto.inboxes, ap length c.deref_mut.ensures.value, old.inboxes.ok.0)) in
     let acts = acts_on old new c.deref_mut.result.now c.accept.new.inboxes old.outs.items old.outs.items c.deref_mut.ensures.value are refl refl
     g.W.Sink.taken g.W.Sink.faults_of c.args.switch.now c.accept.new.self c.accept.result c.accept.ensures.acts in
-    let before = accept_serves g.D.Disk.moment_of g.D.Disk.left_since g.D.Disk.told g.D.Disk.image g.D.Disk.faults_of (tree_of c.args.checked.now) contents named c.args.switch.now c.accept.new.self old new g.W.Sink.taken g.W.Sink.faults_of c.accept.result c.args.line refl refl acts c.in_ok-accept.ensures.accepted c.in_ok-accept.ensures.run c.in_ok-accept.ensures.fault serving in
+    let before = accept_serves g.D.Disk.moment_of g.D.Disk.left_since g.D.Disk.told g.D.Disk.image g.D.Disk.faults_of limit (tree_of c.args.checked.now) contents named c.args.switch.now c.accept.new.self old new g.W.Sink.taken g.W.Sink.faults_of c.accept.result c.args.line refl refl acts c.in_ok-accept.ensures.accepted c.in_ok-accept.ensures.run c.in_ok-accept.ensures.fault serving in
     either_way c.settle.result _ _ _ c.settle.ensures.serving c.settle.ensures.served
-    (λ keeps. serves_served g.D.Disk.moment_of g.D.Disk.left_since g.D.Disk.told g.D.Disk.image g.D.Disk.faults_of (tree_of c.args.checked.now) contents named c.settle.new.switch c.settle.new.objects (keeps contents named before))
-    (λ leaves. leaves contents named before)
+    (λ keeps. serves_served g.D.Disk.moment_of g.D.Disk.left_since g.D.Disk.told g.D.Disk.image g.D.Disk.faults_of limit (tree_of c.args.checked.now) contents named c.settle.new.switch c.settle.new.objects (keeps limit contents named before))
+    (λ leaves. leaves limit contents named before)
 
 pub returns-clause-prints : goal.returns-clause-prints
 returns-clause-prints g c =

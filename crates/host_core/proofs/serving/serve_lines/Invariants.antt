@@ -5,6 +5,8 @@ use Rattle.line_server.specs.Lines.{IsReading, source_of, count_of, fault_of as 
 use Rattle.line_server.specs.declared.TheConstants.{MOST_LINES}
 use Rattle.placement.specs.Slots.{Slots}
 use Rattle.mailbox.specs.Runs.{fault_of, log_of}
+use Rattle.switch_history.specs.Answering.{AreInOrder}
+use Rattle.host_core.proofs.Once.{AreUpTo}
 use Rattle.host_core.specs.Objects.{CanAllRun}
 use Rattle.host_core.specs.Reading.{read_lines}
 use Rattle.host_core.specs.Running.{IsAtRest, IsServing, KeepsServing, Prints}
@@ -13,13 +15,15 @@ use Rattle.host_core.proofs.serving.serve_lines.Given as goal
 -- the run serves, rests, and has accepted all lines that were read
 abbrev pub invariant-loop-line : goal.invariant-loop-line
 invariant-loop-line g l = record {
-  some : (contents : ℕ → Option (List ℕ)) × (named : Slots)
-      × IsServing g.D.Disk.moment_of g.D.Disk.left_since g.D.Disk.told g.D.Disk.image g.D.Disk.faults_of (tree_of l.checked) contents named l.switch l.objects;
+  some : (limit : ℕ) × (contents : ℕ → Option (List ℕ)) × (named : Slots)
+      × IsServing g.D.Disk.moment_of g.D.Disk.left_since g.D.Disk.told g.D.Disk.image g.D.Disk.faults_of limit (tree_of l.checked) contents named l.switch l.objects;
   serves : KeepsServing g.D.Disk.moment_of g.D.Disk.left_since g.D.Disk.told g.D.Disk.image g.D.Disk.faults_of (tree_of l.checked) l.fn.switch l.switch l.fn.objects l.objects;
   again : CanAllRun g.D.Disk.moment_of g.D.Disk.left_since g.D.Disk.told g.D.Disk.image g.D.Disk.faults_of (tree_of l.checked) l.objects;
   rests : IsAtRest (tree_of l.checked) l.objects;
   many : length l.objects.cores.items ≡ length l.fn.objects.cores.items;
   reading : (whole : List ℕ) → IsReading g.R.Source.left whole [] l.fn.lines → IsReading g.R.Source.left whole (read_lines (log_of l.switch).accepted) l.lines;
+  order : AreInOrder (log_of l.switch).accepted;
+  below : AreUpTo (count_of l.lines) (log_of l.switch).accepted;
   good : line_fault l.lines ≡ None;
   source : g.R.Source.faults_of (source_of l.lines) ≡ g.R.Source.faults_of (source_of l.fn.lines);
   prints : Prints {T = Unit {0}} g.W.Sink.taken g.W.Sink.faults_of l.fn.switch l.switch (Ok tt);

@@ -12,11 +12,11 @@ use Rattle.host_core.proofs.settling.route_all.Given as goal
 abbrev pub invariant-loop : goal.invariant-loop
 invariant-loop g l = record {
   can_next : (goal.iterator-loop g).can_next l.iterator';
-  there : (contents : ℕ → Option (List ℕ)) × (named : Slots)
-      × IsServing g.D.Disk.moment_of g.D.Disk.left_since g.D.Disk.told g.D.Disk.image g.D.Disk.faults_of (tree_of l.checked) contents named l.switch l.objects;
-  serving : (contents : ℕ → Option (List ℕ)) (named : Slots)
-      → IsServing g.D.Disk.moment_of g.D.Disk.left_since g.D.Disk.told g.D.Disk.image g.D.Disk.faults_of (tree_of l.checked) contents named l.fn.switch l.fn.objects
-      → IsServing g.D.Disk.moment_of g.D.Disk.left_since g.D.Disk.told g.D.Disk.image g.D.Disk.faults_of (tree_of l.checked) contents named l.switch l.objects;
+  there : (limit : ℕ) × (contents : ℕ → Option (List ℕ)) × (named : Slots)
+      × IsServing g.D.Disk.moment_of g.D.Disk.left_since g.D.Disk.told g.D.Disk.image g.D.Disk.faults_of limit (tree_of l.checked) contents named l.switch l.objects;
+  serving : (limit : ℕ) (contents : ℕ → Option (List ℕ)) (named : Slots)
+      → IsServing g.D.Disk.moment_of g.D.Disk.left_since g.D.Disk.told g.D.Disk.image g.D.Disk.faults_of limit (tree_of l.checked) contents named l.fn.switch l.fn.objects
+      → IsServing g.D.Disk.moment_of g.D.Disk.left_since g.D.Disk.told g.D.Disk.image g.D.Disk.faults_of limit (tree_of l.checked) contents named l.switch l.objects;
   cores : l.objects.cores.items ≡ l.fn.objects.cores.items;
   resting : l.routed ≡ false → (script : Script) → AreResting script l.fn.objects → AreResting script l.objects;
   accepted : (log_of l.switch).accepted ≡ (log_of l.fn.switch).accepted;

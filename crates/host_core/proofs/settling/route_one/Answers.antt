@@ -29,15 +29,15 @@ returns-in_err-route-clause-served g c =
     g.W.Sink.taken g.W.Sink.faults_of c.args.switch.now c.route.new.self c.route.result c.route.ensures.acts in
     let lanes = outs_on old new c.deref_mut-2.result.now c.route.new.inboxes c.deref_mut.result.now c.route.new.outs c.deref_mut-2.ensures.value are c.deref_mut.ensures.value outs_are
     c.route.ensures.lanes in
-    on_err_by c.from_residual.result (λ contents named serving.
+    on_err_by c.from_residual.result (λ limit contents named serving.
     elim (c.in_err-route.ensures.begun serving.goes) [
-      | inl one ↦ served_routed g.D.Disk.moment_of g.D.Disk.left_since g.D.Disk.told g.D.Disk.image g.D.Disk.faults_of (tree_of c.args.checked.now) contents named c.args.switch.now c.route.new.self old new g.W.Sink.taken g.W.Sink.faults_of c.route.result refl acts lanes
+      | inl one ↦ served_routed g.D.Disk.moment_of g.D.Disk.left_since g.D.Disk.told g.D.Disk.image g.D.Disk.faults_of limit (tree_of c.args.checked.now) contents named c.args.switch.now c.route.new.self old new g.W.Sink.taken g.W.Sink.faults_of c.route.result refl acts lanes
           (taken_on old new c.deref_mut-2.result.now c.route.new.inboxes c.deref_mut.result.now c.route.new.outs c.deref_mut-2.ensures.value are c.deref_mut.ensures.value outs_are (BeginsMessage (tree_of c.args.checked.now) c.args.switch.now c.route.new.self) one) serving
-      | inr still ↦ served_still g.D.Disk.moment_of g.D.Disk.left_since g.D.Disk.told g.D.Disk.image g.D.Disk.faults_of (tree_of c.args.checked.now) contents named c.args.switch.now c.route.new.self old new g.W.Sink.taken g.W.Sink.faults_of c.route.result refl acts lanes still.0.log (still_on old new c.deref_mut-2.result.now c.route.new.inboxes c.deref_mut.result.now c.route.new.outs c.deref_mut-2.ensures.value are c.deref_mut.ensures.value outs_are still.1) serving
+      | inr still ↦ served_still g.D.Disk.moment_of g.D.Disk.left_since g.D.Disk.told g.D.Disk.image g.D.Disk.faults_of limit (tree_of c.args.checked.now) contents named c.args.switch.now c.route.new.self old new g.W.Sink.taken g.W.Sink.faults_of c.route.result refl acts lanes still.0.log (still_on old new c.deref_mut-2.result.now c.route.new.inboxes c.deref_mut.result.now c.route.new.outs c.deref_mut-2.ensures.value are c.deref_mut.ensures.value outs_are still.1) serving
     ])
 
 pub returns-in-Did-clause-serving : goal.returns-in-Did-clause-serving
-returns-in-Did-clause-serving g c contents named serving =
+returns-in-Did-clause-serving g c limit contents named serving =
     let old = c.args.objects.now in
     let new : Objects g.row.D.Denot = record {
       cores = old.cores;
@@ -50,12 +50,12 @@ returns-in-Did-clause-serving g c contents named serving =
     g.W.Sink.taken g.W.Sink.faults_of c.args.switch.now c.route.new.self c.route.result c.route.ensures.acts in
     let lanes = outs_on old new c.deref_mut-2.result.now c.route.new.inboxes c.deref_mut.result.now c.route.new.outs c.deref_mut-2.ensures.value are c.deref_mut.ensures.value outs_are
     c.route.ensures.lanes in
-    serving_routed g.D.Disk.moment_of g.D.Disk.left_since g.D.Disk.told g.D.Disk.image g.D.Disk.faults_of (tree_of c.args.checked.now) contents named c.args.switch.now c.route.new.self old new g.W.Sink.taken g.W.Sink.faults_of c.route.result refl acts lanes
+    serving_routed g.D.Disk.moment_of g.D.Disk.left_since g.D.Disk.told g.D.Disk.image g.D.Disk.faults_of limit (tree_of c.args.checked.now) contents named c.args.switch.now c.route.new.self old new g.W.Sink.taken g.W.Sink.faults_of c.route.result refl acts lanes
     (taken_on old new c.deref_mut-2.result.now c.route.new.inboxes c.deref_mut.result.now c.route.new.outs c.deref_mut-2.ensures.value are c.deref_mut.ensures.value outs_are (Routes (tree_of c.args.checked.now) c.args.switch.now c.route.new.self) (c.route.ensures.routed (c.in_ok-route.was ∙ ap (λ (s : Stepped). answered s) c.in-Did.is)))
     c.in_ok-route.ensures.run (c.route.ensures.fault ∙ ap fault_in c.in_ok-route.was) serving
 
 pub returns-in-Nothing-clause-serving : goal.returns-in-Nothing-clause-serving
-returns-in-Nothing-clause-serving g c contents named serving =
+returns-in-Nothing-clause-serving g c limit contents named serving =
     let old = c.args.objects.now in
     let new : Objects g.row.D.Denot = record {
       cores = old.cores;
@@ -69,7 +69,7 @@ returns-in-Nothing-clause-serving g c contents named serving =
     let lanes = outs_on old new c.deref_mut-2.result.now c.route.new.inboxes c.deref_mut.result.now c.route.new.outs c.deref_mut-2.ensures.value are c.deref_mut.ensures.value outs_are
     c.route.ensures.lanes in
     let still = c.route.ensures.nothing (c.in_ok-route.was ∙ ap (λ (s : Stepped). answered s) c.in-Nothing.is) in
-    serving_still g.D.Disk.moment_of g.D.Disk.left_since g.D.Disk.told g.D.Disk.image g.D.Disk.faults_of (tree_of c.args.checked.now) contents named c.args.switch.now c.route.new.self old new g.W.Sink.taken g.W.Sink.faults_of c.route.result refl acts lanes
+    serving_still g.D.Disk.moment_of g.D.Disk.left_since g.D.Disk.told g.D.Disk.image g.D.Disk.faults_of limit (tree_of c.args.checked.now) contents named c.args.switch.now c.route.new.self old new g.W.Sink.taken g.W.Sink.faults_of c.route.result refl acts lanes
     still.1 (still_on old new c.deref_mut-2.result.now c.route.new.inboxes c.deref_mut.result.now c.route.new.outs c.deref_mut-2.ensures.value are c.deref_mut.ensures.value outs_are still.2) c.in_ok-route.ensures.run (c.route.ensures.fault ∙ ap fault_in c.in_ok-route.was) serving
 
 pub returns-in-Nothing-clause-resting : goal.returns-in-Nothing-clause-resting
@@ -104,6 +104,6 @@ returns-in-Nothing-clause-routed g c none =
     let lanes = outs_on old new c.deref_mut-2.result.now c.route.new.inboxes c.deref_mut.result.now c.route.new.outs c.deref_mut-2.ensures.value are c.deref_mut.ensures.value outs_are
     c.route.ensures.lanes in
     let still = c.route.ensures.nothing (c.in_ok-route.was ∙ ap (λ (s : Stepped). answered s) c.in-Nothing.is) in
-    let serving = c.requires.serving.2 in
+    let serving = c.requires.serving.3 in
     routed_still g.W.Sink.taken g.W.Sink.faults_of c.args.switch.now c.route.new.self old new c.route.result refl acts lanes still.1.log (still_on old new c.deref_mut-2.result.now c.route.new.inboxes c.deref_mut.result.now c.route.new.outs c.deref_mut-2.ensures.value are c.deref_mut.ensures.value outs_are still.2) _ _ serving.many serving.slots
     (empty_on c.deref_mut.result.now old.outs.items _ c.deref_mut.ensures.value still.0)

@@ -14,6 +14,7 @@ returns-in-Ok g c = record {
   full_keeps = tt;
   later = c.append.ensures.later;
   telling = c.append.ensures.telling;
+  limit = c.append.ensures.same_limit;
 }
 
 pub returns-in-Err-DiskFailed : goal.returns-in-Err-DiskFailed
@@ -39,6 +40,7 @@ returns-in-Err-DiskFailed g c =
       full_keeps = λ n limit frames is. absurd (never_full is);
       later = c.append.ensures.later;
       telling = c.append.ensures.telling;
+      limit = c.append.ensures.same_limit;
     }
 
 pub returns-in-Err-Full : goal.returns-in-Err-Full
@@ -61,4 +63,5 @@ returns-in-Err-Full g c =
       full_keeps = λ n limit frames is rest. c.in-Err-Full.ensures.full_keeps c.in-Err-Full.needed c.in-Err-Full.limit frames (ap Err c.in-Err-Full.field-0-is) rest;
       later = c.append.ensures.later;
       telling = c.append.ensures.telling;
+      limit = c.append.ensures.same_limit;
     }

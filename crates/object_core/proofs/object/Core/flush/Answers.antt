@@ -14,7 +14,7 @@ pub returns-clause-steps : goal.returns-clause-steps
 returns-clause-steps g c script =
     let e = c.flush-stepped.ensures in
     let by : FlushesBy g.D.Disk.moment_of g.D.Disk.left_since g.D.Disk.told g.D.Disk.image g.D.Disk.faults_of c.args.self.now.back c.flush-stepped.new.self c.flush-stepped.result =
-    record { nothing = e.nothing; flushed = e.flushed; stopped = e.stopped; tells = e.tells; back = e.back } in
+    record { nothing = e.nothing; flushed = e.flushed; stopped = e.stopped; tells = e.tells; limit = e.limit; back = e.back } in
     subst (λ (r : Result Bool NoMemory). Steps g.D.Disk.moment_of g.D.Disk.faults_of script c.args.self.now (record c.args.self.now { back = c.flush-stepped.new.self }) Flush r)
     (sym c.stepped_so.ensures)
     (flush_steps g.D.Disk.moment_of g.D.Disk.left_since g.D.Disk.told g.D.Disk.image g.D.Disk.faults_of script c.args.self.now c.flush-stepped.new.self c.flush-stepped.result by)
@@ -24,4 +24,4 @@ returns-clause-one g c script origin one =
     let e = c.flush-stepped.ensures in
     flush_keeps g.D.Disk.moment_of g.D.Disk.left_since g.D.Disk.told g.D.Disk.image g.D.Disk.faults_of c.back_steps.ensures script origin c.args.self.now.front.half c.args.self.now.inbox c.args.self.now.back c.flush-stepped.new.self
     c.args.self.now.line c.args.self.now.notices c.args.self.now.out one c.flush-stepped.result
-    (record { nothing = e.nothing; flushed = e.flushed; stopped = e.stopped; tells = e.tells; back = e.back })
+    (record { nothing = e.nothing; flushed = e.flushed; stopped = e.stopped; tells = e.tells; limit = e.limit; back = e.back })

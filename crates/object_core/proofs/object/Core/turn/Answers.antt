@@ -27,6 +27,6 @@ returns-clause-steps g c =
 pub returns-clause-one : goal.returns-clause-one
 returns-clause-one g c origin one =
     let e = c.turn-turned.ensures in
-    turn_keeps g.D.Disk.moment_of g.D.Disk.left_since g.D.Disk.told g.D.Disk.image g.D.Disk.faults_of c.turn_steps.ensures c.events_come.ensures c.class_comes.ensures c.early_is_unasked.ensures (tree_of c.args.checked.now) origin c.args.self.now.front.half c.turn-turned.new.self.half c.args.self.now.back
+    turn_keeps g.D.Disk.moment_of g.D.Disk.left_since g.D.Disk.told g.D.Disk.image g.D.Disk.faults_of c.turn_steps.ensures c.events_come.ensures c.class_comes.ensures c.early_is_unasked.ensures c.drops_are_answered.ensures (tree_of c.args.checked.now) origin c.args.self.now.front.half c.turn-turned.new.self.half c.args.self.now.back
     c.args.self.now.inbox c.turn-turned.new.inbox c.args.self.now.line c.turn-turned.new.line c.args.self.now.notices c.turn-turned.new.notices c.args.self.now.out one c.turn-turned.result
     (record { stopped = e.stopped; stuck = e.stuck; still = e.still; idle = e.idle; ran = e.ran; lost = e.lost; too = e.too; events = e.inbox.1; told = e.notices.1; said = e.line.1 })

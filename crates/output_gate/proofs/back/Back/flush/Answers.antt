@@ -6,7 +6,7 @@ use Rattle.output_gate.specs.declared.back.Back.{Back}
 use Rattle.output_gate.specs.Serving.{is_stopped, ending_of}
 use Rattle.output_gate.proofs.Noted.{keeps_note}
 use Rattle.output_gate.proofs.Steps.{flushed_back, can_append, can_land, can_stop, mounted_lands, mounted_ends, end_kept}
-use Rattle.output_gate.proofs.Stored.{in_it, still_tells, tells_in}
+use Rattle.output_gate.proofs.Stored.{in_it, keeps_limit, still_disk, still_limit, still_tells, tells_in}
 use Rattle.output_gate.proofs.back.Back.flush.Goals as goal
 
 pub append-requires : goal.append-requires
@@ -50,6 +50,11 @@ returns-in-Ok g c = record {
       let a = c.in-Ok.ensures m.journal m.safe.store in
       tells_in g.D.Disk.told c.args.self.now.store c.land.new.self.store (disk_in m.journal) a.new (in_it c.args.self.now.store m.journal m.safe.store)
       (ap (λ (b : Back g.row.D.Denot). b.store) c.land.ensures.same ∙ a.is) a.telling;
+  limit =
+      let r = c.requires in
+      let m = flushed_back g.D.Disk.moment_of g.D.Disk.left_since g.D.Disk.told g.D.Disk.image g.D.Disk.faults_of r.0 r.1 (not (is_stopped c.args.self.now)) c.args.self.now c.if-self.false r.2 in
+      let a = c.in-Ok.ensures m.journal m.safe.store in
+      keeps_limit c.args.self.now.store c.land.new.self.store m.journal a.new m.safe.store (ap (λ (b : Back g.row.D.Denot). b.store) c.land.ensures.same ∙ a.is) a.limit;
   stopped = ap is_stopped c.land.ensures.same;
   back = λ start opening b.
       let was = not (is_stopped c.args.self.now) in
@@ -89,6 +94,7 @@ returns-in-Err g c =
       );
       tells = tells_in g.D.Disk.told c.args.self.now.store c.stop.new.self.store (disk_in m.journal) a.new (in_it c.args.self.now.store m.journal m.safe.store)
           (ap (λ (b : Back g.row.D.Denot). b.store) c.stop.ensures.same ∙ a.is) a.telling;
+      limit = keeps_limit c.args.self.now.store c.stop.new.self.store m.journal a.new m.safe.store (ap (λ (b : Back g.row.D.Denot). b.store) c.stop.ensures.same ∙ a.is) a.limit;
       stopped = ap is_stopped c.stop.ensures.same;
       back = λ start opening b.
           let was = not (is_stopped c.args.self.now) in
@@ -99,4 +105,7 @@ returns-in-Err g c =
     }
 
 pub returns-then-self-clause-tells : goal.returns-then-self-clause-tells
-returns-then-self-clause-tells g c = still_tells g.D.Disk.told c.args.self.now.store c.args.self.now.store (λ disk at. at)
+returns-then-self-clause-tells g c = still_tells g.D.Disk.told c.args.self.now.store c.args.self.now.store (still_disk c.args.self.now.store c.args.self.now.store refl)
+
+pub returns-then-self-clause-limit : goal.returns-then-self-clause-limit
+returns-then-self-clause-limit g c = still_limit c.args.self.now.store c.args.self.now.store refl

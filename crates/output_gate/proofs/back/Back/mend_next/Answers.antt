@@ -8,7 +8,7 @@ use Rattle.output_gate.proofs.Falls.{wanted_falls}
 use Rattle.output_gate.proofs.Noted.{remounts_noted}
 use Rattle.output_gate.proofs.Gone.{back_room, back_stopped}
 use Rattle.output_gate.proofs.Remounts.{remounts_from, unmounted_room, mend_can}
-use Rattle.output_gate.proofs.Stored.{still_tells}
+use Rattle.output_gate.proofs.Stored.{still_disk, still_tells}
 use Rattle.output_gate.proofs.back.Back.mend_next.Goals as goal
 
 pub returns-in_err-mend_room-clause-stopped : goal.returns-in_err-mend_room-clause-stopped
@@ -78,4 +78,4 @@ returns-in_err-notice-clause-lost g c =
     on_err _ _ l
 
 pub returns-in_err-mend_room-clause-tells : goal.returns-in_err-mend_room-clause-tells
-returns-in_err-mend_room-clause-tells g c = still_tells g.D.Disk.told c.args.self.now.store c.args.self.now.store (λ disk at. at)
+returns-in_err-mend_room-clause-tells g c = still_tells g.D.Disk.told c.args.self.now.store c.args.self.now.store (still_disk c.args.self.now.store c.args.self.now.store refl)

@@ -1,7 +1,9 @@
-use Rattle.std.proofs.Common.{refl, inl}
+use Rattle.std.proofs.Common.{refl, sym, inl}
 use Rattle.output_gate.proofs.Counts.{counts_new}
 use Rattle.output_gate.proofs.Endings.{logged_new}
 use Rattle.output_gate.proofs.Opens.{serves_new, safe_new}
+use Rattle.output_gate.proofs.Stored.{limited_in}
+use Rattle.output_gate.specs.declared.store.Store.TheVariants as store
 use Rattle.output_gate.proofs.back.Back.new.Goals as goal
 
 pub returns : goal.returns
@@ -11,6 +13,7 @@ returns g c = record {
     held = c.new-2.ensures.items;
     store = refl;
     limit = c.limit-limit.ensures;
+    journal = limited_in (store.Journal c.args.mounted.journal) c.args.mounted.journal c.limit-limit.result refl (sym c.limit-limit.ensures);
     identity = refl;
     map = c.new.ensures;
     stuck = refl;

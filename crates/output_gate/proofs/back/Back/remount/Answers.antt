@@ -5,7 +5,7 @@ use Rattle.timeline.specs.declared.notice.Notice.TheVariants as notice
 use Rattle.output_gate.specs.Mending.{Misses}
 use Rattle.output_gate.proofs.Entered.{as_before}
 use Rattle.output_gate.proofs.Remounts.{remount_begins, remount_misses, remount_fails}
-use Rattle.output_gate.proofs.Stored.{tells_in, tells_bare}
+use Rattle.output_gate.proofs.Stored.{limited_in, limited_bare, tells_in, tells_bare}
 use Rattle.output_gate.specs.declared.back.Back.{Back}
 use Rattle.output_gate.proofs.Falls.{begun_falls, wanted_falls, refused_rises, refused_falls, other_rises, other_falls}
 use Rattle.output_gate.proofs.back.Back.remount.Goals as goal
@@ -98,3 +98,18 @@ returns-in-Refused-clause-tells g c =
 pub returns-in-NoMemory-clause-tells : goal.returns-in-NoMemory-clause-tells
 returns-in-NoMemory-clause-tells g c =
     tells_bare g.D.Disk.told c.args.self.now.store c.fill.new.self c.leave-disk.result c.in-NoMemory.disk c.leave-disk.ensures.disk c.fill.ensures c.in-NoMemory.ensures.found.1
+
+pub returns-then-may_be-clause-limit : goal.returns-then-may_be-clause-limit
+returns-then-may_be-clause-limit g c had =
+    limited_in c.begin.new.self.store c.in-Mounted.mounted.journal c.args.self.now.limit (ap (λ (b : Back g.row.D.Denot). b.store) c.begin.ensures.begins.same) c.in-Mounted.ensures.limited
+
+pub returns-else-may_be-clause-limit : goal.returns-else-may_be-clause-limit
+returns-else-may_be-clause-limit g c had =
+    limited_bare c.miss.new.self.store c.bare.result c.args.self.now.limit (ap (λ (b : Back g.row.D.Denot). b.store) c.miss.ensures.misses.same)
+
+pub returns-in-Refused-clause-limit : goal.returns-in-Refused-clause-limit
+returns-in-Refused-clause-limit g c had =
+    limited_bare c.miss-in-Refused.new.self.store c.in-Refused.disk c.args.self.now.limit (ap (λ (b : Back g.row.D.Denot). b.store) c.miss-in-Refused.ensures.misses.same)
+
+pub returns-in-NoMemory-clause-limit : goal.returns-in-NoMemory-clause-limit
+returns-in-NoMemory-clause-limit g c had = limited_bare c.fill.new.self c.in-NoMemory.disk c.args.self.now.limit c.fill.ensures

@@ -16,4 +16,5 @@ returns g c journal is =
       same_staged = c.stage.ensures.same_staged;
       frames = c.stage.ensures.same_frames;
       disk = c.stage.ensures.same_disk;
+      limit = c.stage.ensures.same_end.1;
     })

@@ -1,0 +1,7 @@
+mod Reading
+mod Stepping
+mod Opening
+mod Backing
+mod Turning
+mod Printing
+mod Switching

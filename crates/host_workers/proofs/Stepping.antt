@@ -1,0 +1,147 @@
+-- What a back has told its front goes on with each of its steps.
+use Rattle.std.proofs.Common.{◌≡◌, ◌∙◌, ap, sym, refl, subst, inl, inr, true≢false, ℕ, ◌≤◌, arith, List, [], ◌∷◌, ◌++◌, length, append-nil, Option, Some, None}
+use Rattle.std.specs.Prelude.{Bool, false, true, option_to_list}
+use Rattle.batch_journal.specs.Rest.{disk_in}
+use Rattle.storage_map.specs.Contents.{Contents}
+use Rattle.storage_map.specs.declared.op.Op.{Op}
+use Rattle.timeline.specs.declared.entry.Entry.{Entry}
+use Rattle.timeline.specs.declared.notice.Notice.{Notice}
+use Rattle.output_gate.proofs.Steps.{told_before}
+use Rattle.output_gate.specs.Serving.{IsBack, IsBackAs, is_stopped}
+use Rattle.output_gate.specs.Storing.{IsDiskOf, KeepsTelling}
+use Rattle.output_gate.specs.Telling.{opened_map}
+use Rattle.output_gate.specs.declared.back.Back.{Back}
+use Rattle.output_gate.specs.declared.store.Store.{Store}
+use Rattle.object_history.specs.Pair.{Rear, mounted}
+use Rattle.object_history.specs.Seen.{rear_of}
+use Rattle.object_history.specs.Stepping.{BackSteps, takes_own, takes_down, takes_late, flies, stops, sends, syncs, halts, begins, misses}
+use Rattle.object_core.proofs.Due.{is_due, seen_is_rear, steps_as_due, steps_unheard}
+use Rattle.object_core.specs.One.{TellsNow}
+use Rattle.object_core.specs.Seen.{as_due, seen_of}
+use Rattle.host_workers.specs.Runs.{HasTold, Runs, Tells, goes_on}
+
+pub none_is_few : 0 ≤ 1
+none_is_few = omega arith
+
+pub one_is_few : 1 ≤ 1
+one_is_few = omega arith
+
+few_of : (o : Option Notice) → length (option_to_list o) ≤ 1
+few_of None = none_is_few
+few_of (Some n) = one_is_few
+
+-- A step tells one notice at most.
+told_few : (r later : Rear) (got : List Entry) (told : List Notice) → BackSteps r later got told → length told ≤ 1
+told_few r _ _ _ (takes_own e map stand is) = few_of _
+told_few r _ _ _ (takes_down e c map stand is fits) = none_is_few
+told_few r _ _ _ (takes_late e map is) = none_is_few
+told_few r _ _ _ (flies count map) = none_is_few
+told_few r _ _ _ (stops stop held map stand less flown is_held) = none_is_few
+told_few r _ _ _ (sends release map) = none_is_few
+told_few r _ _ _ (syncs number needs rest map is_held) = one_is_few
+told_few r _ _ _ (halts c needs rest stop end is_held stand flown by_halt) = one_is_few
+told_few r _ _ _ (begins c end before map stand) = one_is_few
+told_few r _ _ _ (misses c counts_before counts_after stand) = one_is_few
+
+-- A step that takes nothing and tells nothing is one whatever map the back has.
+silent : (opened : Contents) (r later : Rear) (got : List Entry) (told : List Notice) → BackSteps r later got told → got ≡ [] → told ≡ []
+    → BackSteps (as_due opened r) (as_due opened later) [] []
+silent opened r _ _ _ (takes_own e map stand is) none empty = absurd cc
+silent opened r _ _ _ (takes_down e c map stand is fits) none empty = absurd cc
+silent opened r _ _ _ (takes_late e map is) none empty = absurd cc
+silent opened r _ _ _ (flies count map) none empty = flies count _
+silent opened r _ _ _ (stops stop held map stand less flown is_held) none empty = stops stop held _ stand less flown is_held
+silent opened r _ _ _ (sends release map) none empty = sends release _
+silent opened r _ _ _ (syncs number needs rest map is_held) none empty = absurd cc
+silent opened r _ _ _ (halts c needs rest stop end is_held stand flown by_halt) none empty = absurd cc
+silent opened r _ _ _ (begins c end before map stand) none empty = absurd cc
+silent opened r _ _ _ (misses c counts_before counts_after stand) none empty = absurd cc
+
+module _ {D : Type 0} (moment_of : D → ℕ) (left_since : D → ℕ → List ℕ → Type 0) (told : D → Option (List ℕ)) (image : D → List ℕ → Type 0) (faults_of : D → ℕ)
+    (start : List (List Op)) (opening : ℕ) where
+  abbrev Known : Back D → Type 0
+  Known back = IsBack moment_of left_since told image faults_of start opening back
+
+  -- a back has a disk
+  pub disk_of : (sound : Bool) (back : Back D) → IsBackAs moment_of left_since told image faults_of start opening sound back → (disk : D) × IsDiskOf back.store disk
+  disk_of sound back (inl m) = (disk_in m.journal, subst (λ (s : Store D). IsDiskOf s (disk_in m.journal)) (sym m.safe.store) refl)
+  disk_of sound back (inr u) = (u.disk, u.safe.store)
+
+  -- The disk told its content before a step behind which it does.
+  earlier : (old new : Back D) → KeepsTelling told old.store new.store → Known old → TellsNow told new → TellsNow told old
+  earlier old new keeps known tells =
+      let at = disk_of _ old known in
+      (at.0, at.1, told_before (told at.0) (told tells.0) (keeps at.0 tells.0 at.1 tells.1) tells.2)
+
+  module _ (old new : Back D) (known : Known old) (now : Known new) (keeps : KeepsTelling told old.store new.store) (got : List Entry)
+      (taken : new.log.taken.items ≡ old.log.taken.items ++ got) (sent later : List Notice) where
+    abbrev opened : Contents
+    opened = opened_map start
+
+    -- the run with this step more
+    run_more : (was : HasTold opened old sent) (more unheard : List Notice) → BackSteps (seen_of opened old) (seen_of opened new) got more
+        → (sent ++ was.unheard) ++ more ≡ later ++ unheard → Runs opened (seen_of opened new) new.log.taken.items (later ++ unheard)
+    run_more was more unheard steps is =
+        subst (λ (x : List Entry × List Notice). Runs opened (seen_of opened new) x.0 x.1) (λ i. (sym taken i, is i))
+        (goes_on (seen_of opened old) (seen_of opened new) old.log.taken.items got (sent ++ was.unheard) more was.runs
+        (seen_is_rear moment_of left_since told image faults_of start opening new now) steps)
+
+    drops_none : (was : HasTold opened old sent) → is_stopped old ≡ false → (more : List Notice) → (sent ++ was.unheard) ++ more ≡ sent ++ more
+    drops_none was on more = ap (λ (l : List Notice). (sent ++ l) ++ more) (was.none_unheard on) ∙ ap (λ (l : List Notice). l ++ more) (append-nil sent)
+
+    -- What the step tells was sent.
+    pub heard : (more : List Notice) → is_stopped old ≡ false → is_stopped new ≡ false → BackSteps (rear_of old) (rear_of new) got more → later ≡ sent ++ more
+        → Tells told start old sent → Tells told start new later
+    heard more on goes steps said before tells =
+        let at = earlier old new keeps known tells in
+        let was : HasTold opened old sent = before at in
+        let due = is_due moment_of left_since told image faults_of start opening old at.0 at.1 at.2 known on in
+        let due_now = is_due moment_of left_since told image faults_of start opening new tells.0 tells.1 tells.2 now goes in
+        record {
+          unheard = [];
+          few = none_is_few;
+          none_unheard = λ _. refl;
+          runs = run_more was more [] (steps_as_due opened (rear_of old) (rear_of new) got more steps due due_now)
+              (drops_none was on more ∙ sym said ∙ sym (append-nil later));
+        }
+
+    -- It is lost, and the back is stopped.
+    pub unheard_by : (more : List Notice) → is_stopped old ≡ false → is_stopped new ≡ true → BackSteps (rear_of old) (rear_of new) got more
+        → ((rear_of old).stand ≡ mounted → got ≡ [] → more ≡ []) → later ≡ sent → Tells told start old sent → Tells told start new later
+    unheard_by more on off steps no_halt said before tells =
+        let was : HasTold opened old sent = before (earlier old new keeps known tells) in
+        let s = steps_unheard opened (rear_of old) (rear_of new) got more steps no_halt in
+        record {
+          unheard = s.0;
+          few = told_few (seen_of opened old) (seen_of opened new) got s.0 s.1;
+          none_unheard = λ goes. absurd (true≢false (sym off ∙ goes));
+          runs = run_more was s.0 s.0 s.1 (drops_none was on s.0 ∙ ap (λ (l : List Notice). l ++ s.0) (sym said));
+        }
+
+    -- It tells nothing, and the back goes on as it did.
+    pub silent_by : got ≡ [] → (is_stopped new ≡ false → is_stopped old ≡ false) → BackSteps (rear_of old) (rear_of new) got [] → later ≡ sent
+        → Tells told start old sent → Tells told start new later
+    silent_by none goes steps said before tells =
+        let was : HasTold opened old sent = before (earlier old new keeps known tells) in
+        record {
+          unheard = was.unheard;
+          few = was.few;
+          none_unheard = λ on. was.none_unheard (goes on);
+          runs = run_more was [] was.unheard
+              (subst (λ (l : List Entry). BackSteps (seen_of opened old) (seen_of opened new) l []) (sym none)
+              (silent opened (rear_of old) (rear_of new) got [] steps none refl))
+              (append-nil (sent ++ was.unheard) ∙ ap (λ (l : List Notice). l ++ was.unheard) (sym said));
+        }
+
+    -- Nothing is done of which the front is told.
+    pub unseen_by : got ≡ [] → (is_stopped new ≡ false → is_stopped old ≡ false) → seen_of opened new ≡ seen_of opened old → later ≡ sent
+        → Tells told start old sent → Tells told start new later
+    unseen_by none goes same said before tells =
+        let was : HasTold opened old sent = before (earlier old new keeps known tells) in
+        let still : new.log.taken.items ≡ old.log.taken.items = taken ∙ ap (λ (l : List Entry). old.log.taken.items ++ l) none ∙ append-nil old.log.taken.items in
+        record {
+          unheard = was.unheard;
+          few = was.few;
+          none_unheard = λ on. was.none_unheard (goes on);
+          runs = subst (λ (x : Rear × List Entry × List Notice). Runs opened x.0 x.1 (x.2 ++ was.unheard)) (λ i. (sym same i, sym still i, sym said i)) was.runs;
+        }

@@ -1,0 +1,13 @@
+use Rattle.std.proofs.Common.{refl}
+use Rattle.host_workers.proofs.Backing.{flush_keeps}
+use Rattle.host_workers.proofs.back_cell.BackCell.flush.Goals as goal
+
+pub flush-requires : goal.flush-requires
+flush-requires g c = let r = c.requires in (r.0, r.1, r.2.stands)
+
+pub returns-clause-cell : goal.returns-clause-cell
+returns-clause-cell g c start opening one =
+    let e = c.flush.ensures in
+    flush_keeps g.D.Disk.moment_of g.D.Disk.left_since g.D.Disk.told g.D.Disk.image g.D.Disk.faults_of start opening c.args.self.now.back c.flush.new.self
+    c.args.self.now.line.got c.args.self.now.line.got c.args.self.now.notices.sent c.args.self.now.notices.sent c.args.self.now.out.sent c.args.self.now.out.sent one c.flush.result refl refl refl
+    e.nothing e.flushed e.tells e.stopped e.back

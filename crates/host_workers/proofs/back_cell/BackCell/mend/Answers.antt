@@ -1,0 +1,13 @@
+use Rattle.std.proofs.Common.{refl}
+use Rattle.host_workers.proofs.Backing.{mend_keeps}
+use Rattle.host_workers.proofs.back_cell.BackCell.mend.Goals as goal
+
+pub mend-requires : goal.mend-requires
+mend-requires g c = let r = c.requires in (r.0, r.1, r.2.stands)
+
+pub returns-clause-cell : goal.returns-clause-cell
+returns-clause-cell g c start opening one =
+    let e = c.mend.ensures in
+    mend_keeps g.D.Disk.moment_of g.D.Disk.left_since g.D.Disk.told g.D.Disk.image g.D.Disk.faults_of start opening c.args.self.now.back c.mend.new.self
+    c.args.self.now.line.got c.args.self.now.line.got c.args.self.now.notices.sent c.mend.new.notices.sent c.args.self.now.out.sent c.args.self.now.out.sent one c.mend.result
+    (record { stopped = e.stopped; barred = e.barred; nothing = e.nothing; mended = e.mended; lost = e.lost; stops = e.stops; tells = e.tells; back = e.back; line = refl; same_out = refl })

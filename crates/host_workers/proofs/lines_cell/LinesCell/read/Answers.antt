@@ -1,0 +1,30 @@
+use Rattle.host_workers.proofs.Reading.{counts_on, good_answer, reads_one, went}
+use Rattle.std.proofs.Common.{refl, subst, sym}
+use Rattle.line_server.specs.Lines.{fault_of}
+use Rattle.host_workers.specs.Lines.{HasCounted}
+use Rattle.host_workers.proofs.lines_cell.LinesCell.read.Goals as goal
+
+pub returns-in-Ok-Some-clause-cell : goal.returns-in-Ok-Some-clause-cell
+returns-in-Ok-Some-clause-cell g c whole is =
+    let e = c.in-Ok-Some.ensures in
+    let reading = rw c.in-Ok-Some.field-0-is at e.reading in
+    reads_one g.R.Source.left whole c.args.self.now c.next.new.self c.in-Ok-Some.line c.pass_on.new.self c.pass_on.result c.if-self.false
+    (λ given was. reading whole given was) (good_answer _ (fault_of c.args.self.now.lines) (λ fault at. (e.again fault at).0)) c.pass_on.ensures is
+
+pub returns-in-Ok-Some-clause-did : goal.returns-in-Ok-Some-clause-did
+returns-in-Ok-Some-clause-did g c did = went _ c.pass_on.new.self c.in-Ok-Some.line c.pass_on.result c.pass_on.ensures did
+
+pub returns-in-Ok-Some-clause-counts : goal.returns-in-Ok-Some-clause-counts
+returns-in-Ok-Some-clause-counts g c from was =
+    let e = c.next.ensures in
+    subst (λ lines. HasCounted g.R.Source.faults_of from lines) (sym c.pass_on.ensures.lines) (counts_on g.R.Source.faults_of from c.args.self.now.lines c.next.new.self c.next.result (fault_of c.args.self.now.lines) refl e.again e.reads e.fault was)
+
+pub returns-in-Ok-None-clause-counts : goal.returns-in-Ok-None-clause-counts
+returns-in-Ok-None-clause-counts g c from was =
+    let e = c.next.ensures in
+    (counts_on g.R.Source.faults_of from c.args.self.now.lines c.next.new.self c.next.result (fault_of c.args.self.now.lines) refl e.again e.reads e.fault was)
+
+pub returns-in-Err-clause-counts : goal.returns-in-Err-clause-counts
+returns-in-Err-clause-counts g c from was =
+    let e = c.next.ensures in
+    (counts_on g.R.Source.faults_of from c.args.self.now.lines c.next.new.self c.next.result (fault_of c.args.self.now.lines) refl e.again e.reads e.fault was)

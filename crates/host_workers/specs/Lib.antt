@@ -1,0 +1,5 @@
+pub mod Lines
+pub mod Runs
+pub mod Backs
+pub mod Fronts
+pub mod Switches
