@@ -28,7 +28,7 @@ module _ {D W T : Type 0} (moment_of : D → ℕ) (left_since : D → ℕ → Li
       → IsServing moment_of left_since told image faults_of limit script contents named after new
   accept_serves accepts keeps goes =
       serving_line moment_of left_since told image faults_of limit script contents named before after old new taken faults result cores acts
-      (outs_same old new outs) same_got (ap (λ (log : SwitchLog). log.routed) accepts.log) keeps goes
+      (outs_same old new outs) line same_got accepts keeps goes
 
   -- It was not, or in part.
   pub accept_served : (BeginsLine script before after line ⊎ ((log_of after ≡ log_of before) × (result ≡ Err NoMemory)))

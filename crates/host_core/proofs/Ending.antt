@@ -81,6 +81,16 @@ pub line_waits : (T : Type 0) (f : LineFault) → most_left {T = T} (Err f) ≤ 
 line_waits T line.ReadFailed = omega arith
 line_waits T line.NoMemory = omega arith
 
+abbrev line_failed : (T : Type 0) → LineFault → Result T LineFault
+line_failed T f = Err f
+
+-- Where a run of lines stops at a read fault, the reader gave that.
+pub read_fault_of : (T : Type 0) (f : LineFault) (stop : Stop) (result : Result (Unit {0}) Stop) → result ≡ Err stop → stop ≡ line_stop f → result ≡ Err stops.ReadFailed
+    → line_failed T f ≡ line_failed T line.ReadFailed
+read_fault_of T line.ReadFailed stop result is so failed = refl
+read_fault_of T line.NoMemory stop result is so failed =
+    let same : stopped stops.NoMemory ≡ stopped stops.ReadFailed = ap Err (sym so) ∙ sym is ∙ failed in let no : ⊥ = cc in absurd no
+
 module _ {W : Type 0} (taken : W → Option (List ℕ)) (faults : W → ℕ) where
   -- What is printed until a run of lines stops at a fault of the switch, or at another cause.
   pub prints_fault : (a b : Switch W) (f : SwitchFault) → fault_of a ≡ None → Prints taken faults a b (faulted f) → PrintsUntil taken faults a b (stopped (switch_stop f))

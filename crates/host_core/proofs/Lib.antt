@@ -3,8 +3,11 @@ pub mod Actions
 pub mod Movements
 pub mod Goings
 pub mod Placings
+pub mod Tells
 pub mod Routings
 pub mod Printings
+pub mod Found
+pub mod Fitting
 pub mod Servings
 pub mod Restings
 pub mod Accepting

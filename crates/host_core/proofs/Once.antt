@@ -10,6 +10,7 @@ use Rattle.object_messages.specs.Naming.{called_in}
 use Rattle.placement.specs.Slots.{Slots}
 use Rattle.switch_history.specs.Answering.{AreInOrder, AreServedOnce, CallsAreAnsweredOnce}
 use Rattle.switch_history.specs.Asks.{AsksAreAnsweredOnce}
+use Rattle.switch_history.specs.Fit.{IsFitRun}
 use Rattle.timeline.specs.Lines.{Line}
 use Rattle.timeline.specs.Logs.{Fronted, fronted}
 use Rattle.timeline.specs.Switch as timeline
@@ -79,12 +80,12 @@ no_calls_dropped told script named log rows drops tell classes = λ slot row at.
 -- ---- each accepted call
 pub are_answered : {S : Type 0} (told : S → Option (List ℕ)) (limit : ℕ) (script : Script) (contents : ℕ → Option (List ℕ)) (named : Slots) (log : SwitchLog) (after : timeline.Switch)
     (left : List (ℕ × Caller × Waits)) (rows : List (SlotReport S)) → CallsAreAnsweredOnce → AsksAreAnsweredOnce → AreInOrder log.accepted → length rows ≡ length named
-    → AreLeftIn (length rows) left → AreSettled told limit script contents named log left rows
+    → AreLeftIn (length rows) left → (TellAll told rows → IsFitRun script (timeline.opened named) log after) → AreSettled told limit script contents named log left rows
     → (TellAll told rows → HaveClasses script named → DropNoCalls rows) → AreCallsAnswered told script named log after left rows
-are_answered told limit script contents named log after left rows law asks order many left_in settled drop tell classes fit =
+are_answered told limit script contents named log after left rows law asks order many left_in fits settled drop tell classes =
     let of_slots = subst (λ (n : ℕ). AreLeftIn n left) many left_in in
     let served : AreServedOnce (length named) log left = λ slot less.
     let row = item_at rows slot (subst (λ (n : ℕ). slot < n) (sym many) less) in (settled tell classes slot row.0 row.1).once (drop tell classes slot row.0 row.1) in record {
-      calls = law script named log after left fit order of_slots served;
-      asks = asks script named log after left fit of_slots served;
+      calls = law script named log after left (fits tell) order of_slots served;
+      asks = asks script named log after left (fits tell) of_slots served;
     }

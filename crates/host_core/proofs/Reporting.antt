@@ -42,6 +42,7 @@ use Rattle.host_core.specs.Reading.{Accepts, AcceptsAll, AcceptsAllRead}
 use Rattle.host_core.specs.Report.{IsFinished, IsReport, PrintsLines, is_opening_end, most_unaccepted}
 use Rattle.host_core.specs.Rows.{AreRows, IsRow}
 use Rattle.switch_history.specs.Ends.{EndsAreRouted}
+use Rattle.switch_history.specs.Fit.{IsFitRun, begins as fit_begins}
 use Rattle.host_core.proofs.Complete.{are_unended, unended_none}
 use Rattle.host_core.specs.Running.{HasServed, IsServing, PrintsUntil}
 use Rattle.mailbox.specs.SoFar.{IsRunSoFar}
@@ -187,6 +188,8 @@ serves_first moment_of left_since told image faults_of limit script contents nam
   there = subst (λ (l : SwitchLog). AreThere (length objects.cores.items) l) (sym log) (All-nil (λ (sent : ℕ × Message). sent.0 < length objects.cores.items));
   many = ap (λ (s : timeline.Switch). length s.objects) state ∙ many;
   goes = goes;
+  fit = λ tells. subst (λ (s : timeline.Switch). IsFitRun script (opened named) (log_of switch) s) (sym state)
+      (subst (λ (l : SwitchLog). IsFitRun script (opened named) l (opened named)) (sym log) fit_begins);
 }
 
 -- ---- what is written

@@ -12,7 +12,7 @@ use Rattle.object_core.specs.Dropping.{AreFitting}
 use Rattle.object_core.specs.Drops.{DropsOnly, OneDrops}
 use Rattle.object_core.specs.Laws.{HasIntake, OneHasClass, OneHasGot, OneHasIntake, OneHasLeft, OneHasTold, OneIsHistory, OneIsLimited}
 use Rattle.object_core.specs.Limited.{IsFullAt}
-use Rattle.object_core.specs.One.{CanRun, class_in, messages}
+use Rattle.object_core.specs.One.{CanRun, TellsNow, class_in, messages}
 use Rattle.object_core.specs.Owing.{IsOwed, OneIsOwed}
 use Rattle.object_core.specs.Unended.{OneTellsNoEnd}
 use Rattle.object_messages.specs.Ends.{TellNoEnd}
@@ -38,11 +38,12 @@ use Rattle.timeline.specs.declared.entry.Entry.{Entry}
 use Rattle.timeline.specs.declared.event.Event.{Event}
 use Rattle.timeline.specs.declared.message.Message.{Message}
 use Rattle.timeline.specs.declared.notice.Waits.{Waits}
+pub use Rattle.host_core.proofs.Found.{item_at}
 use Rattle.host_core.proofs.Pushed.{before_push, next_at, push_before, push_last, push_within}
 use Rattle.host_core.proofs.Remaining.{AreLeftBy}
 use Rattle.host_core.specs.Closing.{AreSettledUnless, IsLetGoOf, IsRowOf, IsSettledOf}
-use Rattle.host_core.specs.Objects.{AreGoing, AreResting, AreRouted, AreSlots, CanAllRun}
-use Rattle.host_core.specs.Quiet.{AreLetGo, remaining_of}
+use Rattle.host_core.specs.Objects.{AllTell, AreGoing, AreResting, AreRouted, AreSlots, CanAllRun}
+use Rattle.host_core.specs.Quiet.{AreLetGo, TellAll, remaining_of}
 use Rattle.host_core.specs.Rows.{AreRows, AreServed, IsObjectIn}
 use Rattle.host_core.specs.Slots.{IsSlot}
 use Rattle.host_core.specs.declared.objects.Objects.{Objects}
@@ -169,16 +170,13 @@ module _ {D : Type 0} (moment_of : D → ℕ) (left_since : D → ℕ → List �
     drops = drops_in limit script content named posts routed inbox out slot;
   }
 
--- an item stands at each place of a list
-pub item_at : {X : Type 0} (xs : List X) (at : ℕ) → at < length xs → (x : X) × (slice_get xs at ≡ Some x)
-item_at {X} xs at less = ⊎_elim (λ there. (there.0, there.2)) (λ past. absurd (omega (arith, less, past.0))) (slice_get_cases xs at).1
-
 module _ {D : Type 0} (moment_of : D → ℕ) (left_since : D → ℕ → List ℕ → Type 0) (told : D → Option (List ℕ)) (image : D → List ℕ → Type 0) (faults_of : D → ℕ) where
   -- what a row tells of its object, also where that rests
   pub record TellsOf (core : Core D) (row : SlotReport D) : Type 0 where
     pub row_of : IsRowOf moment_of left_since told image faults_of core row
     pub let_go : IsLetGoOf moment_of left_since told image faults_of core row
     pub settled : IsSettledOf moment_of left_since told image faults_of core row
+    pub tells : IsTold (told row.store) → TellsNow told core.back
 
   -- each row is one of the object in its place
   abbrev pub AreRowsOf : List (Core D) → List (SlotReport D) → Type 0
@@ -200,6 +198,19 @@ module _ {D : Type 0} (moment_of : D → ℕ) (left_since : D → ℕ → List �
       let mine : slice_get (cores ++ core ∷ []) slot ≡ Some core = subst (λ (n : ℕ). slice_get (cores ++ core ∷ []) n ≡ Some core) last (next_at cores core []) in
       (core, mine, subst (λ (r : SlotReport D). TellsOf core r) (push_last rows row that slot (many ∙ last) at) is))
       (cases_lt slot (length rows))
+
+  -- the core at a place is one
+  same_core : (cores : List (Core D)) (slot : ℕ) (one other : Core D) → slice_get cores slot ≡ Some one → slice_get cores slot ≡ Some other → one ≡ other
+  same_core cores slot one other first second = let both : Some one ≡ Some other = sym first ∙ second in let same : one ≡ other = cc in same
+
+  -- where the disks of all rows tell their content, those of all objects did
+  pub all_tell : (objects : Objects D) (rows : List (SlotReport D)) → AreRowsOf objects.cores.items rows → length rows ≡ length objects.cores.items
+      → TellAll told rows → AllTell told objects
+  all_tell objects rows are many tell = λ slot core at.
+      let within = slice_get_within objects.cores.items slot core at in
+      let row = item_at rows slot (omega (arith, within, many)) in
+      let of = are slot row.0 row.1 in
+      subst (λ (c : Core D). TellsNow told c.back) (same_core objects.cores.items slot of.0 core of.1 at) (of.2.tells (tell slot row.0 row.1))
 
   pub all_rows : (objects : Objects D) (rows : List (SlotReport D)) → AreRowsOf objects.cores.items rows
       → (limit : ℕ) (script : Script) (contents : ℕ → Option (List ℕ)) (named : Slots) (log : SwitchLog)

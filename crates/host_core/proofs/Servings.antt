@@ -1,24 +1,31 @@
 -- What one message that is routed, or one line that is accepted, leaves of a run.
-use Rattle.std.proofs.Common.{◌≡◌, ◌<◌, ◌∙◌, ap, sym, subst, ℕ, List, [], ◌∷◌, ◌++◌, map, length, append-nil, Option, None}
-use Rattle.std.specs.Prelude.{Result, Ok, Err, OnOk, OnErr}
-use Rattle.std.specs.List.{All}
-use Rattle.std.proofs.lemmas.List.Elements.{All-nil, All-cons}
+use Rattle.std.proofs.Common.{◌≡◌, ◌<◌, ◌∙◌, ap, sym, subst, refl, arith, ℕ, List, [], ◌∷◌, ◌++◌, map, length, cond, append-nil, Option, Some, None}
+use Rattle.std.specs.Prelude.{Bool, Result, Ok, Err, OnOk, OnErr, slice_get}
+use Rattle.std.specs.List.{All, Contains}
+use Rattle.std.proofs.lemmas.List.Elements.{All-nil, All-cons, Contains-append_left, Contains-push}
 use Rattle.do_tree.specs.Tree.{Script}
 use Rattle.lane.specs.Lanes.{Both, nowhere, sent_on}
 use Rattle.line_server.specs.declared.line.Line.{Line}
 use Rattle.placement.specs.Slots.{Slots}
+use Rattle.switch_history.specs.Fit.{IsFit, IsFitRun, accepted as fit_accepted, routed as fit_routed}
+use Rattle.switch_history.specs.Placed.{PostsArePlaced}
+use Rattle.timeline.specs.Switch as timeline
 use Rattle.timeline.specs.Switch.{SwitchLog, opened}
 use Rattle.timeline.specs.declared.event.Event.{Event}
 use Rattle.timeline.specs.declared.message.Message.{Message}
 use Rattle.mailbox.proofs.Sendings.{same_count}
 use Rattle.mailbox.specs.Posting.{at_slot, of_slot}
-use Rattle.mailbox.specs.Runs.{Acts, Routes, BeginsLine, BeginsMessage, IsStill, KeepsRun, fault_of, log_of, slots_of, state_of}
+use Rattle.mailbox.specs.Runs.{Accepts, Acts, Routes, BeginsLine, BeginsMessage, IsStill, KeepsRun, fault_of, log_of, slots_of, state_of}
 use Rattle.mailbox.specs.Seen.{seen_line}
 use Rattle.mailbox.specs.Taken.{IsTakenOf, SameInlets, got_more}
 use Rattle.mailbox.specs.declared.fault.SwitchFault.{SwitchFault}
 use Rattle.mailbox.specs.declared.switch.Switch.{Switch}
-use Rattle.host_core.proofs.Routings.{Moves, got_of, at_same, at_taken, going_moved, there_moved, all_stand, going_can, standing_can}
-use Rattle.host_core.specs.Objects.{AreGoing, AreSlots, AreThere, CanAllRun}
+use Rattle.object_core.specs.Unmoved.{AllAreOwed, AllSayNothing}
+use Rattle.object_core.specs.declared.object.Core.{Core}
+use Rattle.host_core.proofs.Fitting.{message_fits}
+use Rattle.host_core.proofs.Found.{item_at}
+use Rattle.host_core.proofs.Routings.{Moves, got_of, at_same, at_some, at_taken, is_own, going_moved, there_moved, all_stand, going_can, standing_can}
+use Rattle.host_core.specs.Objects.{AllTell, AreGoing, AreSlots, AreThere, CanAllRun}
 use Rattle.host_core.specs.Running.{HasServed, IsServing}
 use Rattle.mailbox.specs.SoFar.{IsRunSoFar, whole, in_line, in_message}
 use Rattle.host_core.specs.declared.objects.Objects.{Objects}
@@ -79,17 +86,31 @@ module _ {D W : Type 0} (moment_of : D → ℕ) (left_since : D → ℕ → List
   abbrev Served : Switch W → Objects D → Type 0
   Served = HasServed moment_of left_since told image faults_of limit script contents named
 
+  -- What was routed until then was fit.
+  abbrev FitsAfter : Type 0
+  FitsAfter = IsFitRun script (opened named) (log_of after) (state_of after)
+
+  fits_as : (log : SwitchLog) (s : timeline.Switch) → log_of after ≡ log → state_of after ≡ s → IsFitRun script (opened named) log s → FitsAfter
+  fits_as log s same_log same fits =
+      subst (λ (l : SwitchLog). IsFitRun script (opened named) l (state_of after)) (sym same_log)
+      (subst (λ (t : timeline.Switch). IsFitRun script (opened named) log t) (sym same) fits)
+
   abbrev AreOf : List (ℕ × Message) → Type 0
   AreOf = All (λ (sent : ℕ × Message). sent.0 < length old.cores.items)
 
+  -- The same objects tell as before.
+  still_tell : new.cores.items ≡ old.cores.items → AllTell told new → AllTell told old
+  still_tell same tells = λ slot core at. tells slot core (subst (λ (xs : List (Core D)). slice_get xs slot ≡ Some core) (sym same) at)
+
   serving_moved : (moves : Moves (log_of before) (log_of after) old new) → AreOf moves.routed → KeepsRun script before after
-      → slots_of after ≡ slots_of before → fault_of after ≡ None → Serves before old → Serves after new
-  serving_moved moves are keeps many goes serving = record {
+      → slots_of after ≡ slots_of before → fault_of after ≡ None → (fits : Serves before old → AllTell told old → FitsAfter) → Serves before old → Serves after new
+  serving_moved moves are keeps many goes fits serving = record {
     run = keeps (opened named) serving.run;
     slots = going_moved (log_of before) (log_of after) old new moves moment_of left_since told image faults_of limit script contents named serving.slots;
     there = there_moved (log_of before) (log_of after) old new moves serving.there are;
     many = many ∙ serving.many ∙ sym (ap length moves.cores);
     goes = goes;
+    fit = λ tells. fits serving (still_tell moves.cores tells);
   }
 
   served_moved : (moves : Moves (log_of before) (log_of after) old new) → AreOf moves.routed
@@ -122,17 +143,48 @@ module _ {D W : Type 0} (moment_of : D → ℕ) (left_since : D → ℕ → List
     GotNew = map (λ (p : Both Message). p.got) new.outs.items
 
     -- ---- one message is routed, or none
-    pub serving_routed : IsTakenOf (λ (p : Both Message). p.got) old.outs.items new.outs.items (Routes script before after) → KeepsRun script before after
+    -- The message that was taken waited to be.
+    waited : (sent : ℕ × Message) (moves : Moves (log_of before) (log_of after) old new) → moves.routed ≡ sent ∷ [] → (out then : Both Message)
+        → slice_get old.outs.items sent.0 ≡ Some out → slice_get new.outs.items sent.0 ≡ Some then → Contains (sent_on out) sent.1
+    waited sent moves one out then is_out is_then =
+        let own : of_slot sent.0 moves.routed ≡ sent.1 ∷ [] =
+        ap (of_slot sent.0) one ∙ ap (λ (b : Bool). cond b (sent.1 ∷ []) []) (is_own sent.0 sent.0 refl) in
+        let got : then.got ≡ out.got ++ sent.1 ∷ [] =
+        sym (at_some got_of new.outs.items sent.0 then is_then) ∙ moves.got sent.0
+        ∙ ap (λ (ms : List Message). ms ++ of_slot sent.0 moves.routed) (at_some got_of old.outs.items sent.0 out is_out)
+        ∙ ap (λ (ms : List Message). out.got ++ ms) own in
+        let told_same : sent_on then ≡ sent_on out =
+        sym (at_some sent_on new.outs.items sent.0 then is_then) ∙ moves.told sent.0 ∙ at_some sent_on old.outs.items sent.0 out is_out in
+        subst (λ (ms : List Message). Contains ms sent.1) told_same
+        (Contains-append_left then.got then.waiting sent.1 (subst (λ (ms : List Message). Contains ms sent.1) (sym got) (Contains-push out.got sent.1)))
+
+    -- So it is fit.
+    taken_fits : PostsArePlaced → AllAreOwed moment_of left_since told image faults_of → AllSayNothing moment_of left_since told image faults_of
+        → (sent : ℕ × Message) (moves : Moves (log_of before) (log_of after) old new) → moves.routed ≡ sent ∷ [] → sent.0 < length old.outs.items
+        → Serves before old → AllTell told old → IsFit (state_of before) sent
+    taken_fits placed owed nothing sent moves one there serving tells =
+        let slots = serving.slots in
+        let out = item_at old.outs.items sent.0 there in
+        let then = item_at new.outs.items sent.0 (omega (arith, there, moves.outs)) in
+        let core = item_at old.cores.items sent.0 (omega (arith, there, slots.outs)) in
+        let inbox = item_at old.inboxes.items sent.0 (omega (arith, there, slots.outs, slots.inboxes)) in
+        message_fits moment_of left_since told image faults_of limit script contents named (log_of before) (state_of before) old placed owed nothing
+        serving.run slots tells sent.0 core.0 inbox.0 out.0 core.1 inbox.1 out.1 sent.1 (waited sent moves one out.0 then.0 out.1 then.1)
+
+    pub serving_routed : PostsArePlaced → AllAreOwed moment_of left_since told image faults_of → AllSayNothing moment_of left_since told image faults_of
+        → IsTakenOf (λ (p : Both Message). p.got) old.outs.items new.outs.items (Routes script before after) → KeepsRun script before after
         → fault_of after ≡ None → Serves before old → Serves after new
-    serving_routed one keeps goes serving =
+    serving_routed placed owed nothing one keeps goes serving =
         let moves = moves_one taken faults before after old new result cores acts lanes one.sent one.there one.taken
         (ap (λ (log : SwitchLog). log.routed) one.does.log) in
-        serving_moved moves (one_of one.sent one.there serving) keeps acts.slots goes serving
+        serving_moved moves (one_of one.sent one.there serving) keeps acts.slots goes
+        (λ serves tells. fits_as _ _ one.does.log one.does.state
+        (fit_routed (log_of before) (state_of before) one.sent (taken_fits placed owed nothing one.sent moves refl one.there serves tells) (serves.fit tells))) serving
 
     pub serving_still : IsStill before after → GotNew ≡ GotOld → KeepsRun script before after → fault_of after ≡ None → Serves before old → Serves after new
     serving_still still same keeps goes serving =
         serving_moved (moves_none taken faults before after old new result cores acts lanes same (ap (λ (log : SwitchLog). log.routed) still.log))
-        none_of keeps acts.slots goes serving
+        none_of keeps acts.slots goes (λ serves tells. fits_as (log_of before) (state_of before) still.log still.state (serves.fit tells)) serving
 
     pub served_routed : IsTakenOf (λ (p : Both Message). p.got) old.outs.items new.outs.items (BeginsMessage script before after) → Serves before old → Served after new
     served_routed one serving =
@@ -146,10 +198,12 @@ module _ {D W : Type 0} (moment_of : D → ℕ) (left_since : D → ℕ → List
         none_of (same_run still serving) serving
 
     -- ---- one line is accepted
-    pub serving_line : GotNew ≡ GotOld → (log_of after).routed ≡ (log_of before).routed → KeepsRun script before after → fault_of after ≡ None
+    pub serving_line : (line : Line) → GotNew ≡ GotOld → Accepts script before after line → KeepsRun script before after → fault_of after ≡ None
         → Serves before old → Serves after new
-    serving_line same kept keeps goes serving =
-        serving_moved (moves_none taken faults before after old new result cores acts lanes same kept) none_of keeps acts.slots goes serving
+    serving_line line same accepts keeps goes serving =
+        serving_moved (moves_none taken faults before after old new result cores acts lanes same (ap (λ (log : SwitchLog). log.routed) accepts.log))
+        none_of keeps acts.slots goes
+        (λ serves tells. fits_as _ _ accepts.log accepts.state (fit_accepted (log_of before) (state_of before) (seen_line line) (serves.fit tells))) serving
 
     pub served_line : (line : Line) → GotNew ≡ GotOld → BeginsLine script before after line → Serves before old → Served after new
     served_line line same begins serving =
@@ -185,14 +239,15 @@ module _ {D : Type 0} (old new : Objects D) (inboxes later : List (Both Event)) 
 module _ {D W : Type 0} (moment_of : D → ℕ) (left_since : D → ℕ → List ℕ → Type 0) (told : D → Option (List ℕ)) (image : D → List ℕ → Type 0) (faults_of : D → ℕ)
     (limit : ℕ) (script : Script) (contents : ℕ → Option (List ℕ)) (named : Slots) (switch : Switch W) (old new : Objects D)
     (many : length new.cores.items ≡ length old.cores.items) where
-  pub serving_ran : AreGoing moment_of left_since told image faults_of limit script contents named (log_of switch) new
+  pub serving_ran : (AllTell told new → AllTell told old) → AreGoing moment_of left_since told image faults_of limit script contents named (log_of switch) new
       → IsServing moment_of left_since told image faults_of limit script contents named switch old → IsServing moment_of left_since told image faults_of limit script contents named switch new
-  serving_ran slots serving = record {
+  serving_ran tells slots serving = record {
     run = serving.run;
     slots = slots;
     there = subst (λ (n : ℕ). AreThere n (log_of switch)) (sym many) serving.there;
     many = serving.many ∙ sym many;
     goes = serving.goes;
+    fit = λ told_now. serving.fit (tells told_now);
   }
 
   pub served_ran : AreSlots moment_of left_since told image faults_of limit script contents named (log_of switch) new

@@ -7,7 +7,7 @@ use Rattle.timeline.specs.Switch.{SwitchLog}
 use Rattle.timeline.specs.declared.event.Event.{Event}
 use Rattle.timeline.specs.declared.message.Message.{Message}
 use Rattle.mailbox.specs.Posting.{of_slot}
-use Rattle.object_core.specs.One.{CanRun}
+use Rattle.object_core.specs.One.{CanRun, TellsNow}
 use Rattle.object_core.specs.declared.object.Core.{Core}
 use Rattle.placement.specs.Slots.{Slots, object_at}
 use Rattle.host_core.specs.Slots.{IsSlot, IsGoing, IsResting}
@@ -47,3 +47,7 @@ AreRouted = AllSlots (λ slot core inbox out. out.waiting ≡ [])
 -- Each message that was routed came from a slot that is there.
 abbrev pub AreThere : ℕ → SwitchLog → Type 0
 AreThere slots log = All (λ sent. sent.0 < slots) log.routed
+
+-- Each slot's disk tells its content now.
+abbrev pub AllTell : {D : Type 0} → (told : D → Option (List ℕ)) → Objects D → Type 0
+AllTell {D} told objects = (slot : ℕ) (core : Core D) → slice_get objects.cores.items slot ≡ Some core → TellsNow told core.back

@@ -17,7 +17,6 @@ use Rattle.placement.specs.Slots.{Slots, object_at}
 use Rattle.storage_map.specs.Limits.{Object}
 use Rattle.switch_history.specs.Answering.{AreAnsweredOnce}
 use Rattle.switch_history.specs.Asks.{AreAsksAnswered}
-use Rattle.switch_history.specs.Fit.{IsFitRun}
 use Rattle.switch_history.specs.Posted.{calls_of, calls_to}
 use Rattle.timeline.specs.Headline.{IsQuiet}
 use Rattle.timeline.specs.Logs.{fronted, backed}
@@ -85,11 +84,10 @@ pub record AnswersOnce (before : SwitchLog) (after : timeline.Switch) (left : Li
   pub calls : AreAnsweredOnce before.accepted before.lines left
   pub asks : AreAsksAnswered before after left
 
--- So it is while all disks tell their content, each object is of a class that the script has, and each routed message was fit.
+-- So it is while all disks tell their content, and each object is of a class that the script has.
 abbrev pub AreCallsAnswered : {S : Type 0} (told : S → Option (List ℕ)) → Script → (named : Slots) → (before : SwitchLog) → (after : timeline.Switch)
     → (left : List (ℕ × Caller × Waits)) → List (SlotReport S) → Type 0
-AreCallsAnswered {S} told script named before after left rows = TellAll told rows → HaveClasses script named
-    → IsFitRun script (timeline.opened named) before after → AnswersOnce before after left
+AreCallsAnswered {S} told script named before after left rows = TellAll told rows → HaveClasses script named → AnswersOnce before after left
 
 -- All that is left is of slots that are there.
 abbrev pub AreLeftIn : ℕ → (left : List (ℕ × Caller × Waits)) → Type 0

@@ -1,7 +1,7 @@
 //! The steps of one object, until it has nothing to do.
 ghost use Rattle.std.specs.Prelude.{◌≡◌, Ok, OnOk, false};
 ghost use Rattle.do_tree.specs.Checked.{tree_of as script_in};
-ghost use Rattle.object_core.specs.One.{CanRun, KeepsOne};
+ghost use Rattle.object_core.specs.One.{CanRun, KeepsOne, TellsNow};
 ghost use Rattle.host_core.specs.Acting.{Acts, HasSettled, IsIdle, IsOwn};
 
 use do_disk::Disk;
@@ -19,6 +19,7 @@ fn act<D: Disk>(alloc: Global, checked: &Checked, core: &mut Core<D>) -> Mem<boo
     ensures settled { result ≡ Ok false → HasSettled (script_in checked.now) core.new }
     ensures again { CanRun D.moment_of D.left_since D.told D.image D.faults_of (script_in checked.now) core.new }
     ensures one { KeepsOne D.moment_of D.left_since D.told D.image D.faults_of (script_in checked.now) core.old core.new }
+    ensures tells { TellsNow D.told core.new.back → TellsNow D.told core.old.back }
 {
     let turned = act_next(alloc, checked, core, Choice::Turn, Ok(false));
     let taken = act_next(alloc, checked, core, Choice::Take, turned);
@@ -41,6 +42,7 @@ fn act_next<D: Disk>(
     ensures idle { result ≡ Ok false → IsIdle (script_in checked.now) core.old core.new choice before }
     ensures again { CanRun D.moment_of D.left_since D.told D.image D.faults_of (script_in checked.now) core.new }
     ensures one { KeepsOne D.moment_of D.left_since D.told D.image D.faults_of (script_in checked.now) core.old core.new }
+    ensures tells { TellsNow D.told core.new.back → TellsNow D.told core.old.back }
 {
     match before {
         Ok(false) => core.step(alloc, checked, choice),
@@ -61,6 +63,7 @@ pub(crate) fn act_on<D: Disk, R: Wait>(
     ensures settled { OnOk result (HasSettled (script_in checked.now) core.new) }
     ensures again { CanRun D.moment_of D.left_since D.told D.image D.faults_of (script_in checked.now) core.new }
     ensures one { KeepsOne D.moment_of D.left_since D.told D.image D.faults_of (script_in checked.now) core.old core.new }
+    ensures tells { TellsNow D.told core.new.back → TellsNow D.told core.old.back }
 {
     for _ in rt.forever() {
         if !act(alloc, checked, core)? {

@@ -4,15 +4,16 @@ ghost use Rattle.std.specs.Vec.{vec_capacity};
 ghost use Rattle.do_tree.specs.Tree.{Script};
 ghost use Rattle.timeline.specs.Switch.{SwitchLog};
 ghost use Rattle.placement.specs.Slots.{Slots};
-ghost use Rattle.object_core.specs.One.{CanRun};
+ghost use Rattle.batch_journal.specs.Moments.{IsTold};
+ghost use Rattle.object_core.specs.One.{CanRun, TellsNow};
 ghost use Rattle.object_front.specs.Evaluated.{seen};
 ghost use Rattle.object_front.specs.Turning.{CanTurn};
 ghost use Rattle.output_gate.specs.Serving.{CanServe};
 ghost use Rattle.output_gate.specs.Storing.{IsDiskOf};
 ghost use Rattle.timeline.specs.Logs.{backed, fronted};
 ghost use Rattle.host_core.specs.Closing.{AddsLeft, AreSettledUnless, IsLetGoOf, IsRowOf, IsSettledOf, with_slot};
-ghost use Rattle.host_core.specs.Objects.{AreGoing, AreResting, AreRouted, AreSlots, CanAllRun};
-ghost use Rattle.host_core.specs.Quiet.{AreLeftIn, AreLetGo};
+ghost use Rattle.host_core.specs.Objects.{AllTell, AreGoing, AreResting, AreRouted, AreSlots, CanAllRun};
+ghost use Rattle.host_core.specs.Quiet.{AreLeftIn, AreLetGo, TellAll};
 ghost use Rattle.host_core.specs.Rows.{AreRows};
 
 use crate::objects::Objects;
@@ -49,6 +50,7 @@ pub(crate) fn close<D: Disk + Drop>(
         → AreRouted objects → AreSettledUnless D.told limit script contents named log left.new.items rows.new.items) }
     ensures left_in { OnOk result (AreLeftIn (length objects.cores.items) left.new.items) }
     ensures many { length rows.new.items ≡ length objects.cores.items }
+    ensures tells { TellAll D.told rows.new.items → AllTell D.told objects }
 {
     let mut asked = Ok(());
     for core in objects.into_cores() {
@@ -73,6 +75,7 @@ fn close_slot<D: Disk + Drop>(
     ensures quiet { IsLetGoOf D.moment_of D.left_since D.told D.image D.faults_of core result.0 }
     ensures settled { IsSettledOf D.moment_of D.left_since D.told D.image D.faults_of core result.0 }
     ensures left { OnOk result.1 (AddsLeft slot core.front.half asked left.old.items left.new.items) }
+    ensures tells { IsTold (D.told result.0.store) → TellsNow D.told core.back }
 {
     laws::one_is_history(&core);
     laws::one_is_limited(&core);

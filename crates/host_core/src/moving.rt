@@ -3,7 +3,7 @@ ghost use Rattle.std.specs.Prelude.{◌≡◌, ◌++◌, ◌∷◌, [], ℕ, Lis
 ghost use Rattle.do_tree.specs.Checked.{tree_of as script_in};
 ghost use Rattle.do_tree.specs.Tree.{Script};
 ghost use Rattle.lane.specs.Lanes.{sent_on, StartsWith};
-ghost use Rattle.object_core.specs.One.{CanRun, KeepsOne};
+ghost use Rattle.object_core.specs.One.{CanRun, KeepsOne, TellsNow};
 ghost use Rattle.storage_map.specs.Limits.{Object};
 ghost use Rattle.timeline.specs.declared.event.Event.{Event};
 ghost use Rattle.timeline.specs.declared.message.Message.{Message};
@@ -31,6 +31,7 @@ fn give<D: Disk>(
     ensures gives { Gives core.old core.new inbox.old inbox.new result }
     ensures again { CanRun D.moment_of D.left_since D.told D.image D.faults_of (script_in checked.now) core.new }
     ensures one { KeepsOne D.moment_of D.left_since D.told D.image D.faults_of (script_in checked.now) core.old core.new }
+    ensures tells { TellsNow D.told core.new.back → TellsNow D.told core.old.back }
 {
     while let Some(event) = inbox.take() {
         core.step(alloc, checked, Choice::Give(event))?;
@@ -79,6 +80,7 @@ pub(crate) fn run_slot<D: Disk, R: Wait>(
         → IsGoing D.moment_of D.left_since D.told D.image D.faults_of limit (script_in checked.now) content named posts routed core.old inbox.old out.old
         → IsSlot D.moment_of D.left_since D.told D.image D.faults_of limit (script_in checked.now) content named posts routed core.new inbox.new out.new) }
     ensures again { CanRun D.moment_of D.left_since D.told D.image D.faults_of (script_in checked.now) core.new }
+    ensures tells { TellsNow D.told core.new.back → TellsNow D.told core.old.back }
 {
     give(alloc, checked, core, inbox)?;
     act_on(rt, alloc, checked, core)?;

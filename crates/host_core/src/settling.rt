@@ -5,7 +5,7 @@ ghost use Rattle.do_tree.specs.Tree.{Script};
 ghost use Rattle.placement.specs.Slots.{Slots};
 ghost use Rattle.timeline.specs.Switch.{SwitchLog};
 ghost use Rattle.mailbox.specs.Runs.{log_of};
-ghost use Rattle.host_core.specs.Objects.{AreSlots, AreGoing, AreResting, AreRouted, CanAllRun};
+ghost use Rattle.host_core.specs.Objects.{AllTell, AreSlots, AreGoing, AreResting, AreRouted, CanAllRun};
 ghost use Rattle.host_core.specs.Running.{HasServed, IsServing, Prints};
 
 use crate::moving::run_slot;
@@ -14,6 +14,7 @@ use do_disk::{Disk, Sink};
 use do_tree::Checked;
 use do_value::{Mem, NoMemory};
 use mailbox::{Switch, SwitchFault};
+use object_core::laws;
 use std::alloc::Global;
 use std::sync::Wait;
 use timeline::Stepped;
@@ -129,6 +130,8 @@ fn route_one<D: Disk, W: Sink>(
     ensures accepted { (log_of switch.new).accepted ≡ (log_of switch.old).accepted }
     ensures prints { Prints W.taken W.faults_of switch.old switch.new result }
 {
+    laws::all_are_owed::<D>();
+    switch_history::laws::posts_are_placed();
     match switch.route(checked, &mut objects.outs, &mut objects.inboxes)? {
         Stepped::Did => Ok(true),
         Stepped::Nothing => Ok(false),
@@ -152,6 +155,7 @@ fn run_slots<D: Disk, T: Wait>(
         → AreSlots D.moment_of D.left_since D.told D.image D.faults_of limit (script_in checked.now) contents named log objects.new) }
     ensures again { CanAllRun D.moment_of D.left_since D.told D.image D.faults_of (script_in checked.now) objects.new }
     ensures many { length objects.new.cores.items ≡ length objects.old.cores.items }
+    ensures tells { AllTell D.told objects.new → AllTell D.told objects.old }
 {
     let slots = objects.cores.len();
     for slot in 0..slots {

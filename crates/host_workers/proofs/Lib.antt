@@ -5,3 +5,9 @@ mod Backing
 mod Turning
 mod Printing
 mod Switching
+mod Sent
+mod SentLines
+mod SentBack
+mod SentTree
+mod SentFront
+mod SentSwitch

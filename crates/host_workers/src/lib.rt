@@ -4,6 +4,7 @@
 
 mod back_cell;
 mod front_cell;
+pub mod laws;
 mod lines_cell;
 mod switch_cell;
 

@@ -16,7 +16,7 @@ mod Pairing
 mod Sticking
 mod Becoming
 mod Dropping
-mod Owing
+pub mod Owing
 mod Leaving
 mod Drops
 mod Limiting
@@ -38,3 +38,4 @@ mod Quiet
 pub mod Unended
 mod Serving
 mod Once
+pub mod Unmoved

@@ -13,3 +13,4 @@ pub mod Leaving
 pub mod Unended
 pub mod Drops
 pub mod Once
+pub mod Unmoved

@@ -5,6 +5,7 @@ ghost use Rattle.object_core.specs.Once.{OneServesOnce};
 ghost use Rattle.object_core.specs.Owing.{OneIsOwed, OneSticks};
 ghost use Rattle.object_core.specs.Unended.{OneTellsNoEnd};
 ghost use Rattle.object_core.specs.Laws.{HalvesAreFresh, OneIsHistory, OneHasClass, OneHasGot, OneHasIntake, OneHasLeft, OneHasLetGo, OneHasTold, OneIsLimited, OneIsQuiet, OneIsWhole};
+ghost use Rattle.object_core.specs.Unmoved.{AllAreOwed, AllSayNothing};
 
 use crate::object::Core;
 use do_disk::Disk;
@@ -148,4 +149,15 @@ pub fn one_serves_once<D: Disk>(core: &Core<D>)
 {
     laws::halves_are_whole();
     let _ = core;
+}
+
+/// Whom and what the messages that left name, of every object, and that none left where no event came.
+pub fn all_are_owed<D: Disk>()
+    ensures owed { AllAreOwed D.moment_of D.left_since D.told D.image D.faults_of }
+    ensures nothing { AllSayNothing D.moment_of D.left_since D.told D.image D.faults_of }
+{
+    names::replies_are_owed();
+    names::passed_is_taken();
+    names::unmoved_says_nothing();
+    laws::halves_are_said();
 }

@@ -4,6 +4,7 @@ ghost use Rattle.do_tree.specs.Checked.{tree_of as script_in};
 ghost use Rattle.do_tree.specs.Tree.{Script};
 ghost use Rattle.storage_map.specs.declared.op.Op.{Op};
 ghost use Rattle.output_gate.specs.Serving.{IsBack};
+ghost use Rattle.output_gate.specs.Storing.{KeepsTelling};
 ghost use Rattle.object_core.specs.Collecting.{Collects};
 ghost use Rattle.object_core.specs.One.{AreFresh, IsOne, IsOneOf, CanRun, KeepsOne, Origin, mounted_at, unused};
 ghost use Rattle.object_core.specs.Running.{Runs};
@@ -103,6 +104,7 @@ impl<D: Disk> Core<D> {
         ensures steps { Steps D.moment_of D.faults_of (script_in checked.now) self.old self.new choice result }
         ensures again { CanRun D.moment_of D.left_since D.told D.image D.faults_of (script_in checked.now) self.new }
         ensures one { KeepsOne D.moment_of D.left_since D.told D.image D.faults_of (script_in checked.now) self.old self.new }
+        ensures tells { KeepsTelling D.told self.old.back.store self.new.back.store }
     {
         match choice {
             Choice::Give(event) => self.give(event),

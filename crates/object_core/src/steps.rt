@@ -2,6 +2,7 @@
 ghost use Rattle.std.specs.Prelude.{◌≡◌, ◌++◌, [], ◌∷◌, OnOk, OnErr};
 ghost use Rattle.do_tree.specs.Checked.{tree_of as script_in};
 ghost use Rattle.do_tree.specs.Tree.{Script};
+ghost use Rattle.output_gate.specs.Storing.{KeepsTelling};
 ghost use Rattle.object_core.specs.One.{CanRun, KeepsOne};
 ghost use Rattle.object_core.specs.Stepping.{Steps, answer_of, given_of, turn_of};
 
@@ -22,6 +23,7 @@ impl<D: Disk> Core<D> {
     pub(crate) fn give(&mut self, event: Event) -> Mem<bool>
         ensures steps { (script : Script) → Steps D.moment_of D.faults_of script self.old self.new (Choice.Give event) result }
         ensures one { (script : Script) → KeepsOne D.moment_of D.left_since D.told D.image D.faults_of script self.old self.new }
+        ensures tells { KeepsTelling D.told self.old.back.store self.new.back.store }
     {
         let sent = put(&mut self.inbox, event);
         given_so(sent)
@@ -31,6 +33,7 @@ impl<D: Disk> Core<D> {
         requires { CanRun D.moment_of D.left_since D.told D.image D.faults_of (script_in checked.now) self.old }
         ensures steps { Steps D.moment_of D.faults_of (script_in checked.now) self.old self.new Choice.Turn result }
         ensures one { KeepsOne D.moment_of D.left_since D.told D.image D.faults_of (script_in checked.now) self.old self.new }
+        ensures tells { KeepsTelling D.told self.old.back.store self.new.back.store }
     {
         laws::turn_steps();
         front_laws::events_come();
@@ -51,6 +54,7 @@ impl<D: Disk> Core<D> {
         requires { (script : Script) × CanRun D.moment_of D.left_since D.told D.image D.faults_of script self.old }
         ensures steps { (script : Script) → Steps D.moment_of D.faults_of script self.old self.new Choice.Take result }
         ensures one { (script : Script) → KeepsOne D.moment_of D.left_since D.told D.image D.faults_of script self.old self.new }
+        ensures tells { KeepsTelling D.told self.old.back.store self.new.back.store }
     {
         laws::back_steps();
         let stepped = self.back.take(&mut self.line, &mut self.notices);
@@ -61,6 +65,7 @@ impl<D: Disk> Core<D> {
         requires { (script : Script) × CanRun D.moment_of D.left_since D.told D.image D.faults_of script self.old }
         ensures steps { (script : Script) → Steps D.moment_of D.faults_of script self.old self.new Choice.Flush result }
         ensures one { (script : Script) → KeepsOne D.moment_of D.left_since D.told D.image D.faults_of script self.old self.new }
+        ensures tells { KeepsTelling D.told self.old.back.store self.new.back.store }
     {
         laws::back_steps();
         let stepped = self.back.flush();
@@ -71,6 +76,7 @@ impl<D: Disk> Core<D> {
         requires { (script : Script) × CanRun D.moment_of D.left_since D.told D.image D.faults_of script self.old }
         ensures steps { (script : Script) → Steps D.moment_of D.faults_of script self.old self.new Choice.Release result }
         ensures one { (script : Script) → KeepsOne D.moment_of D.left_since D.told D.image D.faults_of script self.old self.new }
+        ensures tells { KeepsTelling D.told self.old.back.store self.new.back.store }
     {
         laws::back_steps();
         let stepped = self.back.release(&mut self.notices, &mut self.out);
@@ -81,6 +87,7 @@ impl<D: Disk> Core<D> {
         requires { (script : Script) × CanRun D.moment_of D.left_since D.told D.image D.faults_of script self.old }
         ensures steps { (script : Script) → Steps D.moment_of D.faults_of script self.old self.new Choice.Mend result }
         ensures one { (script : Script) → KeepsOne D.moment_of D.left_since D.told D.image D.faults_of script self.old self.new }
+        ensures tells { KeepsTelling D.told self.old.back.store self.new.back.store }
     {
         laws::back_steps();
         let stepped = self.back.mend(alloc, &mut self.notices);

@@ -15,3 +15,4 @@ pub mod FrontsSound
 pub mod Whose
 pub mod FrontsWhose
 pub mod PassedNaming
+pub mod Unmoved

@@ -3,3 +3,4 @@ pub mod Laws
 pub mod Dropped
 pub mod Exact
 pub mod Ends
+pub mod Unmoved

@@ -3,6 +3,7 @@ ghost use Rattle.object_messages.specs.Dropped.{DropsAreAnswered};
 ghost use Rattle.object_messages.specs.Ends.{EndsAreNeeded, UnendedPassAsTaken};
 ghost use Rattle.object_messages.specs.Exact.{LeftIsEach, PassedIsAll, PassedNamesTaken, RepliesAreExact, RepliesNameCallers};
 ghost use Rattle.object_messages.specs.Laws.{EarlyIsUnasked, NumbersAreGiven, NumbersAscend, PassedIsTaken, RepliesAreOwed};
+ghost use Rattle.object_messages.specs.Unmoved.{UnmovedSaysNothing};
 
 /// Each call and fetch that was sent has a number that was given.
 pub fn numbers_are_given()
@@ -67,4 +68,9 @@ pub fn replies_name_callers()
 /// What passes replies to whom what was taken does.
 pub fn passed_names_taken()
     ensures { PassedNamesTaken }
+{}
+
+/// Who was given nothing says nothing to others.
+pub fn unmoved_says_nothing()
+    ensures { UnmovedSaysNothing }
 {}

@@ -16,3 +16,4 @@ mod Inside
 mod Once
 mod Asks
 mod AsksOnce
+mod Placed

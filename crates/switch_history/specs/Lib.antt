@@ -5,3 +5,4 @@ pub mod Asks
 pub mod Laws
 pub mod Ends
 pub mod Moments
+pub mod Placed

@@ -4,6 +4,7 @@ ghost use Rattle.switch_history.specs.Asks.{AsksAreAnsweredOnce};
 ghost use Rattle.switch_history.specs.Ends.{EndsAreRouted};
 ghost use Rattle.switch_history.specs.Laws.{AnswersAreAsked, CallsComeInOrder, FetchesAreNumbered, PostsFit, RequestsAreAnswered};
 ghost use Rattle.switch_history.specs.Moments.{MomentsAreInRange};
+ghost use Rattle.switch_history.specs.Placed.{PostsArePlaced};
 
 /// An answer is posted to the object that asked for it alone.
 pub fn answers_are_asked()
@@ -48,4 +49,9 @@ pub fn calls_are_answered_once()
 /// Each call and fetch of an object that was routed got exactly one answer, or is left, or is a fetch that is open.
 pub fn asks_are_answered_once()
     ensures { AsksAreAnsweredOnce }
+{}
+
+/// Each event is posted to a slot that has an object, and each call of an object comes from one that has one.
+pub fn posts_are_placed()
+    ensures { PostsArePlaced }
 {}

@@ -16,3 +16,7 @@ pub returns-clause-one : goal.returns-clause-one
 returns-clause-one g c origin one =
     c.act_next.ensures.one origin (c.act_next-released.ensures.one origin (c.act_next-flushed.ensures.one origin
     (c.act_next-taken.ensures.one origin (c.act_next-turned.ensures.one origin one))))
+
+pub returns-clause-tells : goal.returns-clause-tells
+returns-clause-tells g c tells =
+    c.act_next-turned.ensures.tells (c.act_next-taken.ensures.tells (c.act_next-flushed.ensures.tells (c.act_next-released.ensures.tells (c.act_next.ensures.tells tells))))

@@ -2,7 +2,7 @@ use Rattle.std.proofs.Common.{◌≡◌, ◌∙◌, List, [], ◌∷◌, ◌++�
 use Rattle.std.proofs.lemmas.List.{length-append, nil_from_length}
 use Rattle.object_core.specs.declared.object.Core.{Core}
 use Rattle.host_core.proofs.Remaining.{AreLeftBy, left_then, none_left}
-use Rattle.host_core.proofs.Rows.{AreRowsOf, all_let_go, all_rows, all_settled, next_can, no_rows, rows_more}
+use Rattle.host_core.proofs.Rows.{AreRowsOf, all_let_go, all_rows, all_settled, all_tell, next_can, no_rows, rows_more}
 use Rattle.host_core.proofs.Servings.{on_ok_then}
 use Rattle.host_core.specs.Quiet.{AreLeftIn}
 use Rattle.host_core.proofs.closing.close.Goals as goal
@@ -39,7 +39,7 @@ loop-core-preserved g c =
           ∙ sym (append_assoc c.loop-core.yielded (c.in-Some.core ∷ []) c.next.new.self.rest.items);
       rows = rows_more g.D.Disk.moment_of g.D.Disk.left_since g.D.Disk.told g.D.Disk.image g.D.Disk.faults_of c.loop-core.yielded c.loop-core.rows.items c.push_row.new.rows.items
           c.in-Some.core c.close_slot-row.result.0 i.many c.push_row.ensures.rows
-          (record { row_of = c.close_slot-row.ensures.row; let_go = c.close_slot-row.ensures.quiet; settled = c.close_slot-row.ensures.settled }) i.rows;
+          (record { row_of = c.close_slot-row.ensures.row; let_go = c.close_slot-row.ensures.quiet; settled = c.close_slot-row.ensures.settled; tells = c.close_slot-row.ensures.tells }) i.rows;
       left = left_then c.loop-core.yielded c.in-Some.core c.loop-core.left.items c.close_slot-row.new.left.items c.len-slot.result c.loop-core.asked
           c.close_slot-row.result.1 (omega (arith, c.len-slot.ensures, c.loop-core.rows.ok, i.many)) i.left
           c.close_slot-row.ensures.left;
@@ -94,3 +94,14 @@ returns-clause-many g c =
     let rest = c.loop-core.core-iterator.rest in
     let none : rest.items ≡ [] = nil_from_length rest.items (sym rest.ok.0 ∙ c.in-None.ensures.steps.0) in
     i.many ∙ ap length (sym (i.all ∙ ap (λ (xs : List (Core g.row.D.Denot)). c.loop-core.yielded ++ xs) none ∙ append-nil c.loop-core.yielded))
+
+pub returns-clause-tells : goal.returns-clause-tells
+returns-clause-tells g c =
+    let i = c.loop-core.invariant in
+    let rest = c.loop-core.core-iterator.rest in
+    let none : rest.items ≡ [] = nil_from_length rest.items (sym rest.ok.0 ∙ c.in-None.ensures.steps.0) in
+    let all : c.args.objects.cores.items ≡ c.loop-core.yielded =
+    i.all ∙ ap (λ (xs : List (Core g.row.D.Denot)). c.loop-core.yielded ++ xs) none ∙ append-nil c.loop-core.yielded in
+    all_tell g.D.Disk.moment_of g.D.Disk.left_since g.D.Disk.told g.D.Disk.image g.D.Disk.faults_of c.args.objects c.loop-core.rows.items
+    (subst (λ (cores : List (Core g.row.D.Denot)). AreRowsOf g.D.Disk.moment_of g.D.Disk.left_since g.D.Disk.told g.D.Disk.image g.D.Disk.faults_of cores c.loop-core.rows.items) (sym all) i.rows)
+    (i.many ∙ ap length (sym all))

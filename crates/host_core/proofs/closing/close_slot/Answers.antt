@@ -55,3 +55,10 @@ returns-clause-settled g c =
 pub returns-clause-left : goal.returns-clause-left
 returns-clause-left g c =
     subst (λ (front : Front). OnOk c.ask-asked.result (AddsLeft c.args.slot front.half c.args.asked c.args.left.now.items c.ask-asked.new.left.items)) c.split-front.ensures.0 c.ask-asked.ensures
+
+pub returns-clause-tells : goal.returns-clause-tells
+returns-clause-tells g c is = (
+  c.row_of.result.store,
+  subst (λ (back : Back g.row.D.Denot). IsDiskOf back.store c.row_of.result.store) c.split-front.ensures.1 c.row_of.ensures.store,
+  is,
+)

@@ -64,6 +64,7 @@ returns-clause-report g c = λ limit contents one_each going.
     (c.close-closed.ensures.many ∙ c.serve_lines-served.ensures.many ∙ sym c.requires.many)
     (subst (λ (n : ℕ). AreLeftIn n c.close-closed.new.left.items) (sym c.close-closed.ensures.many)
     (either_way c.close-closed.result _ ⊥ _ c.close-closed.ensures.left_in (c.finish-end.ensures.closed sure is) (λ left_in. left_in) (λ never. absurd never)))
+    (λ tell. serves.fit (c.close-closed.ensures.tells tell))
     (are_settled g.D.Disk.moment_of g.D.Disk.left_since g.D.Disk.told g.D.Disk.faults_of limit (tree_of c.args.checked.now) contents c.args.directory
     (log_of c.serve_lines-served.new.switch) (state_of c.serve_lines-served.new.switch) c.close-closed.new.rows.items c.close-closed.new.left.items
     c.answers_are_asked.ensures serves.run

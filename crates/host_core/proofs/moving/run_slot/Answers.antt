@@ -1,5 +1,6 @@
 use Rattle.do_tree.specs.Checked.{tree_of}
 use Rattle.host_core.proofs.Goings.{on_ok, on_ok_by, on_err_by, going_stands, gives_goes, gives_stands, acts_goes, hands_goes, hands_stands, hands_rests}
+use Rattle.host_core.proofs.Tells.{told_handed}
 use Rattle.host_core.proofs.moving.run_slot.Goals as goal
 
 pub returns-in_err-give-clause-stands : goal.returns-in_err-give-clause-stands
@@ -53,3 +54,11 @@ pub returns-clause-again : goal.returns-clause-again
 returns-clause-again g c =
     let can = c.act_on.ensures.again in
     (can.0, c.hand_on.ensures.one (tree_of c.args.checked.now) can.0 can.1)
+
+pub returns-in_err-act_on-clause-tells : goal.returns-in_err-act_on-clause-tells
+returns-in_err-act_on-clause-tells g c tells = c.give.ensures.tells (c.act_on.ensures.tells tells)
+
+pub returns-clause-tells : goal.returns-clause-tells
+returns-clause-tells g c tells =
+    c.give.ensures.tells (c.act_on.ensures.tells
+    (told_handed g.D.Disk.told c.act_on.new.core c.hand_on.new.core c.args.out.now c.hand_on.new.out c.hand_on.result c.hand_on.ensures.hands tells))

@@ -6,7 +6,7 @@ use Rattle.line_server.specs.Requests.{SeenLine}
 use Rattle.line_server.specs.declared.line.Line as read
 use Rattle.mailbox.specs.Runs.{log_of}
 use Rattle.timeline.specs.Lines.{Line}
-use Rattle.host_core.proofs.Ending.{serves_served, prints_fault, prints_good, line_waits, never}
+use Rattle.host_core.proofs.Ending.{serves_served, prints_fault, prints_good, line_waits, never, read_fault_of}
 use Rattle.host_core.proofs.Once.{next_in_order, next_up_to, none_in_order, none_up_to}
 use Rattle.host_core.proofs.Printings.{prints_then}
 use Rattle.host_core.proofs.Reading.{accepts_at_stop, accepts_from, accepts_none, reading_from, reading_on}
@@ -103,3 +103,8 @@ returns-clause-all g c = λ whole reading. record {
   all = c.in_ok-line.ensures.all (ap Ok c.in_default.is) whole _ (c.loop-line.invariant.reading whole reading);
   counted = c.in_ok-line.ensures.total (ap Ok c.in_default.is) whole _ (c.loop-line.invariant.reading whole reading);
 }
+
+pub returns-in_err-line-clause-read_all : goal.returns-in_err-line-clause-read_all
+returns-in_err-line-clause-read_all g c = λ failed whole reading.
+    let p = err_from_is_err_and c.from_residual-in_err-line.result c.from_residual-in_err-line.ensures.1 in
+    c.in_err-line.ensures.exact (read_fault_of (Option read.Line) c.in_err-line.field-0.0 p.0 c.from_residual-in_err-line.result p.1 p.2 failed) whole _ (c.loop-line.invariant.reading whole reading)

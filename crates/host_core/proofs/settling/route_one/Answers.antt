@@ -51,6 +51,7 @@ returns-in-Did-clause-serving g c limit contents named serving =
     let lanes = outs_on old new c.deref_mut-2.result.now c.route.new.inboxes c.deref_mut.result.now c.route.new.outs c.deref_mut-2.ensures.value are c.deref_mut.ensures.value outs_are
     c.route.ensures.lanes in
     serving_routed g.D.Disk.moment_of g.D.Disk.left_since g.D.Disk.told g.D.Disk.image g.D.Disk.faults_of limit (tree_of c.args.checked.now) contents named c.args.switch.now c.route.new.self old new g.W.Sink.taken g.W.Sink.faults_of c.route.result refl acts lanes
+    c.posts_are_placed.ensures c.all_are_owed.ensures.owed c.all_are_owed.ensures.nothing
     (taken_on old new c.deref_mut-2.result.now c.route.new.inboxes c.deref_mut.result.now c.route.new.outs c.deref_mut-2.ensures.value are c.deref_mut.ensures.value outs_are (Routes (tree_of c.args.checked.now) c.args.switch.now c.route.new.self) (c.route.ensures.routed (c.in_ok-route.was ∙ ap (λ (s : Stepped). answered s) c.in-Did.is)))
     c.in_ok-route.ensures.run (c.route.ensures.fault ∙ ap fault_in c.in_ok-route.was) serving
 

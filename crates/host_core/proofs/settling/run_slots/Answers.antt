@@ -8,6 +8,7 @@ use Rattle.object_core.specs.One.{CanRun}
 use Rattle.host_core.specs.Slots.{IsGoing, IsSlot, IsResting}
 use Rattle.host_core.proofs.Goings.{going_stands, on_err_by}
 use Rattle.host_core.proofs.Placings.{slots_put, slots_by}
+use Rattle.host_core.proofs.Tells.{told_put}
 use Rattle.host_core.proofs.settling.run_slots.Goals as goal
 
 pub returns-in_err-run_slot-clause-stands : goal.returns-in_err-run_slot-clause-stands
@@ -33,6 +34,13 @@ returns-in_err-run_slot-clause-again g c =
     slots_put (λ slot core inbox out. CanRun g.D.Disk.moment_of g.D.Disk.left_since g.D.Disk.told g.D.Disk.image g.D.Disk.faults_of (tree_of c.args.checked.now) core) (λ slot core inbox out. CanRun g.D.Disk.moment_of g.D.Disk.left_since g.D.Disk.told g.D.Disk.image g.D.Disk.faults_of (tree_of c.args.checked.now) core)
     c.loop-slot.objects _ c.loop-slot.slot c.run_slot.new.core c.run_slot.new.inbox c.run_slot.new.out refl refl refl (λ k core inbox out other can. can) c.run_slot.ensures.again c.loop-slot.invariant.can
 
+pub returns-in_err-run_slot-clause-tells : goal.returns-in_err-run_slot-clause-tells
+returns-in_err-run_slot-clause-tells g c all =
+    let i = c.loop-slot.invariant in
+    let within_core : c.loop-slot.slot < length c.loop-slot.objects.cores.items = omega (arith, i.many, c.loop-slot-test.true) in
+    let is_core = slice_get_read c.loop-slot.objects.cores.items _ c.loop-slot.slot c.index_mut.result.now refl within_core c.index_mut.ensures.value in
+    i.tells (told_put g.D.Disk.told c.loop-slot.objects.cores.items c.loop-slot.slot c.index_mut.result.now c.run_slot.new.core is_core c.run_slot.ensures.tells all)
+
 pub loop-slot-preserved : goal.loop-slot-preserved
 loop-slot-preserved g c =
     let i = c.loop-slot.invariant in
@@ -51,6 +59,7 @@ loop-slot-preserved g c =
           (λ slot core inbox out. IsGoing g.D.Disk.moment_of g.D.Disk.left_since g.D.Disk.told g.D.Disk.image g.D.Disk.faults_of limit (tree_of c.args.checked.now) (contents slot) (object_at named slot) (of_slot slot log.posts) (of_slot slot log.routed) core inbox out)
           c.loop-slot.objects _ c.loop-slot.slot c.run_slot.new.core c.run_slot.new.inbox c.run_slot.new.out refl refl refl (λ k core inbox out other going. going)
           (c.in_ok-run_slot.ensures.going limit (contents c.loop-slot.slot) (object_at named c.loop-slot.slot) (of_slot c.loop-slot.slot log.posts) (of_slot c.loop-slot.slot log.routed) (all.each c.loop-slot.slot c.index_mut.result.now c.index_mut-in-loop-slot.result.now c.index_mut-in-loop-slot-2.result.now is_core is_inbox is_out)) all;
+      tells = λ all. i.tells (told_put g.D.Disk.told c.loop-slot.objects.cores.items c.loop-slot.slot c.index_mut.result.now c.run_slot.new.core is_core c.run_slot.ensures.tells all);
       rest = slots_put (λ slot core inbox out. slot < c.loop-slot.slot → IsResting (tree_of c.args.checked.now) core inbox) (λ slot core inbox out. slot < c.loop-slot.slot + 1 → IsResting (tree_of c.args.checked.now) core inbox)
           c.loop-slot.objects _ c.loop-slot.slot c.run_slot.new.core c.run_slot.new.inbox c.run_slot.new.out refl refl refl (λ k core inbox out other rests less. rests (omega (arith, other, less))) (λ less. c.in_ok-run_slot.ensures.resting) i.rest;
       many = length-set c.loop-slot.objects.cores.items c.loop-slot.slot c.run_slot.new.core ∙ i.many;

@@ -1,6 +1,7 @@
-use Rattle.std.proofs.Common.{sym, subst}
+use Rattle.std.proofs.Common.{refl, sym, subst}
 use Rattle.std.specs.Prelude.{Bool, Result}
 use Rattle.do_value.specs.declared.fault.NoMemory.{NoMemory}
+use Rattle.output_gate.proofs.Stored.{still_disk, still_tells}
 use Rattle.object_core.proofs.Collects.{give_keeps}
 use Rattle.object_core.proofs.Turns.{give_by}
 use Rattle.object_core.specs.Stepping.{Steps}
@@ -17,3 +18,6 @@ pub returns-clause-one : goal.returns-clause-one
 returns-clause-one g c script origin one =
     give_keeps g.D.Disk.moment_of g.D.Disk.left_since g.D.Disk.told g.D.Disk.image g.D.Disk.faults_of script origin c.args.self.now.front.half c.args.self.now.inbox c.put-sent.new.inbox
     c.args.self.now.back c.args.self.now.line c.args.self.now.notices c.args.self.now.out c.put-sent.ensures.got one
+
+pub returns-clause-tells : goal.returns-clause-tells
+returns-clause-tells g c = let same = c.args.self.now.back.store in still_tells g.D.Disk.told same same (still_disk same same refl)

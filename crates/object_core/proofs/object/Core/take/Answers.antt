@@ -1,6 +1,7 @@
 use Rattle.std.proofs.Common.{sym, subst}
 use Rattle.std.specs.Prelude.{Bool, Result}
 use Rattle.do_value.specs.declared.fault.NoMemory.{NoMemory}
+use Rattle.output_gate.proofs.Stored.{still_tells}
 use Rattle.object_core.proofs.Choosing.{take_steps}
 use Rattle.object_core.proofs.Taking.{TakesBy, take_keeps}
 use Rattle.object_core.specs.Stepping.{Steps}
@@ -25,3 +26,6 @@ returns-clause-one g c script origin one =
     take_keeps g.D.Disk.moment_of g.D.Disk.left_since g.D.Disk.told g.D.Disk.image g.D.Disk.faults_of c.back_steps.ensures script origin c.args.self.now.front.half c.args.self.now.inbox c.args.self.now.back c.take-stepped.new.self
     c.args.self.now.line c.take-stepped.new.line c.args.self.now.notices c.take-stepped.new.notices c.args.self.now.out one c.take-stepped.result
     (record { stopped = e.stopped; barred = e.barred; nothing = e.nothing; empty = e.empty; took = e.took; lost = e.lost; stops = e.stops; inlet = e.inlet.1; outlet = e.outlet.1; disk = e.disk; back = e.back })
+
+pub returns-clause-tells : goal.returns-clause-tells
+returns-clause-tells g c = still_tells g.D.Disk.told c.args.self.now.back.store c.take-stepped.new.self.store c.take-stepped.ensures.disk

@@ -1,7 +1,8 @@
-use Rattle.std.proofs.Common.{sym, subst}
+use Rattle.std.proofs.Common.{refl, sym, subst}
 use Rattle.std.specs.Prelude.{Bool, Result}
 use Rattle.do_tree.specs.Checked.{tree_of}
 use Rattle.do_value.specs.declared.fault.NoMemory.{NoMemory}
+use Rattle.output_gate.proofs.Stored.{still_disk, still_tells}
 use Rattle.object_core.proofs.Turning.{TurnsBy, turn_keeps, can_turn}
 use Rattle.object_core.proofs.Turns.{turn_steps}
 use Rattle.object_core.specs.Stepping.{Steps}
@@ -30,3 +31,6 @@ returns-clause-one g c origin one =
     turn_keeps g.D.Disk.moment_of g.D.Disk.left_since g.D.Disk.told g.D.Disk.image g.D.Disk.faults_of c.turn_steps.ensures c.events_come.ensures c.class_comes.ensures c.early_is_unasked.ensures c.drops_are_answered.ensures (tree_of c.args.checked.now) origin c.args.self.now.front.half c.turn-turned.new.self.half c.args.self.now.back
     c.args.self.now.inbox c.turn-turned.new.inbox c.args.self.now.line c.turn-turned.new.line c.args.self.now.notices c.turn-turned.new.notices c.args.self.now.out one c.turn-turned.result
     (record { stopped = e.stopped; stuck = e.stuck; still = e.still; idle = e.idle; ran = e.ran; lost = e.lost; too = e.too; events = e.inbox.1; told = e.notices.1; said = e.line.1 })
+
+pub returns-clause-tells : goal.returns-clause-tells
+returns-clause-tells g c = let same = c.args.self.now.back.store in still_tells g.D.Disk.told same same (still_disk same same refl)
