@@ -5,7 +5,6 @@ use Rattle.do_tree.specs.Tree.{Script}
 use Rattle.lane.specs.Lanes.{Both}
 use Rattle.line_server.specs.declared.line.Line.{Line}
 use Rattle.placement.specs.Slots.{Slots}
-use Rattle.timeline.specs.Switch.{SwitchLog}
 use Rattle.timeline.specs.declared.message.Message.{Message}
 use Rattle.mailbox.specs.Runs.{Accepts, BeginsLine, KeepsRun, fault_of, log_of}
 use Rattle.mailbox.specs.declared.fault.SwitchFault.{SwitchFault}

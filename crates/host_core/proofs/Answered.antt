@@ -1,19 +1,18 @@
 -- An answer that was posted to a slot was asked for by its object, so that no front stands still at one.
-use Rattle.std.proofs.Common.{◌≡◌, ◌≤◌, ◌<◌, ◌∙◌, ap, sym, subst, refl, arith, ⊎_elim, eq-eqb, ℕ, List, [], ◌∷◌, ◌++◌, length, cond, append_assoc, Option, Some}
-use Rattle.std.specs.Prelude.{Bool, true, false, ◌||◌, ◌&&◌, ◌==◌, IsPermutation, slice_get}
-use Rattle.std.specs.List.{All, Contains, filter, flat_map, list_any}
+use Rattle.std.proofs.Common.{◌≡◌, ◌∙◌, ap, sym, subst, arith, ⊎_elim, ℕ, List, [], ◌++◌, length, append_assoc, Option, Some}
+use Rattle.std.specs.Prelude.{Bool, true, slice_get}
+use Rattle.std.specs.List.{Contains, list_any}
 use Rattle.std.proofs.lemmas.Bool.{cases_lt}
 use Rattle.std.proofs.lemmas.Grind.{flat_map-append}
-use Rattle.std.proofs.lemmas.List.Elements.{All-cons, All-contains, All-nil, All-weaker, Contains-append_left}
-use Rattle.std.proofs.lemmas.List.Folds.{list_any-append}
+use Rattle.std.proofs.lemmas.List.Elements.{All-contains, All-nil, Contains-append_left}
 use Rattle.std.proofs.lemmas.List.Sorted.{list_any-IsPermutation}
 use Rattle.do_tree.specs.Tree.{Script}
 use Rattle.mailbox.specs.Posting.{of_slot}
 use Rattle.object_core.specs.One.{IsGivenUnasked, messages}
 use Rattle.object_core.specs.Owing.{IsOwed}
 use Rattle.object_front.specs.Came.{events}
-use Rattle.object_messages.specs.Naming.{asked_by, asked_in, called_in, replied_by, replied_in, times}
-use Rattle.placement.specs.Slots.{Slots}
+use Rattle.object_messages.specs.Naming.{asked_by, asked_in, called_in, replied_by, replied_in}
+use Rattle.placement.specs.Slots.{Slots, object_at}
 use Rattle.switch_history.specs.Laws.{AnswersAreAsked, AreRepliesOwed}
 use Rattle.timeline.specs.Headline.{IsPrefix}
 use Rattle.timeline.specs.Logs.{fronted}
@@ -21,7 +20,6 @@ use Rattle.timeline.specs.Replies.{caller_of, same_caller}
 use Rattle.timeline.specs.Switch as timeline
 use Rattle.timeline.specs.Switch.{IsSwitchRun, SwitchLog, opened}
 use Rattle.timeline.specs.declared.caller.Caller.{Caller}
-use Rattle.timeline.specs.declared.caller.Caller.TheVariants as from
 use Rattle.timeline.specs.declared.event.Event.{Event}
 use Rattle.timeline.specs.declared.message.Message.{Message}
 use Rattle.timeline.specs.declared.notice.Waits.{Waits}
@@ -30,7 +28,7 @@ use Rattle.host_core.proofs.Remaining.{of_behind}
 use Rattle.host_core.proofs.Rows.{item_at}
 use Rattle.host_core.specs.Closing.{AreSettledUnless}
 use Rattle.host_core.specs.Objects.{AreThere}
-use Rattle.host_core.specs.Quiet.{AreSettled, TellAll}
+use Rattle.host_core.specs.Quiet.{AreSettled, IsOfNoClass, RowsTell}
 use Rattle.host_core.specs.Rows.{AreRows, AreServed}
 use Rattle.host_core.specs.declared.report.SlotReport.{SlotReport}
 
@@ -76,7 +74,7 @@ module _ {S : Type 0} (posts : List Event) (row : SlotReport S) (served : AreSer
 module _ {S : Type 0} (moment_of : S → ℕ) (left_since : S → ℕ → List ℕ → Type 0) (told : S → Option (List ℕ)) (faults_of : S → ℕ) (limit : ℕ) (script : Script)
     (contents : ℕ → Option (List ℕ)) (named : Slots) (log : SwitchLog) (after : timeline.Switch) (rows : List (SlotReport S)) (left : List (ℕ × Caller × Waits))
     (law : AnswersAreAsked) (run : IsSwitchRun script (opened named) log after)
-    (are : AreRows moment_of left_since told faults_of limit script contents named log rows) (there : AreThere (length rows) log) (tell : TellAll told rows) where
+    (are : AreRows moment_of left_since told faults_of limit script contents named log rows) (there : AreThere (length rows) log) (tell : RowsTell told rows) where
   -- whom the row's object replied to called it
   row_replies : (slot : ℕ) (row : SlotReport S) → slice_get rows slot ≡ Some row → (caller : Caller) → Contains (replied_in (of_slot slot log.routed)) caller
       → list_any (same_caller caller) (called_in (of_slot slot log.posts)) ≡ true
@@ -112,13 +110,17 @@ module _ {S : Type 0} (moment_of : S → ℕ) (left_since : S → ℕ → List �
       (asked_more (of_slot slot log.routed) (messages row.back.released.items) tells.routes given.asked
       (law script named log after run replies_owed slot given.asked given.given)))
 
--- so that each row is settled
+-- so that each row is settled, whatever its object's class
 pub are_settled : {S : Type 0} (moment_of : S → ℕ) (left_since : S → ℕ → List ℕ → Type 0) (told : S → Option (List ℕ)) (faults_of : S → ℕ) (limit : ℕ) (script : Script)
     (contents : ℕ → Option (List ℕ)) (named : Slots) (log : SwitchLog) (after : timeline.Switch) (rows : List (SlotReport S)) (left : List (ℕ × Caller × Waits))
     → AnswersAreAsked → IsSwitchRun script (opened named) log after → AreRows moment_of left_since told faults_of limit script contents named log rows
-    → AreThere (length rows) log → AreSettledUnless told limit script contents named log left rows → AreSettled told limit script contents named log left rows
-are_settled moment_of left_since told faults_of limit script contents named log after rows left law run are there unless tell classes slot row is =
-    ⊎_elim
-    (λ given. absurd (all_asked moment_of left_since told faults_of limit script contents named log after rows left law run are there tell slot row is given))
-    (λ settled. settled)
-    (unless slot row is (tell slot row is) (classes slot))
+    → AreThere (length rows) log → (RowsTell told rows → (slot : ℕ) → IsOfNoClass script (object_at named slot) → of_slot slot log.posts ≡ [])
+    → AreSettledUnless told limit script contents named log left rows → AreSettled told limit script contents named log left rows
+are_settled moment_of left_since told faults_of limit script contents named log after rows left law run are there unposted unless tell slot row is = record {
+  known = λ has.
+      ⊎_elim
+      (λ given. absurd (all_asked moment_of left_since told faults_of limit script contents named log after rows left law run are there tell slot row is given))
+      (λ settled. settled)
+      ((unless slot row is).known (tell slot row is) has);
+  unknown = λ unknown. (unless slot row is).unknown (tell slot row is) unknown (unposted tell slot unknown);
+}

@@ -1,10 +1,9 @@
 -- A line that tells of an end is that of a message which left a slot, in which an incarnation has stopped for a cause.
-use Rattle.std.proofs.Common.{◌≡◌, ◌∙◌, sym, refl, ap, subst, ◌⊎◌, inl, inr, ⊎_elim, true≢false, ℕ, ℤ, suc, ◌<◌, ◌≤◌, ◌^◌, ◌-◌, List, [], ◌∷◌, ◌++◌, map, length, arith, Option, Some, None, true, false}
+use Rattle.std.proofs.Common.{◌≡◌, ◌∙◌, sym, refl, subst, ⊎_elim, true≢false, ℕ, ℤ, ◌<◌, ◌≤◌, ◌^◌, ◌-◌, List, [], ◌∷◌, ◌++◌, map, length, arith, Option, Some, true, false}
 use Rattle.std.proofs.lemmas.Bool.Decides.{nat_tests}
 use Rattle.std.proofs.lemmas.List.Elements.{All-nil, All-cons, All-head, All-tail, All-append, All-contains, All-map, All-weaker, Contains-append_left, Contains-append_right, Contains-push}
 use Rattle.std.specs.List.{All, Contains, flat_map}
 use Rattle.std.specs.Prelude.{Bool, ◌==◌, if◌then◌else◌, nat_le, slice_get}
-use Rattle.batch_journal.specs.Moments.{IsTold}
 use Rattle.do_tree.specs.Tree.{Script}
 use Rattle.mailbox.specs.Posting.{GoesOn, of_slot}
 use Rattle.object_core.specs.One.{messages}
@@ -17,7 +16,7 @@ use Rattle.timeline.specs.Headline.{missed_of}
 use Rattle.timeline.specs.Finish.{finishes, in_order, left_line, ordered, wait_line}
 use Rattle.timeline.specs.Lines.{OutLine, WaitLine}
 use Rattle.timeline.specs.Lines as line
-use Rattle.timeline.specs.Logs.{Backed, backed}
+use Rattle.timeline.specs.Logs.{backed}
 use Rattle.timeline.specs.Switch as timeline
 use Rattle.timeline.specs.Switch.{SwitchLog, accepts, opened, routes}
 use Rattle.timeline.specs.declared.back_log.Missed.{Missed}

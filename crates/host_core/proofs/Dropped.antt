@@ -24,15 +24,11 @@ use Rattle.switch_history.specs.Moments.{AreTicksInRange, IsInRange, IsTickInRan
 use Rattle.switch_history.specs.Posted.{AreFitFrom, class_then}
 use Rattle.timeline.specs.Eligible.{has_method, is_fit, is_moment}
 use Rattle.timeline.specs.Lines.{Identity}
-use Rattle.timeline.specs.Steps.{moment_of}
 use Rattle.timeline.specs.Switch as timeline
 use Rattle.timeline.specs.Switch.{IsSwitchRun, SwitchLog, accepts, is_known, opened, routes, accepted as after_line, routed as after_message}
 use Rattle.timeline.specs.declared.event.Event.{Event}
 use Rattle.timeline.specs.declared.event.Event.TheVariants as event
-use Rattle.host_core.specs.Dropped.{AreDropsOnly}
-use Rattle.host_core.specs.Rows.{AreRows}
 use Rattle.mailbox.specs.SoFar.{IsRunSoFar, whole, in_line, in_message, at_end}
-use Rattle.host_core.specs.declared.report.SlotReport.{SlotReport}
 
 -- An event that fits at a moment in range is one that a front takes.
 then_same : (script : Script) (class : Option ℕ) (e : Event) → class_then script class e ≡ class_after script class e
@@ -67,7 +63,7 @@ module _ (script : Script) where
   fitting_before class (e ∷ es) more fit = (fit.0, fitting_before (class_after script class e) es more fit.1)
 
 -- The object of a slot at the opening, and its class.
-same_at : (named : Slots) (slot : ℕ) → timeline.object_at (opened named) slot ≡ object_at named slot
+pub same_at : (named : Slots) (slot : ℕ) → timeline.object_at (opened named) slot ≡ object_at named slot
 same_at [] slot = refl
 same_at (object ∷ named) zero = refl
 same_at (object ∷ named) (suc slot) = same_at named slot
@@ -82,7 +78,7 @@ module _ (laws : PostsFit) (moments : MomentsAreInRange) (script : Script) (name
   known_not object is unknown =
       true≢false (subst (λ (o : Option Object). is_some o ≡ is_some (class_in script o)) is has ∙ unknown)
 
-  run_fits : (log : SwitchLog) (s : timeline.Switch) → IsSwitchRun script (opened named) log s → AreTicksInRange log.accepted
+  pub run_fits : (log : SwitchLog) (s : timeline.Switch) → IsSwitchRun script (opened named) log s → AreTicksInRange log.accepted
       → AreFitting script (class_in script (object_at named slot)) (of_slot slot log.posts)
   run_fits log s run ticks =
       subst (λ (class : Option ℕ). AreFitting script class (of_slot slot log.posts))
@@ -130,14 +126,11 @@ tick_read (Ok (request.FetchFailed k)) is = tt
 tick_read (Ok (request.Evict object)) is = tt
 tick_read (Err refusal) is = tt
 
-ticks_read : (lines : List read.Line) → AreTicksInRange (map seen_line lines)
+pub ticks_read : (lines : List read.Line) → AreTicksInRange (map seen_line lines)
 ticks_read [] = tt
 ticks_read (l ∷ lines) = (tick_read l.body l.in_range, ticks_read lines)
 
--- So each row tells what was dropped.
-pub are_drops_only : {S : Type 0} (moment_of : S → ℕ) (left_since : S → ℕ → List ℕ → Type 0) (told : S → Option (List ℕ)) (faults_of : S → ℕ)
-    (limit : ℕ) (script : Script) (contents : ℕ → Option (List ℕ)) (named : Slots) (logged : SeenSwitchLog) (rows : List (SlotReport S)) → PostsFit → MomentsAreInRange
-    → IsRunSoFar script (opened named) (seen_log logged) → AreRows moment_of left_since told faults_of limit script contents named (seen_log logged) rows
-    → AreDropsOnly told script named (seen_log logged) rows
-are_drops_only moment_of left_since told faults_of limit script contents named logged rows laws moments run are slot row is has is_told =
-    (are slot row is).drops is_told (so_far_fits laws moments script named slot has (seen_log logged) run (ticks_read logged.accepted.items))
+-- So each row fits what was posted to it, where its slot had no object or one of a class of the script.
+pub posts_fit_in : (laws : PostsFit) (moments : MomentsAreInRange) (script : Script) (named : Slots) (logged : SeenSwitchLog) → IsRunSoFar script (opened named) (seen_log logged)
+    → (slot : ℕ) → HasItsClass script (object_at named slot) → AreFitting script (class_in script (object_at named slot)) (of_slot slot (seen_log logged).posts)
+posts_fit_in laws moments script named logged run slot has = so_far_fits laws moments script named slot has (seen_log logged) run (ticks_read logged.accepted.items)

@@ -1,13 +1,12 @@
 -- What a run that serves is at its end, and what it has printed.
-use Rattle.std.proofs.Common.{◌≡◌, ◌≤◌, ◌∙◌, ap, sym, subst, refl, arith, ℕ, List, Option, None, Result, Ok, Err}
+use Rattle.std.proofs.Common.{◌≡◌, ◌≤◌, ◌∙◌, ap, sym, refl, arith, ℕ, List, Option, None, Result, Ok, Err}
 use Rattle.std.specs.Prelude.{OnOk, OnErr}
 use Rattle.line_server.specs.Lines.{most_left}
 use Rattle.line_server.specs.declared.fault.LineFault.{LineFault}
 use Rattle.line_server.specs.declared.fault.LineFault.TheVariants as line
 use Rattle.do_tree.specs.Tree.{Script}
 use Rattle.placement.specs.Slots.{Slots}
-use Rattle.mailbox.proofs.Writings.{writes_none, writes_then, part_then}
-use Rattle.mailbox.specs.Runs.{fault_of, lines_of, log_of, out_of, state_of}
+use Rattle.mailbox.specs.Runs.{fault_of, log_of, state_of}
 use Rattle.mailbox.specs.declared.fault.SwitchFault.{SwitchFault}
 use Rattle.mailbox.specs.declared.fault.SwitchFault.TheVariants as switch
 use Rattle.mailbox.specs.declared.switch.Switch.{Switch}

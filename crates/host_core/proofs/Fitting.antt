@@ -1,9 +1,8 @@
 -- A message that waits to be routed is fit: its slot has an object, and so has the slot of the object to which it replies.
-use Rattle.std.proofs.Common.{◌≡◌, ◌≤◌, ◌<◌, ◌∙◌, ap, sym, subst, refl, arith, true≢false, ⊎_elim, ℕ, List, [], ◌∷◌, ◌++◌, length, cond, append_assoc, Option, Some, None}
+use Rattle.std.proofs.Common.{◌≡◌, ◌∙◌, ap, sym, subst, refl, arith, true≢false, ℕ, List, [], ◌∷◌, ◌++◌, cond, append_assoc, Option, Some}
 use Rattle.std.proofs.lemmas.Bool.{and_parts}
 use Rattle.std.proofs.lemmas.Bool.Decides.{nat_tests}
 use Rattle.std.proofs.lemmas.List.Elements.{All-cons, All-contains, All-nil, All-weaker, Contains-append_left, Contains-append_right, Contains-push}
-use Rattle.std.proofs.lemmas.List.Folds.{list_any-append}
 use Rattle.std.proofs.lemmas.List.Sorted.{list_any-IsPermutation}
 use Rattle.std.specs.List.{All, AllByRecursion, Contains, flat_map, list_any}
 use Rattle.std.specs.Prelude.{ℤ, pos, Bool, true, false, ◌||◌, ◌==◌, slice_get}
@@ -11,14 +10,14 @@ use Rattle.do_value.specs.declared.value.Value.{Value}
 use Rattle.do_tree.specs.Tree.{Script}
 use Rattle.lane.specs.Lanes.{Both, sent_on}
 use Rattle.mailbox.specs.Posting.{of_slot}
-use Rattle.object_core.specs.One.{TellsNow, messages}
+use Rattle.object_core.specs.One.{messages}
 use Rattle.object_core.specs.Owing.{IsOwed}
 use Rattle.object_core.specs.Unmoved.{AllAreOwed, AllSayNothing}
 use Rattle.object_core.specs.declared.object.Core.{Core}
 use Rattle.object_front.specs.Came.{AreCome, events, kept}
-use Rattle.object_messages.specs.Naming.{asked_by, asked_in, called_in, messages_of, replied_by, replied_in, times}
+use Rattle.object_messages.specs.Naming.{asked_by, asked_in, called_in, replied_by, replied_in}
 use Rattle.placement.specs.Slots.{Slots, object_at}
-use Rattle.switch_history.specs.Fit.{IsFit, replies_fit}
+use Rattle.switch_history.specs.Fit.{IsFit}
 use Rattle.switch_history.specs.Placed.{HasObject, IsCalledFrom, IsPlaced, PostsArePlaced}
 use Rattle.timeline.specs.Logs.{Fronted, fronted}
 use Rattle.timeline.specs.Replies.{caller_of, same_caller}
@@ -31,7 +30,7 @@ use Rattle.timeline.specs.declared.event.Event.TheVariants as event
 use Rattle.timeline.specs.declared.message.Message.{Message}
 use Rattle.timeline.specs.declared.message.Message.TheVariants as message
 use Rattle.host_core.proofs.Found.{found_flat, found_more, is_found, itself, passing_found, some_pass}
-use Rattle.host_core.specs.Objects.{AllTell, AreGoing}
+use Rattle.host_core.specs.Objects.{ObjectsTell, AreGoing}
 use Rattle.host_core.specs.Slots.{IsGoing}
 use Rattle.host_core.specs.declared.objects.Objects.{Objects}
 
@@ -128,7 +127,7 @@ module _ {D : Type 0} (moment_of : D → ℕ) (left_since : D → ℕ → List �
     (limit : ℕ) (script : Script) (contents : ℕ → Option (List ℕ)) (named : Slots) (log : SwitchLog) (s : timeline.Switch) (objects : Objects D)
     (placed : PostsArePlaced) (owed : AllAreOwed moment_of left_since told image faults_of) (nothing : AllSayNothing moment_of left_since told image faults_of)
     (run : IsSwitchRun script (opened named) log s) (going : AreGoing moment_of left_since told image faults_of limit script contents named log objects)
-    (tells : AllTell told objects) (slot : ℕ) (core : Core D) (inbox : Both Event) (out : Both Message)
+    (tells : ObjectsTell told objects) (slot : ℕ) (core : Core D) (inbox : Both Event) (out : Both Message)
     (is_core : slice_get objects.cores.items slot ≡ Some core) (is_inbox : slice_get objects.inboxes.items slot ≡ Some inbox)
     (is_out : slice_get objects.outs.items slot ≡ Some out) where
   abbrev posts : List Event

@@ -1,16 +1,13 @@
 -- The calls that were delivered to a slot, in the order in which they left another.
-use Rattle.std.proofs.Common.{◌≡◌, ◌∙◌, ap, sym, subst, refl, ℕ, List, [], ◌∷◌, ◌++◌, Option, Some}
-use Rattle.std.specs.Prelude.{Bool, true, false, slice_get}
-use Rattle.std.specs.List.{filter, flat_map}
+use Rattle.std.proofs.Common.{◌≡◌, ap, sym, subst, refl, ℕ, List, [], ◌∷◌, ◌++◌, Option}
+use Rattle.std.specs.List.{flat_map}
 use Rattle.do_tree.specs.Tree.{Script}
 use Rattle.mailbox.specs.Posting.{of_slot}
 use Rattle.object_core.specs.One.{messages}
 use Rattle.object_front.proofs.Accounted.{part_before, part_behind, part_itself, part_trans}
 use Rattle.object_front.specs.Came.{IsPartOf, calls, events, nothing, shares, skips}
-use Rattle.object_front.specs.Kinds.{is_call}
 use Rattle.object_messages.specs.Naming.{called_in}
 use Rattle.placement.specs.Slots.{Slots}
-use Rattle.storage_map.specs.Limits.{Object}
 use Rattle.switch_history.specs.Laws.{CallsComeInOrder}
 use Rattle.switch_history.specs.Posted.{call_of, call_to, calls_of, calls_to}
 use Rattle.timeline.specs.Logs.{fronted}

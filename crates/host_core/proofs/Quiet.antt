@@ -47,7 +47,7 @@ module _ {D : Type 0} (moment_of : D → ℕ) (left_since : D → ℕ → List �
         lets_go script going.origin (row.store, store_is, is_told) going.one (subst (λ (o : Option Object). HasItsClass script o) (sym going.begun.object) has)
         rests.settled.front_goes rests.settled.back_goes (nothing_to_do script core rests.settled) going.begun.left
 
-    row_lets_go : IsTold (told row.store) → HasItsClass script named → HasLetGo (fronted row.front) (backed row.back) routed
+    pub row_lets_go : IsTold (told row.store) → HasItsClass script named → HasLetGo (fronted row.front) (backed row.back) routed
     row_lets_go is_told has =
         subst (λ (log : Backed). HasLetGo (fronted row.front) log routed) (sym back_is)
         (subst (λ (log : Fronted). HasLetGo log (backed core.back.log) routed) (sym front_is)

@@ -1,6 +1,5 @@
 -- The lines that are read and accepted, one after another.
-use Rattle.std.proofs.Common.{◌≡◌, ◌≤◌, ◌∙◌, ap, sym, subst, refl, inl, inr, ⊎_elim, ℕ, List, [], ◌∷◌, ◌++◌, map, length, append-nil, append_assoc, Option, arith, Result, Ok, Err}
-use Rattle.std.specs.Prelude.{◌⊎◌}
+use Rattle.std.proofs.Common.{◌≡◌, ◌≤◌, ◌∙◌, ap, sym, subst, refl, inl, inr, ℕ, List, [], ◌∷◌, ◌++◌, append-nil, append_assoc, Option, arith, Result, Ok, Err}
 use Rattle.std.proofs.lemmas.List.{map-append}
 use Rattle.line_server.proofs.Given.{has_given_now}
 use Rattle.line_server.proofs.Looking.{looked_fewer, looked_now}

@@ -1,9 +1,8 @@
 -- What the objects of the slots have left, in one list.
-use Rattle.std.proofs.Common.{◌≡◌, ◌<◌, ◌≤◌, ◌+◌, ◌∙◌, ap, sym, subst, refl, arith, inl, inr, ⊎_elim, ℕ, List, [], ◌∷◌, ◌++◌, length, map, cond, append-nil, append_assoc, Some}
-use Rattle.std.specs.Prelude.{Bool, true, false, ◌==◌, slice_get, Result, Ok, OnOk}
+use Rattle.std.proofs.Common.{◌≡◌, ◌<◌, ◌≤◌, ◌+◌, ◌∙◌, ap, sym, subst, refl, arith, ⊎_elim, ℕ, List, [], ◌∷◌, ◌++◌, length, map, cond, append-nil, append_assoc, Some}
+use Rattle.std.specs.Prelude.{Bool, slice_get, Result, OnOk}
 use Rattle.std.specs.List.{All}
 use Rattle.std.proofs.lemmas.Bool.{cases_lt}
-use Rattle.std.proofs.lemmas.Bool.Decides.{nat_tests}
 use Rattle.std.proofs.lemmas.List.{length-append, map-append}
 use Rattle.std.proofs.lemmas.List.Elements.{All-append, All-cons, All-head, All-map, All-nil, All-tail, All-weaker}
 use Rattle.mailbox.proofs.Sendings.{of_slot-append}
@@ -42,6 +41,12 @@ module _ {X : Type 0} where
 
 abbrev by_slot : List (ℕ × Caller × Waits) → List (ℕ × (Caller × Waits))
 by_slot left = map (λ (item : ℕ × Caller × Waits). (item.0, (item.1, item.2))) left
+
+-- nothing is left of a slot behind all
+pub behind_left : (slots slot : ℕ) (left : List (ℕ × Caller × Waits)) → slots ≤ slot → AreLeftIn slots left → remaining_of slot left ≡ []
+behind_left slots slot left behind within =
+    of_behind slots slot (by_slot left) behind
+    (All-map (λ (item : ℕ × (Caller × Waits)). item.0 < slots) (λ (item : ℕ × Caller × Waits). (item.0, (item.1, item.2))) left within)
 
 all_own : (slot slots : ℕ) (xs : List (Caller × Waits)) → slot < slots → All (λ (item : ℕ × Caller × Waits). item.0 < slots) (with_slot slot xs)
 all_own slot slots [] less = All-nil (λ (item : ℕ × Caller × Waits). item.0 < slots)

@@ -1,15 +1,15 @@
 -- What the report of a run is, from what the run was.
 use Rattle.std.proofs.Common.{◌≡◌, ◌≢◌, ◌≤◌, ◌<◌, ◌∙◌, ap, sym, subst, refl, arith, ℕ, zero, suc, Bool, true, false, List, [], ◌∷◌, ◌++◌, map, length, replicate, take, append-nil, Option, Some, None, Result, Ok, Err}
 use Rattle.std.specs.Prelude.{OnOk, IfErr, option_map, slice_get}
-use Rattle.std.specs.List.{All}
+use Rattle.std.specs.List.{All, IsDistinct}
 use Rattle.std.proofs.lemmas.List.Elements.{All-nil}
 use Rattle.std.proofs.lemmas.List.{length-replicate, take_all}
 use Rattle.do_disk.specs.Disk.{IfTold, Rose}
 use Rattle.do_tree.specs.Tree.{Script}
-use Rattle.mailbox.proofs.Writings.{writes_none, writes_then, part_then}
+use Rattle.mailbox.proofs.Writings.{writes_then, part_then}
 use Rattle.mailbox.specs.Left.{finished_by}
-use Rattle.mailbox.specs.Posting.{GoesOn, of_slot}
-use Rattle.mailbox.specs.Runs.{Begins, fault_of, lines_of, log_of, out_of, slots_of, state_of}
+use Rattle.mailbox.specs.Posting.{of_slot}
+use Rattle.mailbox.specs.Runs.{Begins, fault_of, lines_of, log_of, out_of, state_of}
 use Rattle.mailbox.specs.Seen.{seen_log, seen_out}
 use Rattle.mailbox.specs.Written.{Writes, WritesInPart, text_of}
 use Rattle.mailbox.specs.declared.switch.Switch.{Switch}
@@ -26,22 +26,26 @@ use Rattle.timeline.specs.declared.caller.Caller.{Caller}
 use Rattle.timeline.specs.declared.event.Event.{Event}
 use Rattle.timeline.specs.declared.message.Message.{Message}
 use Rattle.timeline.specs.declared.notice.Waits.{Waits}
-use Rattle.object_core.specs.Drops.{DropsOnly}
-use Rattle.switch_history.specs.Laws.{PostsFit}
-use Rattle.switch_history.specs.Moments.{MomentsAreInRange}
+use Rattle.object_core.specs.Drops.{DropsOnly, IsOfEnded}
+use Rattle.switch_history.specs.Answering.{AreInOrder}
+use Rattle.switch_history.specs.Moments.{AreTicksInRange}
 use Rattle.timeline.specs.Logs.{fronted}
-use Rattle.host_core.proofs.Dropped.{are_drops_only}
+use Rattle.host_core.proofs.AskedOnce.{are_asked_once}
+use Rattle.host_core.proofs.Dropped.{ticks_read}
+use Rattle.host_core.proofs.Drops.{are_drops_only}
+use Rattle.host_core.proofs.Finished.{answered, in_order, settled}
+use Rattle.host_core.proofs.SwitchLaws.{SwitchLaws}
+use Rattle.host_core.proofs.Unknown.{dropped_none, unposted}
+use Rattle.host_core.specs.Asked.{AreAskedOnce}
+use Rattle.host_core.specs.Closing.{AreSettledUnless}
 use Rattle.host_core.specs.Ends.{is_late, is_served, most_waiting, opening_end, serving_end}
 use Rattle.host_core.specs.Finishing.{Finishes}
-use Rattle.host_core.specs.Objects.{AreGoing, AreThere}
+use Rattle.host_core.specs.Objects.{ObjectsTell, AreGoing, AreThere}
 use Rattle.host_core.specs.Opening.{IsBad}
-use Rattle.host_core.specs.Dropped.{AreDropsOnly}
-use Rattle.host_core.specs.Quiet.{AreCallsAnswered, AreCallsInOrder, AreLeftIn, AreLetGo, AreSettled, DropNoCalls, HaveClasses, IsLetGo, IsSettled, TellAll, remaining_of}
-use Rattle.host_core.proofs.Once.{no_calls_dropped}
+use Rattle.host_core.specs.Quiet.{AreCallsAnswered, AreLeftIn, AreLetGo, AreSettled, IsLetGo, IsSettledSlot, RowsTell, remaining_of}
 use Rattle.host_core.specs.Reading.{Accepts, AcceptsAll, AcceptsAllRead}
 use Rattle.host_core.specs.Report.{IsFinished, IsReport, PrintsLines, is_opening_end, most_unaccepted}
 use Rattle.host_core.specs.Rows.{AreRows, IsRow}
-use Rattle.switch_history.specs.Ends.{EndsAreRouted}
 use Rattle.switch_history.specs.Fit.{IsFitRun, begins as fit_begins}
 use Rattle.host_core.proofs.Complete.{are_unended, unended_none}
 use Rattle.host_core.specs.Running.{HasServed, IsServing, PrintsUntil}
@@ -165,10 +169,10 @@ let_go_same told script named log later rows same are slot row is =
 pub settled_same : {S : Type 0} (told : S → Option (List ℕ)) (limit : ℕ) (script : Script) (contents : ℕ → Option (List ℕ)) (named : Slots) (log later : SwitchLog)
     (left : List (ℕ × Caller × Waits)) (rows : List (SlotReport S)) → SamePosts log later
     → AreSettled told limit script contents named log left rows → AreSettled told limit script contents named later left rows
-settled_same told limit script contents named log later left rows same are tell classes slot row is =
-    subst (λ (routed : List (ℕ × Message)). IsSettled limit script (contents slot) (object_at named slot) (of_slot slot later.posts) (of_slot slot routed) (remaining_of slot left) row) (sym same.routed)
-    (subst (λ (posts : List (ℕ × Event)). IsSettled limit script (contents slot) (object_at named slot) (of_slot slot posts) (of_slot slot log.routed) (remaining_of slot left) row) (sym same.posts)
-    (are tell classes slot row is))
+settled_same told limit script contents named log later left rows same are tell slot row is =
+    subst (λ (routed : List (ℕ × Message)). IsSettledSlot limit script (contents slot) (object_at named slot) (of_slot slot later.posts) (of_slot slot routed) (remaining_of slot left) row) (sym same.routed)
+    (subst (λ (posts : List (ℕ × Event)). IsSettledSlot limit script (contents slot) (object_at named slot) (of_slot slot posts) (of_slot slot log.routed) (remaining_of slot left) row) (sym same.posts)
+    (are tell slot row is))
 
 pub there_same : (slots : ℕ) (log later : SwitchLog) → SamePosts log later → AreThere slots log → AreThere slots later
 there_same slots log later same there = subst (λ (routed : List (ℕ × Message)). All (λ (sent : ℕ × Message). sent.0 < slots) routed) (sym same.routed) there
@@ -292,17 +296,15 @@ module _ {W : Type 0} (taken : W → Option (List ℕ)) (faults : W → ℕ) (ol
     pub reports : HasServed moment_of left_since told image faults_of limit script contents named mid objects
         → (is_served (so_ends served) ≡ true → IsServing moment_of left_since told image faults_of limit script contents named mid objects)
         → (is_served (so_ends served) ≡ true → AreLetGo told script named (log_of mid) report.slots.items)
-        → (is_served (so_ends served) ≡ true → is_served end ≡ true → AreSettled told limit script contents named (log_of mid) left report.slots.items)
+        → (is_served (so_ends served) ≡ true → is_served end ≡ true → AreSettledUnless told limit script contents named (log_of mid) left report.slots.items)
         → (is_served (so_ends served) ≡ true → is_served end ≡ true → AreLeftIn (length report.slots.items) left)
-        → (is_served (so_ends served) ≡ true → AreCallsInOrder (state_of mid) report.slots.items)
-        → (is_served (so_ends served) ≡ true → is_served end ≡ true
-        → (TellAll told report.slots.items → HaveClasses script named → DropNoCalls report.slots.items)
-        → AreCallsAnswered told script named (log_of mid) (state_of mid) left report.slots.items)
+        → (is_served (so_ends served) ≡ true → AreInOrder (log_of mid).accepted)
+        → (RowsTell told report.slots.items → ObjectsTell told objects)
         → seen_log report.switch ≡ log_of new
         → AreRows moment_of left_since told faults_of limit script contents named (log_of mid) report.slots.items
-        → length report.slots.items ≡ length objects.cores.items → length named ≡ length objects.cores.items → IsOneEach named → is_late end → EndsAreRouted
-        → PostsFit → MomentsAreInRange → IsReport moment_of left_since told faults_of limit script contents (length named) end report
-    reports has serving quiet settled left_in calls answered log rows count many one_each late ends_routed fit moments =
+        → length report.slots.items ≡ length objects.cores.items → length named ≡ length objects.cores.items → IsOneEach named → is_late end → SwitchLaws
+        → IsReport moment_of left_since told faults_of limit script contents (length named) end report
+    reports has serving quiet unless left_in order tells log rows count many one_each late laws =
         let are : AreRows moment_of left_since told faults_of limit script contents named (seen_log report.switch) report.slots.items =
         subst (λ (l : SwitchLog). AreRows moment_of left_since told faults_of limit script contents named l report.slots.items) (sym log)
         (rows_same moment_of left_since told faults_of limit script contents named (log_of mid) (log_of new) report.slots.items same_posts rows) in
@@ -310,11 +312,11 @@ module _ {W : Type 0} (taken : W → Option (List ℕ)) (faults : W → ℕ) (ol
         subst (λ (l : SwitchLog). IsRunSoFar script (opened named) l) (sym log) (decided (is_served (so_ends served)) (IsRunSoFar script (opened named) (log_of new))
         (λ sure. at_end (log_of mid) (state_of mid) left (serving sure).run (ended.finishes sure).begun)
         (λ other. subst (λ (s : Switch W). IsRunSoFar script (opened named) (log_of s)) (sym (ended.stops other).1) has.run)) in
+        let mid_there : AreThere (length report.slots.items) (log_of mid) = subst (λ (n : ℕ). AreThere n (log_of mid)) (sym count) has.there in
         let in_rows : AreThere (length report.slots.items) (seen_log report.switch) =
-        subst (λ (l : SwitchLog). AreThere (length report.slots.items) l) (sym log)
-        (subst (λ (n : ℕ). AreThere n (log_of new)) (sym count) (there_same (length objects.cores.items) (log_of mid) (log_of new) same_posts has.there)) in
-        let dropped : AreDropsOnly told script named (seen_log report.switch) report.slots.items =
-        are_drops_only moment_of left_since told faults_of limit script contents named report.switch report.slots.items fit moments so_far are in
+        subst (λ (l : SwitchLog). AreThere (length report.slots.items) l) (sym log) (there_same (length report.slots.items) (log_of mid) (log_of new) same_posts mid_there) in
+        let asked : AreAskedOnce told (seen_log report.switch) report.slots.items =
+        are_asked_once moment_of left_since told faults_of limit script contents named (seen_log report.switch) report.slots.items are in_rows laws.few so_far in
         record {
           named = named;
           many = refl;
@@ -323,20 +325,35 @@ module _ {W : Type 0} (taken : W → Option (List ℕ)) (faults : W → ℕ) (ol
           within = omega (arith, count, many);
           run = so_far;
           there = in_rows;
-          drops = dropped;
-          unended = are_unended moment_of left_since told faults_of limit ends_routed script contents named (seen_log report.switch) report.slots.items are so_far in_rows;
+          drops = are_drops_only moment_of left_since told faults_of limit script contents named report.switch report.slots.items laws.fit laws.moments so_far are asked.posted
+              (λ tell slot unknown. unposted moment_of left_since told faults_of limit script contents named (seen_log report.switch) report.slots.items are in_rows
+              laws.few laws.alone so_far slot unknown tell);
+          asked = asked;
+          unended = are_unended moment_of left_since told faults_of limit laws.ends script contents named (seen_log report.switch) report.slots.items are so_far in_rows;
           finished = λ is. decided (is_served (so_ends served)) (IsFinished told limit script contents named (seen_log report.switch) report.slots.items)
-              (λ sure. record {
+              (λ sure.
+              let run : IsSwitchRun script (opened named) (log_of mid) (state_of mid) = (serving sure).run in
+              let ticks : AreTicksInRange (log_of mid).accepted =
+              subst AreTicksInRange (ap (λ (l : SwitchLog). l.accepted) log ∙ same_posts.accepted) (ticks_read report.switch.accepted.items) in
+              let each : length report.slots.items ≡ length named = count ∙ sym many in
+              let fits : RowsTell told report.slots.items → IsFitRun script (opened named) (log_of mid) (state_of mid) = λ tell. (serving sure).fit (tells tell) in
+              let logged : seen_log report.switch ≡ gave (log_of mid) (finished_by (state_of mid) left) = log ∙ ((ended.finishes sure).whole is).1 in
+              record {
                 before = log_of mid;
                 after = state_of mid;
-                run = (serving sure).run;
+                run = run;
                 left = left;
-                finished = log ∙ ((ended.finishes sure).whole is).1;
+                finished = logged;
                 settled = subst (λ (l : SwitchLog). AreSettled told limit script contents named l left report.slots.items) (sym log)
-                    (settled_same told limit script contents named (log_of mid) (log_of new) left report.slots.items same_posts (settled sure is));
+                    (settled_same told limit script contents named (log_of mid) (log_of new) left report.slots.items same_posts
+                    (settled moment_of left_since told faults_of limit script contents named (log_of mid) (state_of mid) report.slots.items left laws run rows mid_there each
+                    (left_in sure is) (order sure) ticks fits (unless sure is)));
                 left_in = left_in sure is;
-                calls = calls sure;
-                once = answered sure is (λ tells classes. no_calls_dropped told script named (seen_log report.switch) report.slots.items dropped tells classes);
+                calls = in_order moment_of left_since told faults_of limit script contents named (log_of mid) (state_of mid) report.slots.items left laws run rows mid_there each
+                    (left_in sure is) (order sure) ticks fits (unless sure is);
+                once = subst (λ (l : SwitchLog). AreCallsAnswered told (log_of mid) l (state_of mid) left report.slots.items) (sym logged)
+                    (answered moment_of left_since told faults_of limit script contents named (log_of mid) (state_of mid) report.slots.items left laws run rows mid_there each
+                    (left_in sure is) (order sure) ticks fits (unless sure is));
               })
               (λ other. absurd (true_is_not (sym is ∙ ap is_served (ended.stops other).0 ∙ other)));
           quiet = λ is. decided (is_served (so_ends served)) (AreLetGo told script named (seen_log report.switch) report.slots.items)
@@ -394,6 +411,14 @@ nothing_named zero a object is = cc
 nothing_named (suc slots) zero object is = cc
 nothing_named (suc slots) (suc a) object is = nothing_named slots a object is
 
+-- Nothing was routed or posted.
+asked_none : {S : Type 0} (told : S → Option (List ℕ)) (log : SwitchLog) (rows : List (SlotReport S)) → log ≡ no_log → AreAskedOnce told log rows
+unfolding IsDistinct
+asked_none told log rows none = subst (λ (l : SwitchLog). AreAskedOnce told l rows) (sym none) (record {
+  routed = λ slot row is is_told asked. omega arith;
+  posted = λ tell slot. tt;
+})
+
 -- No slot was mounted, for want of memory.
 pub reports_none : {S : Type 0} (moment_of : S → ℕ) (left_since : S → ℕ → List ℕ → Type 0) (told : S → Option (List ℕ)) (faults_of : S → ℕ) (limit : ℕ) (script : Script)
     (contents : ℕ → Option (List ℕ)) (slots : ℕ) (report : Report S) → report.slots.items ≡ [] → seen_log report.switch ≡ no_log
@@ -406,7 +431,12 @@ reports_none moment_of left_since told faults_of limit script contents slots rep
   within = omega (arith, ap length none);
   run = subst (λ (l : SwitchLog). IsRunSoFar script (opened (replicate slots None)) l) (sym log) (whole (opened (replicate slots None)) begins);
   there = subst (λ (l : SwitchLog). AreThere (length report.slots.items) l) (sym log) (All-nil (λ (sent : ℕ × Message). sent.0 < length report.slots.items));
-  drops = λ slot row is has is_told. none_there slot row _ (subst (λ (rows : List (SlotReport _)). slice_get rows slot ≡ Some row) none is);
+  drops = record {
+    each = λ slot row is has is_told. none_there slot row _ (subst (λ (rows : List (SlotReport _)). slice_get rows slot ≡ Some row) none is);
+    answers = λ tell slot row is. none_there slot row _ (subst (λ (rows : List (SlotReport _)). slice_get rows slot ≡ Some row) none is);
+    unposted = λ tell slot unknown. ap (λ (l : SwitchLog). of_slot slot l.posts) log;
+  };
+  asked = asked_none told (seen_log report.switch) report.slots.items log;
   finished = λ is. cc;
   quiet = λ is. cc;
   unended = unended_none told faults_of (seen_log report.switch) report.slots.items (ap (λ (l : SwitchLog). l.lines) log);
@@ -427,8 +457,14 @@ reports_opened moment_of left_since told faults_of limit script contents named s
   within = omega (arith, few);
   run = subst (λ (l : SwitchLog). IsRunSoFar script (opened named) l) (sym log) (whole (opened named) begins);
   there = subst (λ (l : SwitchLog). AreThere (length report.slots.items) l) (sym log) (All-nil (λ (sent : ℕ × Message). sent.0 < length report.slots.items));
-  drops = λ slot row is has is_told.
-      subst (λ (l : SwitchLog). DropsOnly (of_slot slot l.posts) (fronted row.front) row.back.downs.items) (sym log) ((rows slot row is).drops is_told tt);
+  drops = record {
+    each = λ slot row is has is_told.
+        subst (λ (l : SwitchLog). DropsOnly (of_slot slot l.posts) (fronted row.front) row.back.downs.items) (sym log) ((rows slot row is).drops is_told tt);
+    answers = λ tell slot row is.
+        subst (λ (es : List Event). All (IsOfEnded (fronted row.front)) es) (sym (dropped_none [] row (rows slot row is).served refl)) (All-nil (IsOfEnded (fronted row.front)));
+    unposted = λ tell slot unknown. ap (λ (l : SwitchLog). of_slot slot l.posts) log;
+  };
+  asked = asked_none told (seen_log report.switch) report.slots.items log;
   finished = λ is. absurd (true_is_not (sym is ∙ never_served end));
   unended = unended_none told faults_of (seen_log report.switch) report.slots.items (ap (λ (l : SwitchLog). l.lines) log);
   quiet = λ is. absurd (true_is_not (sym is ∙ never_served end));

@@ -1,13 +1,15 @@
 -- The row of an object, and those of all.
-use Rattle.std.proofs.Common.{◌≡◌, ◌<◌, ⊎_elim, inl, inr, ℕ, List, [], ◌∷◌, ◌++◌, length, map, Option, Some, None, refl, sym, ap, subst, ◌∙◌, arith, append_assoc}
+use Rattle.std.proofs.Common.{◌≡◌, ⊎_elim, inl, inr, ℕ, List, [], ◌∷◌, ◌++◌, length, map, Option, Some, None, refl, sym, ap, subst, ◌∙◌, arith, append_assoc}
 use Rattle.std.specs.Prelude.{Bool, true, false, slice_get}
 use Rattle.std.specs.List.{Contains}
 use Rattle.std.proofs.lemmas.Bool.{cases_lt}
-use Rattle.std.proofs.lemmas.Option.{slice_get_cases, slice_get_within}
+use Rattle.std.proofs.lemmas.List.Elements.{All-cons, All-head, All-nil, All-tail, Contains-append_left, Contains-push}
+use Rattle.std.proofs.lemmas.Option.{slice_get_within}
 use Rattle.batch_journal.specs.Moments.{IsTold}
 use Rattle.do_tree.specs.Tree.{Script}
 use Rattle.lane.specs.Lanes.{Both, sent_on}
 use Rattle.mailbox.specs.Posting.{of_slot}
+use Rattle.object_core.specs.Classless.{OneWithoutClass}
 use Rattle.object_core.specs.Dropping.{AreFitting}
 use Rattle.object_core.specs.Drops.{DropsOnly, OneDrops}
 use Rattle.object_core.specs.Laws.{HasIntake, OneHasClass, OneHasGot, OneHasIntake, OneHasLeft, OneHasTold, OneIsHistory, OneIsLimited}
@@ -16,6 +18,8 @@ use Rattle.object_core.specs.One.{CanRun, TellsNow, class_in, messages}
 use Rattle.object_core.specs.Owing.{IsOwed, OneIsOwed}
 use Rattle.object_core.specs.Unended.{OneTellsNoEnd}
 use Rattle.object_messages.specs.Ends.{TellNoEnd}
+use Rattle.object_messages.specs.Naming.{asked_in, messages_of}
+use Rattle.object_messages.specs.Unmoved.{AreAnswers, is_answer}
 use Rattle.object_core.specs.declared.object.Core.{Core}
 use Rattle.object_front.specs.Came.{AreCome, kept}
 use Rattle.object_front.specs.Classed.{class_by}
@@ -42,8 +46,8 @@ pub use Rattle.host_core.proofs.Found.{item_at}
 use Rattle.host_core.proofs.Pushed.{before_push, next_at, push_before, push_last, push_within}
 use Rattle.host_core.proofs.Remaining.{AreLeftBy}
 use Rattle.host_core.specs.Closing.{AreSettledUnless, IsLetGoOf, IsRowOf, IsSettledOf}
-use Rattle.host_core.specs.Objects.{AllTell, AreGoing, AreResting, AreRouted, AreSlots, CanAllRun}
-use Rattle.host_core.specs.Quiet.{AreLetGo, TellAll, remaining_of}
+use Rattle.host_core.specs.Objects.{ObjectsTell, AreGoing, AreResting, AreRouted, AreSlots, CanAllRun}
+use Rattle.host_core.specs.Quiet.{AreLetGo, IsOfNoClass, RowsTell, remaining_of}
 use Rattle.host_core.specs.Rows.{AreRows, AreServed, IsObjectIn}
 use Rattle.host_core.specs.Slots.{IsSlot}
 use Rattle.host_core.specs.declared.objects.Objects.{Objects}
@@ -58,6 +62,21 @@ can_turn_by script front st false is stands = inr (st, stands is)
 pub can_turn : (script : Script) (front : Half Evaluated) (st : Stood) → (is_stopped front ≡ false → IsHalf seen script front st) → CanTurn seen script front
 can_turn script front st = can_turn_by script front st (is_stopped front) refl
 
+-- what has no item is empty
+none_there : {X : Type 0} (x : X) → Contains {X = X} [] x → ⊥
+none_there x there = omega (arith, there.1)
+
+none_contained : {X : Type 0} (xs : List X) → ((x : X) → Contains xs x → ⊥) → xs ≡ []
+none_contained [] away = refl
+none_contained (x ∷ xs) away = absurd (away x (Contains-append_left (x ∷ []) xs x (Contains-push [] x)))
+
+-- the first of some answers are answers
+pub first_answers : (first rest : List Event) → AreAnswers (first ++ rest) → AreAnswers first
+first_answers [] rest all = All-nil (λ (e : Event). is_answer e ≡ true)
+first_answers (e ∷ first) rest all =
+    All-cons (λ (x : Event). is_answer x ≡ true) e first (All-head (λ (x : Event). is_answer x ≡ true) e (first ++ rest) all)
+    (first_answers first rest (All-tail (λ (x : Event). is_answer x ≡ true) e (first ++ rest) all))
+
 -- the class that is known
 class_is : (has : Option ℕ) (class : ℕ) → has ≡ Some class → IsClass has class
 class_is has class is = subst (λ (o : Option ℕ). IsClass o class) (sym is) refl
@@ -69,7 +88,8 @@ module _ {D : Type 0} (moment_of : D → ℕ) (left_since : D → ℕ → List �
     (got : OneHasGot moment_of left_since told image faults_of core) (class : OneHasClass moment_of left_since told image faults_of core)
     (left : OneHasLeft moment_of left_since told image faults_of core) (tells : OneHasTold moment_of left_since told image faults_of core)
     (owed : OneIsOwed moment_of left_since told image faults_of core) (limited : OneIsLimited moment_of left_since told image faults_of core)
-    (unended : OneTellsNoEnd moment_of left_since told image faults_of core) (drops : OneDrops moment_of left_since told image faults_of core) where
+    (unended : OneTellsNoEnd moment_of left_since told image faults_of core) (drops : OneDrops moment_of left_since told image faults_of core)
+    (classless : OneWithoutClass moment_of left_since told image faults_of core) where
   module _ (limit : ℕ) (script : Script) (content : Option (List ℕ)) (named : Option Object) (posts : List Event) (routed : List Message) (inbox : Both Event) (out : Both Message)
       (slot : IsSlot moment_of left_since told image faults_of limit script content named posts routed core inbox out) where
     object_in : IsObjectIn named row
@@ -154,6 +174,17 @@ module _ {D : Type 0} (moment_of : D → ℕ) (left_since : D → ℕ → List �
         (drops script slot.origin (row.store, store_is, is_told) slot.one posts served_in.first
         (subst (λ (o : Option Object). AreFitting script (class_in script o) posts) (sym slot.begun.object) fit)))
 
+    silent_in : IsTold (told row.store) → IsOfNoClass script named → AreAnswers posts → asked_in (messages row.back.released.items) ≡ []
+    unfolding served_in
+    silent_in is_told unknown alone =
+        let first = served_in.first in
+        let own : AreAnswers core.inbox.got = first_answers core.inbox.got first.0 (subst AreAnswers first.1 alone) in
+        let nothing : messages_of (fronted core.front.half.log).sent ≡ [] =
+        (classless script slot.origin (row.store, store_is, is_told) slot.one (ap (class_in script) slot.begun.object ∙ unknown.1)).0 own in
+        none_contained (asked_in (messages row.back.released.items))
+        (λ asked has. none_there asked
+        (subst (λ (ms : List Message). Contains (asked_in ms) asked) (ap (λ (log : Fronted). messages_of log.sent) front_is ∙ nothing) ((owed_in is_told).asked asked has)))
+
   pub is_row_of : IsRowOf moment_of left_since told image faults_of core row
   is_row_of limit script content named posts routed inbox out slot = record {
     origin = slot.origin;
@@ -168,6 +199,7 @@ module _ {D : Type 0} (moment_of : D → ℕ) (left_since : D → ℕ → List �
     full = full_in limit script content named posts routed inbox out slot;
     unended = unended_in limit script content named posts routed inbox out slot;
     drops = drops_in limit script content named posts routed inbox out slot;
+    silent = silent_in limit script content named posts routed inbox out slot;
   }
 
 module _ {D : Type 0} (moment_of : D → ℕ) (left_since : D → ℕ → List ℕ → Type 0) (told : D → Option (List ℕ)) (image : D → List ℕ → Type 0) (faults_of : D → ℕ) where
@@ -205,7 +237,7 @@ module _ {D : Type 0} (moment_of : D → ℕ) (left_since : D → ℕ → List �
 
   -- where the disks of all rows tell their content, those of all objects did
   pub all_tell : (objects : Objects D) (rows : List (SlotReport D)) → AreRowsOf objects.cores.items rows → length rows ≡ length objects.cores.items
-      → TellAll told rows → AllTell told objects
+      → RowsTell told rows → ObjectsTell told objects
   all_tell objects rows are many tell = λ slot core at.
       let within = slice_get_within objects.cores.items slot core at in
       let row = item_at rows slot (omega (arith, within, many)) in

@@ -25,7 +25,7 @@ use Rattle.object_core.specs.declared.object.Core.{Core}
 use Rattle.host_core.proofs.Fitting.{message_fits}
 use Rattle.host_core.proofs.Found.{item_at}
 use Rattle.host_core.proofs.Routings.{Moves, got_of, at_same, at_some, at_taken, is_own, going_moved, there_moved, all_stand, going_can, standing_can}
-use Rattle.host_core.specs.Objects.{AllTell, AreGoing, AreSlots, AreThere, CanAllRun}
+use Rattle.host_core.specs.Objects.{ObjectsTell, AreGoing, AreSlots, AreThere, CanAllRun}
 use Rattle.host_core.specs.Running.{HasServed, IsServing}
 use Rattle.mailbox.specs.SoFar.{IsRunSoFar, whole, in_line, in_message}
 use Rattle.host_core.specs.declared.objects.Objects.{Objects}
@@ -99,11 +99,11 @@ module _ {D W : Type 0} (moment_of : D → ℕ) (left_since : D → ℕ → List
   AreOf = All (λ (sent : ℕ × Message). sent.0 < length old.cores.items)
 
   -- The same objects tell as before.
-  still_tell : new.cores.items ≡ old.cores.items → AllTell told new → AllTell told old
+  still_tell : new.cores.items ≡ old.cores.items → ObjectsTell told new → ObjectsTell told old
   still_tell same tells = λ slot core at. tells slot core (subst (λ (xs : List (Core D)). slice_get xs slot ≡ Some core) (sym same) at)
 
   serving_moved : (moves : Moves (log_of before) (log_of after) old new) → AreOf moves.routed → KeepsRun script before after
-      → slots_of after ≡ slots_of before → fault_of after ≡ None → (fits : Serves before old → AllTell told old → FitsAfter) → Serves before old → Serves after new
+      → slots_of after ≡ slots_of before → fault_of after ≡ None → (fits : Serves before old → ObjectsTell told old → FitsAfter) → Serves before old → Serves after new
   serving_moved moves are keeps many goes fits serving = record {
     run = keeps (opened named) serving.run;
     slots = going_moved (log_of before) (log_of after) old new moves moment_of left_since told image faults_of limit script contents named serving.slots;
@@ -161,7 +161,7 @@ module _ {D W : Type 0} (moment_of : D → ℕ) (left_since : D → ℕ → List
     -- So it is fit.
     taken_fits : PostsArePlaced → AllAreOwed moment_of left_since told image faults_of → AllSayNothing moment_of left_since told image faults_of
         → (sent : ℕ × Message) (moves : Moves (log_of before) (log_of after) old new) → moves.routed ≡ sent ∷ [] → sent.0 < length old.outs.items
-        → Serves before old → AllTell told old → IsFit (state_of before) sent
+        → Serves before old → ObjectsTell told old → IsFit (state_of before) sent
     taken_fits placed owed nothing sent moves one there serving tells =
         let slots = serving.slots in
         let out = item_at old.outs.items sent.0 there in
@@ -239,7 +239,7 @@ module _ {D : Type 0} (old new : Objects D) (inboxes later : List (Both Event)) 
 module _ {D W : Type 0} (moment_of : D → ℕ) (left_since : D → ℕ → List ℕ → Type 0) (told : D → Option (List ℕ)) (image : D → List ℕ → Type 0) (faults_of : D → ℕ)
     (limit : ℕ) (script : Script) (contents : ℕ → Option (List ℕ)) (named : Slots) (switch : Switch W) (old new : Objects D)
     (many : length new.cores.items ≡ length old.cores.items) where
-  pub serving_ran : (AllTell told new → AllTell told old) → AreGoing moment_of left_since told image faults_of limit script contents named (log_of switch) new
+  pub serving_ran : (ObjectsTell told new → ObjectsTell told old) → AreGoing moment_of left_since told image faults_of limit script contents named (log_of switch) new
       → IsServing moment_of left_since told image faults_of limit script contents named switch old → IsServing moment_of left_since told image faults_of limit script contents named switch new
   serving_ran tells slots serving = record {
     run = serving.run;

@@ -1,13 +1,16 @@
 -- The row of an object that rests: it is quiet, or its front stands still at an answer to what it didn't ask.
 use Rattle.std.proofs.Common.{◌≡◌, ◌∙◌, ap, sym, refl, subst, inl, inr, ℕ, List, [], ◌++◌, append-nil, Option, Some, None}
 use Rattle.std.specs.Prelude.{Bool, true, false, ◌⊎◌}
-use Rattle.std.specs.List.{Contains}
+use Rattle.std.specs.List.{All, Contains}
 use Rattle.std.proofs.lemmas.Grind.{flat_map-append}
-use Rattle.std.proofs.lemmas.List.Elements.{Contains-append_left}
+use Rattle.std.proofs.lemmas.List.Elements.{All-contains_itself, All-weaker, Contains-append_left}
 use Rattle.batch_journal.specs.Moments.{IsTold}
 use Rattle.do_tree.specs.Tree.{Script}
 use Rattle.lane.specs.Lanes.{Both, sent_on}
-use Rattle.object_core.specs.Laws.{GoesOn, HasNothingToDo, OneIsQuiet}
+use Rattle.object_core.specs.Classless.{OneWithoutClass}
+use Rattle.object_core.specs.Dropping.{AreFitting}
+use Rattle.object_core.specs.Fetches.{IsUnanswered, OneWaitsForFetches}
+use Rattle.object_core.specs.Laws.{GoesOn, HasNothingToDo, OneHasLetGo, OneIsQuiet}
 use Rattle.object_core.specs.Leaving.{OneLeaves, OneRests, left_of}
 use Rattle.object_core.specs.Once.{OneServesOnce}
 use Rattle.object_core.specs.One.{HasItsClass, IsGivenUnasked, TellsNow, class_in}
@@ -29,9 +32,11 @@ use Rattle.timeline.specs.declared.caller.Caller.{Caller}
 use Rattle.timeline.specs.declared.event.Event.{Event}
 use Rattle.timeline.specs.declared.message.Message.{Message}
 use Rattle.timeline.specs.declared.notice.Waits.{Waits}
-use Rattle.host_core.proofs.Quiet.{all_routed, nothing_to_do}
+use Rattle.timeline.specs.declared.notice.Waits.TheVariants as waits
+use Rattle.host_core.proofs.Quiet.{all_routed, nothing_to_do, row_lets_go}
+use Rattle.host_core.proofs.Untouched.{row_untouched}
 use Rattle.host_core.specs.Closing.{IsLeftOf, IsSettledOf}
-use Rattle.host_core.specs.Quiet.{IsSettled}
+use Rattle.host_core.specs.Quiet.{IsSettled, WaitsForRouted}
 use Rattle.host_core.specs.Slots.{IsGoing, IsResting}
 use Rattle.host_core.specs.declared.report.SlotReport.{SlotReport}
 
@@ -51,7 +56,8 @@ module _ {D : Type 0} (moment_of : D → ℕ) (left_since : D → ℕ → List �
     (front_is : fronted row.front ≡ fronted core.front.half.log) (back_is : backed row.back ≡ backed core.back.log)
     (quiet : OneIsQuiet moment_of left_since told image faults_of core) (leaves : OneLeaves moment_of left_since told image faults_of core)
     (rests : OneRests moment_of left_since told image faults_of core) (sticks : OneSticks moment_of left_since told image faults_of core)
-    (serves : OneServesOnce moment_of left_since told image faults_of core) where
+    (serves : OneServesOnce moment_of left_since told image faults_of core) (lets_go : OneHasLetGo moment_of left_since told image faults_of core)
+    (waits_for : OneWaitsForFetches moment_of left_since told image faults_of core) (classless : OneWithoutClass moment_of left_since told image faults_of core) where
   module _ (limit : ℕ) (script : Script) (content : Option (List ℕ)) (named : Option Object) (posts : List Event) (routed : List Message) (inbox : Both Event) (out : Both Message)
       (going : IsGoing moment_of left_since told image faults_of limit script content named posts routed core inbox out) (resting : IsResting script core inbox)
       (none : out.waiting ≡ []) (remaining : List (Caller × Waits)) (is_left : IsLeftOf core.front.half remaining)
@@ -136,6 +142,32 @@ module _ {D : Type 0} (moment_of : D → ℕ) (left_since : D → ℕ → List �
           (subst (λ (items : List (Caller × Waits)). IsServedOnce (called_in core.inbox.got) (replied_in (sent_on core.out)) (callers items))
           (sym (is_left script going.one.st half (rests script going.origin tells going.one class.0 class.1 has_class goes nothing))) once))
 
+      -- what a left call waits for was routed, and got no answer
+      waits_at : AreFitting script (class_in script named) posts → (from : Caller) (incarnation number : ℕ)
+          → Contains (left_at script going.one.st) (from, waits.Fetch incarnation number)
+          → IsUnanswered posts routed (incarnation, number)
+      waits_at fit from incarnation number has =
+          let own : AreFitting script (class_in script going.origin.object) core.inbox.got =
+          subst (λ (o : Option Object). AreFitting script (class_in script o) core.inbox.got) (sym going.begun.object)
+          (subst (AreFitting script (class_in script named)) (sym all_got) fit) in
+          subst (λ (es : List Event). IsUnanswered es routed (incarnation, number)) all_got
+          (subst (λ (ms : List Message). IsUnanswered core.inbox.got ms (incarnation, number))
+          (all_routed moment_of left_since told image faults_of core limit script content named posts routed inbox out going resting none)
+          (waits_for script going.origin tells going.one has_class goes nothing going.begun.left own from incarnation number has))
+
+      each_waits : AreFitting script (class_in script named) posts → (item : Caller × Waits) → Contains (left_at script going.one.st) item → WaitsForRouted posts routed item
+      each_waits fit (from, waits.Fetch incarnation number) has = waits_at fit from incarnation number has
+      each_waits fit (from, waits.Call class name) has = tt
+      each_waits fit (from, waits.Block) has = tt
+
+      row_waits : AreFitting script (class_in script named) posts → All (WaitsForRouted posts routed) remaining
+      row_waits fit =
+          let class = class_now going.one.st.class in
+          subst (All (WaitsForRouted posts routed))
+          (sym (is_left script going.one.st half (rests script going.origin tells going.one class.0 class.1 has_class goes nothing)))
+          (All-weaker (Contains (left_at script going.one.st)) (WaitsForRouted posts routed) (each_waits fit) (left_at script going.one.st)
+          (All-contains_itself (left_at script going.one.st)))
+
       row_settled : IsSettled limit script content named posts routed remaining row
       row_settled = record {
         origin = going.origin;
@@ -145,6 +177,8 @@ module _ {D : Type 0} (moment_of : D → ℕ) (left_since : D → ℕ → List �
         quiet = λ class is. row_quiet class (class_is class is);
         left = λ class is. row_left class (class_is class is);
         once = row_once;
+        let_go = row_lets_go moment_of left_since told image faults_of core row store_is front_is back_is lets_go limit script content named posts routed inbox out going resting none is_told has;
+        waits = row_waits;
       }
 
     settled_as : (stuck : Bool) → core.front.half.stuck ≡ stuck
@@ -153,5 +187,10 @@ module _ {D : Type 0} (moment_of : D → ℕ) (left_since : D → ℕ → List �
     settled_as false is = inr (row_settled is)
 
   pub is_settled_of : IsSettledOf moment_of left_since told image faults_of core row
-  is_settled_of limit script content named posts routed inbox out going resting none remaining is_left is_told has =
-      settled_as limit script content named posts routed inbox out going resting none remaining is_left is_told has core.front.half.stuck refl
+  is_settled_of limit script content named posts routed inbox out going resting none remaining is_left = record {
+    known = λ is_told has.
+        settled_as limit script content named posts routed inbox out going resting none remaining is_left is_told has core.front.half.stuck refl;
+    unknown = λ is_told unknown unposted.
+        row_untouched moment_of left_since told image faults_of core row store_is front_is back_is classless limit script content named posts routed inbox out going resting none
+        remaining is_left is_told unknown unposted;
+  }

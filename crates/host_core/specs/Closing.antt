@@ -21,7 +21,7 @@ use Rattle.timeline.specs.declared.message.Message.{Message}
 use Rattle.timeline.specs.declared.notice.Waits.{Waits}
 use Rattle.object_core.specs.One.{HasItsClass, IsGivenUnasked}
 use Rattle.object_core.specs.declared.object.Core.{Core}
-use Rattle.host_core.specs.Quiet.{IsLetGo, IsSettled, remaining_of}
+use Rattle.host_core.specs.Quiet.{IsLetGo, IsOfNoClass, IsSettled, IsUntouched, remaining_of}
 use Rattle.host_core.specs.Rows.{IsRow}
 use Rattle.host_core.specs.Slots.{IsGoing, IsResting, IsSlot}
 use Rattle.host_core.specs.declared.report.SlotReport.{SlotReport}
@@ -56,11 +56,12 @@ pub record AddsLeft (slot : ℕ) (front : Half Evaluated) (asked : Result (Unit 
   pub is_left : IsLeftOf front remaining
 
 -- A slot with an object of a class that the script has, or with none, is quiet while its disk tells its content; or its front stands still at an
--- answer to what it didn't ask.
-abbrev pub IsSettledUnless : {D : Type 0} (told : D → Option (List ℕ)) → (limit : ℕ) → Script → (content : Option (List ℕ)) → (named : Option Object) → (posts : List Event)
-    → (routed : List Message) → (remaining : List (Caller × Waits)) → SlotReport D → Type 0
-IsSettledUnless told limit script content named posts routed remaining row = IsTold (told row.store) → HasItsClass script named
-    → IsGivenUnasked (fronted row.front) posts ⊎ IsSettled limit script content named posts routed remaining row
+-- answer to what it didn't ask. One with an object of another class is as it was where nothing was posted to it.
+pub record IsSettledUnless {D : Type 0} (told : D → Option (List ℕ)) (limit : ℕ) (script : Script) (content : Option (List ℕ)) (named : Option Object) (posts : List Event)
+    (routed : List Message) (remaining : List (Caller × Waits)) (row : SlotReport D) : Type 0 where
+  pub known : IsTold (told row.store) → HasItsClass script named
+      → IsGivenUnasked (fronted row.front) posts ⊎ IsSettled limit script content named posts routed remaining row
+  pub unknown : IsTold (told row.store) → IsOfNoClass script named → posts ≡ [] → IsUntouched posts routed remaining row
 
 -- So does the row of this object tell, where it goes on and rests, none of its messages waits to be routed, and its front has left this.
 abbrev pub IsSettledOf : {D : Type 0} (moment_of : D → ℕ) (left_since : D → ℕ → List ℕ → Type 0) (told : D → Option (List ℕ)) (image : D → List ℕ → Type 0) (faults_of : D → ℕ)

@@ -1,5 +1,5 @@
 -- How a run ends.
-use Rattle.std.specs.Prelude.{◌≡◌, ℕ, Bool, true, false, List, Result, Ok, Err, ⊤}
+use Rattle.std.specs.Prelude.{ℕ, Bool, true, false, Result, Ok, Err, ⊤}
 use Rattle.mailbox.specs.declared.fault.SwitchFault.{SwitchFault}
 use Rattle.mailbox.specs.declared.fault.SwitchFault.TheVariants as switch
 use Rattle.line_server.specs.declared.fault.LineFault.{LineFault}

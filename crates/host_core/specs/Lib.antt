@@ -3,8 +3,9 @@ pub mod Moving
 pub mod Slots
 pub mod Objects
 pub mod Running
-pub mod Rows
 pub mod Quiet
+pub mod Rows
+pub mod Asked
 pub mod Dropped
 pub mod Closing
 pub mod Reading

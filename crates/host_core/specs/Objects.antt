@@ -49,5 +49,5 @@ abbrev pub AreThere : ℕ → SwitchLog → Type 0
 AreThere slots log = All (λ sent. sent.0 < slots) log.routed
 
 -- Each slot's disk tells its content now.
-abbrev pub AllTell : {D : Type 0} → (told : D → Option (List ℕ)) → Objects D → Type 0
-AllTell {D} told objects = (slot : ℕ) (core : Core D) → slice_get objects.cores.items slot ≡ Some core → TellsNow told core.back
+abbrev pub ObjectsTell : {D : Type 0} → (told : D → Option (List ℕ)) → Objects D → Type 0
+ObjectsTell {D} told objects = (slot : ℕ) (core : Core D) → slice_get objects.cores.items slot ≡ Some core → TellsNow told core.back

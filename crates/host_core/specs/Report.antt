@@ -1,5 +1,5 @@
 -- What the report of a run tells, and what a run does.
-use Rattle.std.specs.Prelude.{◌≡◌, ◌≢◌, ◌⊎◌, ◌<◌, ◌≤◌, ℕ, true, List, [], ◌++◌, length, take, Option, Some, None, IfSome, IsSome, option_map, ⊤}
+use Rattle.std.specs.Prelude.{◌≡◌, ◌≢◌, ◌⊎◌, ◌<◌, ◌≤◌, ℕ, true, List, [], ◌++◌, length, take, Option, None, IfSome, IsSome, option_map, ⊤}
 use Rattle.do_disk.specs.Asks.{Ask}
 use Rattle.do_disk.specs.Disk.{IfTold, Rose}
 use Rattle.do_tree.specs.Tree.{Script}
@@ -12,6 +12,7 @@ use Rattle.timeline.specs.Switch.{SwitchLog, IsSwitchRun, gave, no_log, opened}
 use Rattle.timeline.specs.declared.caller.Caller.{Caller}
 use Rattle.timeline.specs.declared.notice.Waits.{Waits}
 use Rattle.line_server.specs.Limits.{most_lines}
+use Rattle.host_core.specs.Asked.{AreAskedOnce}
 use Rattle.host_core.specs.Complete.{AreUnended}
 use Rattle.host_core.specs.Dropped.{AreDropsOnly}
 use Rattle.host_core.specs.Ends.{is_served}
@@ -55,7 +56,7 @@ pub record IsFinished {S : Type 0} (told : S → Option (List ℕ)) (limit : ℕ
   pub settled : AreSettled told limit script contents named log left rows
   pub left_in : AreLeftIn (length rows) left
   pub calls : AreCallsInOrder after rows
-  pub once : AreCallsAnswered told script named before after left rows
+  pub once : AreCallsAnswered told before log after left rows
 
 -- The report has the one actual history. The slots had these objects at the opening, each in one slot. Each row tells of its slot; the
 -- switch's log is that of a run; each message that was routed came from a slot of a row; and no call that was posted was dropped. Each slot's journal
@@ -70,6 +71,7 @@ pub record IsReport {S : Type 0} (moment_of : S → ℕ) (left_since : S → ℕ
   pub run : IsRunSoFar script (opened named) (seen_log report.switch)
   pub there : AreThere (length report.slots.items) (seen_log report.switch)
   pub drops : AreDropsOnly told script named (seen_log report.switch) report.slots.items
+  pub asked : AreAskedOnce told (seen_log report.switch) report.slots.items
   pub finished : is_served end ≡ true → IsFinished told limit script contents named (seen_log report.switch) report.slots.items
   -- where all was served that was read, nothing is held back
   pub quiet : is_served end ≡ true → AreLetGo told script named (seen_log report.switch) report.slots.items

@@ -13,7 +13,9 @@ use Rattle.object_core.specs.One.{Origin, class_in, messages}
 use Rattle.object_core.specs.Owing.{IsOwed}
 use Rattle.object_front.specs.Came.{AreCome}
 use Rattle.object_front.specs.Classed.{class_by}
+use Rattle.object_messages.specs.Naming.{asked_in}
 use Rattle.object_messages.specs.Ends.{TellNoEnd}
+use Rattle.object_messages.specs.Unmoved.{AreAnswers}
 use Rattle.output_gate.specs.Telling.{HasTold, opened_map}
 use Rattle.placement.specs.Slots.{Slots, object_at}
 use Rattle.storage_map.specs.Limits.{Object}
@@ -25,6 +27,7 @@ use Rattle.timeline.specs.declared.entry.Body.TheVariants as body
 use Rattle.timeline.specs.declared.entry.Entry.{Entry}
 use Rattle.timeline.specs.declared.event.Event.{Event}
 use Rattle.timeline.specs.declared.message.Message.{Message}
+use Rattle.host_core.specs.Quiet.{IsOfNoClass}
 use Rattle.host_core.specs.Slots.{IsBegun}
 use Rattle.host_core.specs.declared.report.SlotReport.{SlotReport}
 
@@ -47,8 +50,8 @@ pub record AreServed {S : Type 0} (posts : List Event) (row : SlotReport S) : Ty
 -- While its disk tells its content: what the object said is what its script tells over the delivered events, each incarnation over the map
 -- with which it starts, and events were delivered through the input gate; what a crash leaves, now or at any moment since the opening,
 -- recovers to a prefix of its whole batches, which since a release holds what the release needs; nobody was replied to more often than he
--- called, and each call and fetch that left was sent; where no incarnation has stopped, no message that left tells of an end; and where
--- what was posted fits, no call and no binding of it was dropped. Over any disk: an end by a full journal names this number of bytes, and came only where the frame would have passed it.
+-- called, and each call and fetch that left was sent; where no incarnation has stopped, no message that left tells of an end; where
+-- what was posted fits, no call and no binding of it was dropped; and an object of no class of the script, to which nothing but answers was posted, asked nothing. Over any disk: an end by a full journal names this number of bytes, and came only where the frame would have passed it.
 pub record IsRow {S : Type 0} (moment_of : S → ℕ) (left_since : S → ℕ → List ℕ → Type 0) (told : S → Option (List ℕ)) (faults_of : S → ℕ)
     (limit : ℕ) (script : Script) (content : Option (List ℕ)) (named : Option Object) (posts : List Event) (routed : List Message) (row : SlotReport S) : Type 0 where
   pub origin : Origin
@@ -66,6 +69,7 @@ pub record IsRow {S : Type 0} (moment_of : S → ℕ) (left_since : S → ℕ �
   pub unended : IsTold (told row.store) → (backed row.back).stops ≡ [] → TellNoEnd (messages row.back.released.items)
   pub full : (stop : Stop) → Contains (backed row.back).stops stop → IsFullAt limit stop.cause
   pub drops : IsTold (told row.store) → AreFitting script (class_in script named) posts → DropsOnly posts (fronted row.front) row.back.downs.items
+  pub silent : IsTold (told row.store) → IsOfNoClass script named → AreAnswers posts → asked_in (messages row.back.released.items) ≡ []
 
 -- Each row tells this of its own slot.
 abbrev pub AreRows : {S : Type 0} (moment_of : S → ℕ) (left_since : S → ℕ → List ℕ → Type 0) (told : S → Option (List ℕ)) (faults_of : S → ℕ)

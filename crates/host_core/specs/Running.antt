@@ -13,7 +13,7 @@ use Rattle.mailbox.specs.declared.fault.SwitchFault.TheVariants.{NoMemory, Write
 use Rattle.mailbox.specs.declared.switch.Switch.{Switch}
 use Rattle.placement.specs.Slots.{Slots}
 use Rattle.switch_history.specs.Fit.{IsFitRun}
-use Rattle.host_core.specs.Objects.{AllTell, AreSlots, AreGoing, AreResting, AreRouted, AreThere}
+use Rattle.host_core.specs.Objects.{ObjectsTell, AreSlots, AreGoing, AreResting, AreRouted, AreThere}
 use Rattle.do_disk.specs.Disk.{Rose}
 use Rattle.host_core.specs.declared.serving.Stop.{Stop}
 use Rattle.host_core.specs.declared.serving.Stop.TheVariants as stops
@@ -29,7 +29,7 @@ module _ {D W : Type 0} (moment_of : D → ℕ) (left_since : D → ℕ → List
     pub many : slots_of switch ≡ length objects.cores.items
     pub goes : fault_of switch ≡ None
     -- while all disks tell their content, each message that was routed was fit
-    pub fit : AllTell told objects → IsFitRun script (opened named) (log_of switch) (state_of switch)
+    pub fit : ObjectsTell told objects → IsFitRun script (opened named) (log_of switch) (state_of switch)
 
   -- At any end.
   pub record HasServed (contents : ℕ → Option (List ℕ)) (named : Slots) (switch : Switch W) (objects : Objects D) : Type 0 where

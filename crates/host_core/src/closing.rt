@@ -12,8 +12,8 @@ ghost use Rattle.output_gate.specs.Serving.{CanServe};
 ghost use Rattle.output_gate.specs.Storing.{IsDiskOf};
 ghost use Rattle.timeline.specs.Logs.{backed, fronted};
 ghost use Rattle.host_core.specs.Closing.{AddsLeft, AreSettledUnless, IsLetGoOf, IsRowOf, IsSettledOf, with_slot};
-ghost use Rattle.host_core.specs.Objects.{AllTell, AreGoing, AreResting, AreRouted, AreSlots, CanAllRun};
-ghost use Rattle.host_core.specs.Quiet.{AreLeftIn, AreLetGo, TellAll};
+ghost use Rattle.host_core.specs.Objects.{ObjectsTell, AreGoing, AreResting, AreRouted, AreSlots, CanAllRun};
+ghost use Rattle.host_core.specs.Quiet.{AreLeftIn, AreLetGo, RowsTell};
 ghost use Rattle.host_core.specs.Rows.{AreRows};
 
 use crate::objects::Objects;
@@ -50,7 +50,7 @@ pub(crate) fn close<D: Disk + Drop>(
         → AreRouted objects → AreSettledUnless D.told limit script contents named log left.new.items rows.new.items) }
     ensures left_in { OnOk result (AreLeftIn (length objects.cores.items) left.new.items) }
     ensures many { length rows.new.items ≡ length objects.cores.items }
-    ensures tells { TellAll D.told rows.new.items → AllTell D.told objects }
+    ensures tells { RowsTell D.told rows.new.items → ObjectsTell D.told objects }
 {
     let mut asked = Ok(());
     for core in objects.into_cores() {
@@ -93,6 +93,8 @@ fn close_slot<D: Disk + Drop>(
     laws::one_serves_once(&core);
     laws::one_sticks(&core);
     laws::one_drops(&core);
+    laws::one_waits_for_fetches(&core);
+    laws::one_without_class(&core);
     let (front, back) = core.split();
     let asked = ask(alloc, asked, slot, &front, left);
     (row_of(front, back), asked)

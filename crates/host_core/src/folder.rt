@@ -150,6 +150,10 @@ fn serve_slots<D: Disk + Drop, R: Source, W: Sink, T: Wait>(
     switch_history::laws::moments_are_in_range();
     switch_history::laws::calls_are_answered_once();
     switch_history::laws::asks_are_answered_once();
+    switch_history::laws::answers_are_no_more_than_asks();
+    switch_history::laws::unknown_is_only_answered();
+    switch_history::laws::fetches_are_open();
+    switch_history::laws::left_has_its_line();
     let mut left = Vec::new(alloc);
     let closed = close(alloc, objects, &mut report.slots, &mut left);
     let end = finish(&mut switch, served, closed, left);

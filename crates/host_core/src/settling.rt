@@ -5,7 +5,7 @@ ghost use Rattle.do_tree.specs.Tree.{Script};
 ghost use Rattle.placement.specs.Slots.{Slots};
 ghost use Rattle.timeline.specs.Switch.{SwitchLog};
 ghost use Rattle.mailbox.specs.Runs.{log_of};
-ghost use Rattle.host_core.specs.Objects.{AllTell, AreSlots, AreGoing, AreResting, AreRouted, CanAllRun};
+ghost use Rattle.host_core.specs.Objects.{ObjectsTell, AreSlots, AreGoing, AreResting, AreRouted, CanAllRun};
 ghost use Rattle.host_core.specs.Running.{HasServed, IsServing, Prints};
 
 use crate::moving::run_slot;
@@ -155,7 +155,7 @@ fn run_slots<D: Disk, T: Wait>(
         → AreSlots D.moment_of D.left_since D.told D.image D.faults_of limit (script_in checked.now) contents named log objects.new) }
     ensures again { CanAllRun D.moment_of D.left_since D.told D.image D.faults_of (script_in checked.now) objects.new }
     ensures many { length objects.new.cores.items ≡ length objects.old.cores.items }
-    ensures tells { AllTell D.told objects.new → AllTell D.told objects.old }
+    ensures tells { ObjectsTell D.told objects.new → ObjectsTell D.told objects.old }
 {
     let slots = objects.cores.len();
     for slot in 0..slots {

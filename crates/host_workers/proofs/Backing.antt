@@ -1,12 +1,9 @@
 -- The cell of a back is kept by each of its steps.
-use Rattle.std.proofs.Common.{◌≡◌, ◌≢◌, ◌∙◌, ap, sym, refl, subst, inl, inr, ⊎_elim, true≢false, ℕ, ◌≤◌, List, [], ◌∷◌, ◌++◌, length, append-nil, append_assoc, Option, Some, None}
+use Rattle.std.proofs.Common.{◌≡◌, ◌≢◌, ◌∙◌, ap, sym, refl, subst, inl, inr, ⊎_elim, true≢false, ℕ, List, [], ◌∷◌, ◌++◌, append-nil, Option}
 use Rattle.std.proofs.lemmas.Bool.{cases_eq}
 use Rattle.std.proofs.lemmas.List.{map-append}
 use Rattle.std.specs.Prelude.{Bool, true, false, not, ◌&&◌, ◌⊎◌, option_to_list, Result, Ok, Err, OnOk, OnErr}
-use Rattle.std.specs.List.{flat_map}
 use Rattle.do_value.specs.declared.fault.NoMemory.{NoMemory}
-use Rattle.lane.specs.Lanes.{StartsWith}
-use Rattle.storage_map.specs.Contents.{Contents}
 use Rattle.storage_map.specs.declared.op.Op.{Op}
 use Rattle.timeline.specs.Logs.{Backed, backed}
 use Rattle.timeline.specs.declared.back_log.Release.{Release}
@@ -28,8 +25,7 @@ use Rattle.output_gate.specs.Taking.{fit_of, may_take}
 use Rattle.output_gate.specs.Telling.{opened_map}
 use Rattle.output_gate.specs.declared.back.Back.{Back}
 use Rattle.output_gate.specs.declared.back.Ending.{Ending}
-use Rattle.output_gate.specs.declared.back.Mode.{Mode}
-use Rattle.output_gate.specs.declared.back.Mode.TheVariants.{Mounted, Wanted}
+use Rattle.output_gate.specs.declared.back.Mode.TheVariants.{Wanted}
 use Rattle.output_gate.specs.declared.held.Held.{Held as BackHeld}
 use Rattle.output_gate.specs.declared.held.HeldBody.{HeldBody}
 use Rattle.output_gate.specs.declared.held.HeldBody.TheVariants.{Message, Sync, Halt}
@@ -41,12 +37,11 @@ use Rattle.object_history.specs.Seen.{rear_of, stand_of}
 use Rattle.object_history.specs.Stepping.{BackSteps}
 use Rattle.object_core.proofs.Rebuilding.{seen_same}
 use Rattle.object_core.specs.One.{messages}
-use Rattle.object_core.specs.Seen.{seen_of}
 use Rattle.host_workers.proofs.Stepping.{disk_of, heard, none_is_few, one_is_few, silent_by, unheard_by, unseen_by}
 use Rattle.host_workers.specs.Backs.{IsBackOver}
 use Rattle.host_workers.specs.Runs.{Tells}
 
-free_of : (stuck waits few : Bool) → (not stuck && waits && few) ≡ true → stuck ≡ false
+pub free_of : (stuck waits few : Bool) → (not stuck && waits && few) ≡ true → stuck ≡ false
 free_of true waits few is = absurd cc
 free_of false waits few is = refl
 
@@ -60,13 +55,13 @@ not_mounted c is = absurd cc
 abbrev answer : Stepped → Result Stepped NoMemory
 answer stepped = Ok stepped
 
-did_not : {A : Type 0} → answer Did ≡ answer Nothing → A
+pub did_not : {A : Type 0} → answer Did ≡ answer Nothing → A
 did_not is = absurd cc
 
 abbrev refused : NoMemory → Result Stepped NoMemory
 refused fault = Err fault
 
-err_not : {A : Type 0} (fault : NoMemory) → refused fault ≡ answer Nothing → A
+pub err_not : {A : Type 0} (fault : NoMemory) → refused fault ≡ answer Nothing → A
 err_not fault is = absurd cc
 
 -- What is logged as released is what left.
@@ -76,16 +71,16 @@ log_left back moment held (Message sent) = map-append (λ (release : Release). r
 log_left back moment held (Sync number) = sym (append-nil (messages back.log.released.items))
 log_left back moment held (Halt cause) = sym (append-nil (messages back.log.released.items))
 
-log_taken : {D : Type 0} (back : Back D) (moment : ℕ) (held : BackHeld) (b : HeldBody) → (released_log back moment held b).taken ≡ back.log.taken.items
+pub log_taken : {D : Type 0} (back : Back D) (moment : ℕ) (held : BackHeld) (b : HeldBody) → (released_log back moment held b).taken ≡ back.log.taken.items
 log_taken back moment held (Message sent) = refl
 log_taken back moment held (Sync number) = refl
 log_taken back moment held (Halt cause) = refl
 
-flushed_stuck : {D : Type 0} (faults_of : D → ℕ) (old new : Back D) → Flushes faults_of old new → new.stuck ≡ old.stuck
+pub flushed_stuck : {D : Type 0} (faults_of : D → ℕ) (old new : Back D) → Flushes faults_of old new → new.stuck ≡ old.stuck
 flushed_stuck faults_of old new (inl all) = all.stuck
 flushed_stuck faults_of old new (inr ends) = ends.stuck
 
-flushed_taken : {D : Type 0} (faults_of : D → ℕ) (old new : Back D) → Flushes faults_of old new → new.log.taken.items ≡ old.log.taken.items
+pub flushed_taken : {D : Type 0} (faults_of : D → ℕ) (old new : Back D) → Flushes faults_of old new → new.log.taken.items ≡ old.log.taken.items
 flushed_taken faults_of old new (inl all) = ap (λ (x : Backed). x.taken) all.log
 flushed_taken faults_of old new (inr ends) = ap (λ (x : Backed). x.taken) ends.log
 
@@ -94,11 +89,11 @@ flushed_released faults_of old new (inl all) = ap (λ (x : Backed). x.released) 
 flushed_released faults_of old new (inr ends) = ap (λ (x : Backed). x.released) ends.log
 
 module _ {D : Type 0} (faults_of : D → ℕ) (old new : Back D) (ending : Ending) (notice : Notice) where
-  stuck_still : Remounts faults_of old new ending notice → new.stuck ≡ old.stuck
+  pub stuck_still : Remounts faults_of old new ending notice → new.stuck ≡ old.stuck
   stuck_still (inl begun) = ap (λ (b : Back D). b.stuck) begun.begins.same
   stuck_still (inr missed) = ap (λ (b : Back D). b.stuck) missed.misses.same
 
-  taken_still : Remounts faults_of old new ending notice → new.log.taken.items ≡ old.log.taken.items
+  pub taken_still : Remounts faults_of old new ending notice → new.log.taken.items ≡ old.log.taken.items
   taken_still (inl begun) = ap (λ (x : Backed). x.taken) begun.begins.log
   taken_still (inr missed) = ap (λ (x : Backed). x.taken) missed.misses.log
 

@@ -1,3 +1,5 @@
+mod Places
+mod Holding
 mod Reading
 mod Stepping
 mod Opening
@@ -11,3 +13,6 @@ mod SentBack
 mod SentTree
 mod SentFront
 mod SentSwitch
+mod Alone
+mod Halves
+mod SentBoard

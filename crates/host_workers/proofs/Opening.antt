@@ -2,7 +2,6 @@
 use Rattle.std.proofs.Common.{◌≡◌, ◌∙◌, ap, sym, refl, subst, inl, inr, ℕ, suc, arith, List, [], ◌++◌, length, Option}
 use Rattle.std.specs.Prelude.{Bool}
 use Rattle.std.specs.List.{flat_map}
-use Rattle.storage_map.specs.Contents.{Contents}
 use Rattle.storage_map.specs.declared.op.Op.{Op}
 use Rattle.timeline.specs.Logs.{Backed}
 use Rattle.timeline.specs.declared.entry.Entry.{Entry}
@@ -15,11 +14,11 @@ use Rattle.output_gate.specs.declared.back.Mode.TheVariants.{Mounted}
 use Rattle.output_gate.specs.declared.held.Held.{Held as BackHeld}
 use Rattle.object_history.specs.Seen.{held_of, stand_of}
 use Rattle.object_core.proofs.Due.{seen_is_rear}
+use Rattle.object_core.specs.Apart.{BackRuns, IsOpened, begins as mounts}
 use Rattle.object_core.specs.One.{messages}
 use Rattle.object_core.specs.Seen.{due_map, seen_of}
 use Rattle.host_workers.proofs.Stepping.{none_is_few}
 use Rattle.host_workers.specs.Backs.{IsBackOver, IsFresh}
-use Rattle.host_workers.specs.Runs.{IsOpened, Runs, begins}
 
 module _ {D : Type 0} (moment_of : D → ℕ) (left_since : D → ℕ → List ℕ → Type 0) (told : D → Option (List ℕ)) (image : D → List ℕ → Type 0) (faults_of : D → ℕ)
     (start : List (List Op)) (opening : ℕ) (back : Back D) (fresh : IsFresh back) (known : IsBack moment_of left_since told image faults_of start opening back) where
@@ -27,7 +26,7 @@ module _ {D : Type 0} (moment_of : D → ℕ) (left_since : D → ℕ → List �
   none_ended : {A : Type 0} (stops ends : ℕ) → stops ≡ 0 → stops ≡ suc ends → A
   none_ended stops ends none some = absurd (omega (arith, none, some))
 
-  is_mounted : (sound : Bool) → IsBackAs moment_of left_since told image faults_of start opening sound back → back.mode ≡ Mounted
+  pub is_mounted : (sound : Bool) → IsBackAs moment_of left_since told image faults_of start opening sound back → back.mode ≡ Mounted
   is_mounted sound (inl m) = m.safe.mode
   is_mounted sound (inr u) = none_ended (length back.log.stops.items) (length back.log.ends.items) (ap (λ (x : Backed). length x.stops) fresh.log) u.safe.gone
 
@@ -57,7 +56,7 @@ module _ {D : Type 0} (moment_of : D → ℕ) (left_since : D → ℕ → List �
           unheard = [];
           few = none_is_few;
           none_unheard = λ on. refl;
-          runs = subst (λ (x : List Entry × List Notice). Runs (opened_map start) (seen_of (opened_map start) back) x.0 (x.1 ++ [])) (λ i. (sym taken i, sym no_notice i))
-              (begins (seen_of (opened_map start) back) opened);
+          runs = subst (λ (x : List Entry × List Notice). BackRuns (opened_map start) (seen_of (opened_map start) back) x.0 (x.1 ++ [])) (λ i. (sym taken i, sym no_notice i))
+              (mounts (seen_of (opened_map start) back) opened);
         };
       }

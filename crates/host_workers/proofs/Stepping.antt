@@ -1,5 +1,5 @@
 -- What a back has told its front goes on with each of its steps.
-use Rattle.std.proofs.Common.{◌≡◌, ◌∙◌, ap, sym, refl, subst, inl, inr, true≢false, ℕ, ◌≤◌, arith, List, [], ◌∷◌, ◌++◌, length, append-nil, Option, Some, None}
+use Rattle.std.proofs.Common.{◌≡◌, ◌∙◌, ap, sym, refl, subst, inl, inr, true≢false, ℕ, ◌≤◌, arith, List, [], ◌++◌, length, append-nil, Option, Some, None}
 use Rattle.std.specs.Prelude.{Bool, false, true, option_to_list}
 use Rattle.batch_journal.specs.Rest.{disk_in}
 use Rattle.storage_map.specs.Contents.{Contents}
@@ -16,9 +16,11 @@ use Rattle.object_history.specs.Pair.{Rear, mounted}
 use Rattle.object_history.specs.Seen.{rear_of}
 use Rattle.object_history.specs.Stepping.{BackSteps, takes_own, takes_down, takes_late, flies, stops, sends, syncs, halts, begins, misses}
 use Rattle.object_core.proofs.Due.{is_due, seen_is_rear, steps_as_due, steps_unheard}
+use Rattle.object_core.specs.Alone.{HasTold}
+use Rattle.object_core.specs.Apart.{BackRuns, goes_on as goes_by}
 use Rattle.object_core.specs.One.{TellsNow}
 use Rattle.object_core.specs.Seen.{as_due, seen_of}
-use Rattle.host_workers.specs.Runs.{HasTold, Runs, Tells, goes_on}
+use Rattle.host_workers.specs.Runs.{Tells}
 
 pub none_is_few : 0 ≤ 1
 none_is_few = omega arith
@@ -68,7 +70,7 @@ module _ {D : Type 0} (moment_of : D → ℕ) (left_since : D → ℕ → List �
   disk_of sound back (inr u) = (u.disk, u.safe.store)
 
   -- The disk told its content before a step behind which it does.
-  earlier : (old new : Back D) → KeepsTelling told old.store new.store → Known old → TellsNow told new → TellsNow told old
+  pub earlier : (old new : Back D) → KeepsTelling told old.store new.store → Known old → TellsNow told new → TellsNow told old
   earlier old new keeps known tells =
       let at = disk_of _ old known in
       (at.0, at.1, told_before (told at.0) (told tells.0) (keeps at.0 tells.0 at.1 tells.1) tells.2)
@@ -80,10 +82,10 @@ module _ {D : Type 0} (moment_of : D → ℕ) (left_since : D → ℕ → List �
 
     -- the run with this step more
     run_more : (was : HasTold opened old sent) (more unheard : List Notice) → BackSteps (seen_of opened old) (seen_of opened new) got more
-        → (sent ++ was.unheard) ++ more ≡ later ++ unheard → Runs opened (seen_of opened new) new.log.taken.items (later ++ unheard)
+        → (sent ++ was.unheard) ++ more ≡ later ++ unheard → BackRuns opened (seen_of opened new) new.log.taken.items (later ++ unheard)
     run_more was more unheard steps is =
-        subst (λ (x : List Entry × List Notice). Runs opened (seen_of opened new) x.0 x.1) (λ i. (sym taken i, is i))
-        (goes_on (seen_of opened old) (seen_of opened new) old.log.taken.items got (sent ++ was.unheard) more was.runs
+        subst (λ (x : List Entry × List Notice). BackRuns opened (seen_of opened new) x.0 x.1) (λ i. (sym taken i, is i))
+        (goes_by (seen_of opened old) (seen_of opened new) old.log.taken.items got (sent ++ was.unheard) more was.runs
         (seen_is_rear moment_of left_since told image faults_of start opening new now) steps)
 
     drops_none : (was : HasTold opened old sent) → is_stopped old ≡ false → (more : List Notice) → (sent ++ was.unheard) ++ more ≡ sent ++ more
@@ -143,5 +145,5 @@ module _ {D : Type 0} (moment_of : D → ℕ) (left_since : D → ℕ → List �
           unheard = was.unheard;
           few = was.few;
           none_unheard = λ on. was.none_unheard (goes on);
-          runs = subst (λ (x : Rear × List Entry × List Notice). Runs opened x.0 x.1 (x.2 ++ was.unheard)) (λ i. (sym same i, sym still i, sym said i)) was.runs;
+          runs = subst (λ (x : Rear × List Entry × List Notice). BackRuns opened x.0 x.1 (x.2 ++ was.unheard)) (λ i. (sym same i, sym still i, sym said i)) was.runs;
         }

@@ -1,9 +1,9 @@
 -- The cell of a front is kept by its turns.
-use Rattle.std.proofs.Common.{◌≡◌, ◌∙◌, ap, sym, refl, subst, inl, inr, ⊎_elim, true≢false, ℕ, ℤ, ◌≤◌, arith, List, [], ◌∷◌, ◌++◌, length, append-nil, append_assoc, Option, Some, None}
-use Rattle.std.specs.Prelude.{Bool, true, false, ◌⊎◌, Result, Ok, Err, OnOk, OnErr}
+use Rattle.std.proofs.Common.{◌≡◌, ◌∙◌, ap, sym, refl, subst, inl, inr, ⊎_elim, true≢false, ℕ, ℤ, ◌≤◌, arith, List, [], ◌∷◌, ◌++◌, length, append-nil, append_assoc, Option}
+use Rattle.std.specs.Prelude.{Bool, true, false, Result, Ok, Err, OnOk, OnErr}
 use Rattle.do_tree.specs.Tree.{Script}
 use Rattle.do_value.specs.declared.fault.NoMemory.{NoMemory}
-use Rattle.timeline.specs.Intake.{Kind, Front, Taken, delivered, noticed, wanted, opened, sent_by, events_in}
+use Rattle.timeline.specs.Intake.{Kind, Front, Taken, delivered, noticed, wanted, opened, events_in}
 use Rattle.timeline.specs.Logs.{Fronted, fronted}
 use Rattle.timeline.specs.declared.entry.Entry.{Entry}
 use Rattle.timeline.specs.declared.event.Event.{Event}
@@ -11,7 +11,7 @@ use Rattle.timeline.specs.declared.notice.Notice.{Notice}
 use Rattle.object_front.proofs.Items.{IsItemOf, takes_none, delivers_it, wants_it, event_item}
 use Rattle.object_front.proofs.Sent.{sent_more}
 use Rattle.object_front.specs.Came.{events, HasGot, EventsCome}
-use Rattle.object_front.specs.Classed.{class_behind, class_by, ClassComes, IsClassed}
+use Rattle.object_front.specs.Classed.{class_behind, class_by, ClassComes}
 use Rattle.object_front.specs.Evaluated.{seen}
 use Rattle.object_front.specs.Sending.{AreSentToo}
 use Rattle.object_front.specs.Standing.{Stood, IsClass, IsCutShort, IsHalf, IsTakenBy, fresh, is_stopped, kind_in, nothing_logged}
@@ -24,6 +24,7 @@ use Rattle.object_front.specs.declared.turning.Turned.TheVariants.{Ran, Idle}
 use Rattle.front_history.specs.Turns.{TurnSteps}
 use Rattle.object_core.proofs.Alike.{class_for}
 use Rattle.object_core.proofs.FitTaken.{events_logged, fit_more, taken_fit}
+use Rattle.object_core.specs.Apart.{FrontRuns, is_made, turns as turns_on, halts as halts_at}
 use Rattle.object_core.specs.Fitting.{IsFitIntake}
 use Rattle.host_workers.specs.Fronts.{HasTaken, IsFrontOver, notices_in}
 
@@ -128,6 +129,8 @@ module _ (script : Script) (first : Option ℕ) (alarm : Option (ℤ × ℕ)) wh
         };
         has_got = subst (λ (got : List Event). HasGot half (fresh first alarm) got) (sym no_event) (come.begins half first alarm log);
         sent = ap (λ (x : Fronted). x.sent) log ∙ sym no_entry;
+        runs = subst (λ (x : List Event × List Notice × List Entry). FrontRuns script first alarm half (fresh first alarm) x.0 x.1 x.2)
+            (λ i. (sym no_event i, sym no_notice i, sym no_entry i)) (is_made half stands log);
       }
 
   module _ (old new : Half Evaluated) (inbox later_inbox : List Event) (notices later told : List Notice) (line later_line : List Entry)
@@ -208,6 +211,10 @@ module _ (script : Script) (first : Option ℕ) (alarm : Option (ℤ × ℕ)) wh
             classed = classes.goes_on script k.0 first (opened alarm) was.taken old new one.st inbox later_inbox notices later told on one.classed (was.by on) turns k.1;
             has_got = come.goes_on script k.0 (opened alarm) was.taken old new one.st inbox later_inbox notices later told on one.has_got (was.by on) turns k.1;
             sent = same_sent too;
+            runs =
+                let alike = sent_more line later_line old.log.sent.items new.log.sent.items too in
+                subst (λ (l : List Entry). FrontRuns script first alarm new led.stood later_inbox later l) (sym alike.is_sent)
+                (turns_on old new one.st inbox later_inbox notices later told line alike.more one.runs on turns alike.is_logged);
           }
 
       -- The turn at which memory was wanting: its item was logged, or nothing of it.
@@ -253,6 +260,10 @@ module _ (script : Script) (first : Option ℕ) (alarm : Option (ℤ × ℕ)) wh
             classed = classes.halts script k.0 first (opened alarm) was.taken old new one.st inbox later_inbox notices later told on one.classed (was.by on) halts k.1;
             has_got = come.halts script k.0 (opened alarm) was.taken old new one.st inbox later_inbox notices later told on one.has_got (was.by on) halts k.1;
             sent = same_sent too;
+            runs =
+                let alike = sent_more line later_line old.log.sent.items new.log.sent.items too in
+                subst (λ (l : List Entry). FrontRuns script first alarm new led.stood later_inbox later l) (sym alike.is_sent)
+                (halts_at old new one.st inbox later_inbox notices later told line alike.more one.runs on halts alike.is_logged);
           }
 
     -- What the front's own contract says of a turn.

@@ -13,6 +13,7 @@ use Rattle.object_front.specs.Evaluated.{seen}
 use Rattle.object_front.specs.Standing.{Stood, IsClass, IsCutShort, IsHalf, IsTakenBy, is_stopped, kind_in}
 use Rattle.object_front.specs.declared.evaluated.Evaluated.{Evaluated}
 use Rattle.object_front.specs.declared.half.Half.{Half}
+use Rattle.object_core.specs.Apart.{FrontRuns}
 use Rattle.object_core.specs.Fitting.{IsFitIntake}
 use Rattle.host_workers.specs.declared.front_cell.FrontCell.{FrontCell}
 
@@ -39,7 +40,8 @@ pub record HasTaken (script : Script) (first : Option ℕ) (alarm : Option (ℤ 
   pub notices : got ≡ notices_in taken ++ missed
 
 -- A front that was made with this class and this alarm. What it has logged as sent is what was sent on its end of the line. Each event that
--- its inbox gave was delivered, answered by `Down` or dropped, or is kept, but for at most one; and each notice that its end gave was taken.
+-- its inbox gave was delivered, answered by `Down` or dropped, or is kept, but for at most one; and each notice that its end gave was taken. It has
+-- come there by its turns.
 pub record IsFrontOver (script : Script) (first : Option ℕ) (alarm : Option (ℤ × ℕ)) (half : Half Evaluated) (inbox : List Event)
     (notices : List Notice) (line : List Entry) : Type 0 where
   pub st : Stood
@@ -48,6 +50,7 @@ pub record IsFrontOver (script : Script) (first : Option ℕ) (alarm : Option (�
   pub classed : IsClassed script first half st
   pub has_got : HasGot half st inbox
   pub sent : half.log.sent.items ≡ line
+  pub runs : FrontRuns script first alarm half st inbox notices line
 
 -- The script that a cell runs.
 abbrev pub script_of : {T : Type 0} → FrontCell T → Script

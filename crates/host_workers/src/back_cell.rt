@@ -8,8 +8,9 @@ ghost use Rattle.output_gate.specs.Flushing.{Flushes};
 ghost use Rattle.output_gate.specs.Mending.{Mends, may_mend};
 ghost use Rattle.output_gate.specs.Releasing.{Releases, may_release};
 ghost use Rattle.output_gate.specs.Serving.{IsBack, is_stopped};
+ghost use Rattle.output_gate.specs.Storing.{HasLimit};
 ghost use Rattle.output_gate.specs.Taking.{may_take};
-ghost use Rattle.host_workers.specs.Backs.{CanStep, IsBackCell, IsFresh, KeepsBackCell, SameLanes};
+ghost use Rattle.host_workers.specs.Backs.{CanStep, IsBackCell, IsCellAlone, IsFresh, KeepsBackCell, KeepsCellAlone, SameLanes};
 
 use do_disk::Disk;
 use do_value::Mem;
@@ -58,6 +59,9 @@ impl<D: Disk, T: Wait + Copy> BackCell<D, T> {
         ensures ends { (result.line ≡ line) × (result.notices ≡ notices) × (result.out ≡ out) }
         ensures cell { (start : List (List Op)) (opening : ℕ) → IsBack D.moment_of D.left_since D.told D.image D.faults_of start opening back
             → IsBackCell D.moment_of D.left_since D.told D.image D.faults_of start opening result }
+        ensures alone { (start : List (List Op)) (opening : ℕ) → IsBack D.moment_of D.left_since D.told D.image D.faults_of start opening back
+            → HasLimit back.limit back.store
+            → IsCellAlone D.moment_of D.left_since D.told D.image D.faults_of start opening back.identity back.limit back.cache.alarm result }
     {
         BackCell {
             back,
@@ -78,6 +82,7 @@ impl<D: Disk, T: Wait + Copy> BackCell<D, T> {
         ensures wanting { OnErr result (is_stopped self.new.back ≡ true) }
         ensures lanes { SameLanes self.old self.new }
         ensures cell { KeepsBackCell D.moment_of D.left_since D.told D.image D.faults_of self.old self.new }
+        ensures alone { KeepsCellAlone D.moment_of D.left_since D.told D.image D.faults_of self.old self.new }
     {
         self.back.take(&mut self.line, &mut self.notices)
     }
@@ -89,6 +94,7 @@ impl<D: Disk, T: Wait + Copy> BackCell<D, T> {
         ensures flushed { self.old.back.before ≢ self.old.back.durable → (result ≡ Did) × Flushes D.faults_of self.old.back self.new.back }
         ensures lanes { SameLanes self.old self.new }
         ensures cell { KeepsBackCell D.moment_of D.left_since D.told D.image D.faults_of self.old self.new }
+        ensures alone { KeepsCellAlone D.moment_of D.left_since D.told D.image D.faults_of self.old self.new }
     {
         self.back.flush()
     }
@@ -102,6 +108,7 @@ impl<D: Disk, T: Wait + Copy> BackCell<D, T> {
         ensures wanting { OnErr result (is_stopped self.new.back ≡ true) }
         ensures lanes { SameLanes self.old self.new }
         ensures cell { KeepsBackCell D.moment_of D.left_since D.told D.image D.faults_of self.old self.new }
+        ensures alone { KeepsCellAlone D.moment_of D.left_since D.told D.image D.faults_of self.old self.new }
     {
         self.back.release(&mut self.notices, &mut self.out)
     }
@@ -114,6 +121,7 @@ impl<D: Disk, T: Wait + Copy> BackCell<D, T> {
         ensures wanting { OnErr result (is_stopped self.new.back ≡ true) }
         ensures lanes { SameLanes self.old self.new }
         ensures cell { KeepsBackCell D.moment_of D.left_since D.told D.image D.faults_of self.old self.new }
+        ensures alone { KeepsCellAlone D.moment_of D.left_since D.told D.image D.faults_of self.old self.new }
     {
         self.back.mend(alloc, &mut self.notices)
     }

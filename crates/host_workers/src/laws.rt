@@ -2,6 +2,8 @@
 use crate::back_cell::BackCell;
 use crate::front_cell::FrontCell;
 use crate::lines_cell::LinesCell;
+use crate::names::Names;
+use crate::shared::Shared;
 use crate::switch_cell::SwitchCell;
 use do_disk::{Disk, Sink, Source};
 use std::sync::Wait;
@@ -26,4 +28,18 @@ pub fn switch_is_sent<'s, W: Sink + Send, T: Wait + Send>() {
 /// So may the lines', over a source that may.
 pub fn lines_are_sent<R: Source + Send, T: Wait + Send>() {
     is_sent::<LinesCell<R, T>>();
+}
+
+fn is_shared<X: Sync>() {}
+
+/// Workers in several threads may share a board.
+pub fn board_is_shared<
+    's,
+    L: Names + Send,
+    D: Disk + Send,
+    R: Source + Send,
+    W: Sink + Send,
+    T: Wait + Send,
+>() {
+    is_shared::<Shared<'s, L, D, R, W, T>>();
 }

@@ -2,13 +2,28 @@
 //! is tied to what went through its own ends.
 #![tactic(auto)]
 
+pub mod apart;
 mod back_cell;
+mod board;
+mod cells;
 mod front_cell;
+mod jobs;
+mod joining;
 pub mod laws;
 mod lines_cell;
+mod marks;
+mod names;
+mod shared;
 mod switch_cell;
 
 pub use back_cell::BackCell;
+pub use board::Board;
+pub use cells::Cells;
 pub use front_cell::FrontCell;
+pub use jobs::{MOST_STEPS, WorkEnd};
+pub use joining::join;
 pub use lines_cell::LinesCell;
+pub use marks::MOST_SLOTS;
+pub use names::Names;
+pub use shared::{Shared, Worked, work};
 pub use switch_cell::SwitchCell;

@@ -5,6 +5,7 @@ ghost use Rattle.lane.specs.Lanes.{StartsWith};
 
 use crate::plain::Plain;
 use crate::rule::{Begins, Clash, InOrder, Log, Notes, Roles, Sends, Takes};
+use crate::trail::Trail;
 use crate::traits::{Inlet, Outlet, SendFault};
 use crossbeam_queue::{RuledSegQueue, SegPass};
 use do_value::{Mem, NoMemory};
@@ -57,6 +58,7 @@ pub struct TakeEnd<T, R: Wait> {
     rt: R,
     shared: Arc<Shared<T>>,
     pass: SegPass<T, Log<T>>,
+    past: Trail<T>,
 }
 
 impl<T, R: Wait> Model for TakeEnd<T, R> {
@@ -72,7 +74,8 @@ impl<T, R: Wait> Model for TakeEnd<T, R> {
     ghost view = { λ s. record { lane = (arc_value s.shared).queue; told = s.pass.me.view.client.told; got = s.pass.me.view.client.got } };
 
     ghost invariant = { λ s. IsSegPassOf (arc_value s.shared).queue s.pass
-        × (s.pass.me.view.client ≡ log false true s.pass.me.view.client.told [] s.pass.me.view.client.got) };
+        × (s.pass.me.view.client ≡ log false true s.pass.me.view.client.told [] s.pass.me.view.client.got)
+        × (s.past.items ≡ s.pass.me.view.client.got) };
 }
 
 /// What was sent on a lane at one moment. It has no bytes. Contracts see which lane it is of, and what was sent.
@@ -118,6 +121,7 @@ pub fn make<T: Drop, R: Wait + Copy>(rt: &R, alloc: Global) -> Mem<(SendEnd<T, R
         rt: *rt,
         shared: other,
         pass: takes,
+        past: Trail::new(),
     };
     Ok((send, take))
 }
@@ -156,11 +160,13 @@ pub fn no_two<T: Drop, R: Wait + Copy>(one: TakeEnd<T, R>, other: TakeEnd<T, R>)
         rt,
         shared,
         mut pass,
+        past: _,
     } = one;
     let TakeEnd {
         rt: _,
         shared: _,
         pass: second,
+        past: _,
     } = other;
     let shared: &Shared<T> = &shared;
     shared.queue.absorb::<Clash>(&mut pass, second);
@@ -204,7 +210,9 @@ impl<T: Drop, R: Wait + Copy> Inlet<T> for TakeEnd<T, R> {
         ensures none { IfNone result ((self.new.got ≡ self.old.got) × StartsWith self.old.got self.old.told) }
     {
         let shared: &Shared<T> = &self.shared;
-        shared.queue.pop_as::<Takes, R>(&self.rt, &mut self.pass)
+        let item = shared.queue.pop_as::<Takes, R>(&self.rt, &mut self.pass)?;
+        self.past = self.past.and(&item);
+        Some(item)
     }
 }
 
@@ -240,14 +248,14 @@ fn drain<T: Drop, R: Wait + Copy>(
 }
 
 /// Takes a lane apart, once both its ends are in one place. What is left, as a queue of one thread, is what was sent and not
-/// taken. After `NoMemory` it is dropped.
+/// taken, behind what was taken. After `NoMemory` it is dropped.
 pub fn close<T: Drop, R: Wait + Copy>(
     alloc: Global,
     send: SendEnd<T, R>,
     take: TakeEnd<T, R>,
 ) -> Mem<Plain<T>>
     requires { send.lane ≡ take.lane }
-    ensures fresh { IfOk result (λ rest. rest.got ≡ []) }
+    ensures got { IfOk result (λ rest. rest.got ≡ take.got) }
     ensures rest { IfOk result (λ rest. send.sent ≡ take.got ++ rest.waiting) }
     ensures taken { StartsWith send.sent take.got }
 {
@@ -260,10 +268,11 @@ pub fn close<T: Drop, R: Wait + Copy>(
         rt: _,
         shared: _,
         pass: other,
+        past,
     } = take;
     let shared: &Shared<T> = &shared;
     shared.queue.absorb::<Roles>(&mut pass, other);
     look(&rt, &shared.queue, &mut pass);
     let rest = drain(&rt, alloc, &shared.queue, pass)?;
-    Ok(Plain::of(rest))
+    Ok(Plain::behind(past, rest))
 }

@@ -37,10 +37,15 @@ impl<T: Drop> Plain<T> {
         ensures got { result.got ≡ [] }
         ensures waiting { result.waiting ≡ waiting.items }
     {
-        Plain {
-            waiting,
-            past: Trail::new(),
-        }
+        Plain::behind(Trail::new(), waiting)
+    }
+
+    // A queue in which these wait, behind what was taken.
+    pub(crate) fn behind(past: Trail<T>, waiting: VecDeque<T>) -> Plain<T>
+        ensures got { result.got ≡ past.items }
+        ensures waiting { result.waiting ≡ waiting.items }
+    {
+        Plain { waiting, past }
     }
 }
 

@@ -366,7 +366,7 @@ module _ (k : Kind) (opened_map : Contents) (f : Front) (front : Fronted) (rear 
       (λ b. serves_not b.1.state None (sym b.1.mode ∙ mode)) pair.phase
 
   -- As many ends are known to it as there are incarnations before its own.
-  pair_ends : suc (length front.ends) ≡ f.incarnation
+  pub pair_ends : suc (length front.ends) ≡ f.incarnation
   pair_ends =
       let below : pair.below ≤ length rear.log.stops = ⊎_elim (λ t. omega (arith, t.0)) (λ b. omega (arith, b.0)) pair.phase in
       ap (λ (n : ℕ). suc n) (ap (λ (ends : List Cause). length ends) pair.ends ∙ length-map (take pair.below rear.log.stops) (λ (stop : Stop). stop.cause)

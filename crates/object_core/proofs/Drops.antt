@@ -69,7 +69,7 @@ apart (x ∷ first) between later rest is = (
 names_none : {A : Type 0} (asked : ℕ × ℕ) → Contains [] asked → A
 names_none asked has = absurd (omega (arith, has.1))
 
-names_one : (i n j m : ℕ) → Contains {X = ℕ × ℕ} ((j, m) ∷ []) (i, n) → ◌≡◌ {A = ℕ × ℕ} (j, m) (i, n)
+pub names_one : (i n j m : ℕ) → Contains {X = ℕ × ℕ} ((j, m) ∷ []) (i, n) → ◌≡◌ {A = ℕ × ℕ} (j, m) (i, n)
 names_one i n j m has =
     sym (All-contains (λ (asked : ℕ × ℕ). asked ≡ (j, m)) ((j, m) ∷ []) (i, n)
     (All-cons (λ (asked : ℕ × ℕ). asked ≡ (j, m)) (j, m) [] refl (All-nil (λ (asked : ℕ × ℕ). asked ≡ (j, m)))) has)

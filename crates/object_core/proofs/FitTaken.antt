@@ -17,7 +17,7 @@ use Rattle.object_core.specs.Fitting.{IsFitIntake}
 item_fit : (script : Script) (class : Option ℕ) (e : Event) (item : List Taken) → IsItemOf e item → is_fit script class e ≡ true → IsFitIntake script class item
 item_fit script class e item takes_none is = tt
 item_fit script class e item delivers_it is = (is, tt)
-item_fit script class e item (wants_it call) is = tt
+item_fit script class e item (wants_it call) is = (call, tt)
 
 module _ (script : Script) (st : Stood) (e : Event) where
   fit_as : (fit : Bool) → is_fit script st.class e ≡ fit → IsFitIntake script st.class (on_event script st e).item
@@ -52,7 +52,7 @@ pub fit_more : (script : Script) (class : Option ℕ) (taken more : List Taken) 
 fit_more script class [] more first rest = rest
 fit_more script class (delivered e ∷ taken) more first rest = (first.0, fit_more script (class_after script class e) taken more first.1 rest)
 fit_more script class (noticed n ∷ taken) more first rest = fit_more script class taken more first rest
-fit_more script class (wanted e ∷ taken) more first rest = fit_more script class taken more first rest
+fit_more script class (wanted e ∷ taken) more first rest = (first.0, fit_more script class taken more first.1 rest)
 
 -- The events that are logged are those that were taken.
 pub events_logged : (k : Kind) (f : Front) (taken : List Taken) → events (delivered_in k f taken) ≡ events_in taken

@@ -35,7 +35,7 @@ none_before : (i : ℕ) → IsOlder None i
 none_before i x is = absurd cc
 
 -- A front that has taken nothing.
-begins_fitted : (class : Option ℕ) (known : Bool) (alarm : Option (ℤ × ℕ)) → known ≡ is_some class → Fitted class known None (opened alarm)
+pub begins_fitted : (class : Option ℕ) (known : Bool) (alarm : Option (ℤ × ℕ)) → known ≡ is_some class → Fitted class known None (opened alarm)
 begins_fitted class known alarm same = record {
   fit = tt;
   knows = same;
@@ -45,7 +45,7 @@ begins_fitted class known alarm same = record {
   bound = λ none waits. absurd waits;
 }
 
-not_wanted : (stuck wanted few : Bool) → (not stuck && not wanted && few) ≡ true → wanted ≡ false
+pub not_wanted : (stuck wanted few : Bool) → (not stuck && not wanted && few) ≡ true → wanted ≡ false
 not_wanted false false few is = refl
 not_wanted false true few is = absurd cc
 not_wanted true wanted few is = absurd cc

@@ -31,7 +31,7 @@ some_stays script c (delivered (event.Answer incarnation number result at) ∷ t
 some_stays script c (delivered (event.Tick at) ∷ taken) fit is = some_stays script c taken fit.1 is
 some_stays script c (delivered (event.Evict at) ∷ taken) fit is = some_stays script c taken fit.1 is
 some_stays script c (noticed n ∷ taken) fit is = some_stays script c taken fit is
-some_stays script c (wanted e ∷ taken) fit is = some_stays script c taken fit is
+some_stays script c (wanted e ∷ taken) fit is = some_stays script c taken fit.1 is
 
 -- So that of an object that is bound.
 named_stays : (script : Script) (taken : List Taken) (named : Option ℕ) → is_some named ≡ true → IsFitIntake script named taken
@@ -50,7 +50,7 @@ none_delivered script None (delivered (event.Answer incarnation number result at
 none_delivered script None (delivered (event.Tick at) ∷ taken) fit is = absurd (true≢false (sym fit.0))
 none_delivered script None (delivered (event.Evict at) ∷ taken) fit is = absurd (true≢false (sym fit.0))
 none_delivered script None (noticed n ∷ taken) fit is = none_delivered script None taken fit is
-none_delivered script None (wanted e ∷ taken) fit is = none_delivered script None taken fit is
+none_delivered script None (wanted e ∷ taken) fit is = none_delivered script None taken fit.1 is
 
 -- Then none is logged.
 pub none_logged : (items : List (ℕ × Event)) → events items ≡ [] → items ≡ []

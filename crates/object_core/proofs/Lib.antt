@@ -8,10 +8,11 @@ mod SentFit
 mod DownSaid
 pub mod FitTaken
 mod KnownObject
+pub mod Knowing
 mod NextFits
 mod Fitting
 mod Lanes
-mod Naming
+pub mod Naming
 mod Pairing
 mod Sticking
 mod Becoming
@@ -19,13 +20,22 @@ mod Dropping
 pub mod Owing
 mod Leaving
 mod Drops
-mod Limiting
+pub mod Limiting
 pub mod Rebuilding
 mod Taking
 mod Flushing
 mod Releasing
 mod Mending
 mod Turning
+mod Forward
+mod Freeing
+mod Numbers
+mod Waiting
+mod Joining
+mod Meeting
+mod Joined
+mod Unheard
+mod Alone
 mod Choosing
 mod Turns
 mod Collects
@@ -39,3 +49,5 @@ pub mod Unended
 mod Serving
 mod Once
 pub mod Unmoved
+pub mod Classless
+pub mod Fetches

@@ -33,33 +33,10 @@ use Rattle.object_history.specs.Seen.{stand_of}
 use Rattle.object_core.proofs.DownSaid.{IsDown, DownFits}
 use Rattle.object_core.proofs.Emptied.{all_behind}
 use Rattle.object_core.proofs.Hearing.{not_none}
+use Rattle.object_core.proofs.Knowing.{FitsAt, fit_at, knows_as, last_is}
 use Rattle.object_core.proofs.KnownObject.{in_order, has_ended, number_is, never_late}
 use Rattle.object_core.specs.Fitting.{known_by, known_over, last_over, FitsKnown, AreFit}
 use Rattle.object_core.specs.Seen.{seen_of}
-
--- Of entries that fit, those before one fit, and that one behind them.
-record FitsAt (known : Bool) (last : Option Entry) (before : List Entry) (e : Entry) : Type 0 where
-  first : AreFit known last before
-  comes : comes_behind (last_over last before) e ≡ true
-  knows : FitsKnown (known_over known before) e.body
-
-fit_at : (known : Bool) (last : Option Entry) (before : List Entry) (e : Entry) (rest : List Entry) → AreFit known last (before ++ e ∷ rest) → FitsAt known last before e
-fit_at known last [] e rest fit = record { first = tt; comes = fit.0; knows = fit.1 }
-fit_at known last (x ∷ before) e rest fit =
-    let later = fit_at (known_by x.body known) (Some x) before e rest fit.2 in
-    record { first = (fit.0, fit.1, later.first); comes = later.comes; knows = later.knows }
-
--- The last of some entries.
-over_last : (x : Entry) (xs : List Entry) → last_over (Some x) xs ≡ last_of (x ∷ xs)
-over_last x [] = refl
-over_last x (y ∷ xs) =
-    let one : length (y ∷ xs) - 1 ≡ length xs = omega arith in
-    let two : suc (length xs) ≡ length (x ∷ y ∷ xs) - 1 = omega arith in
-    over_last y xs ∙ ap (λ (n : ℕ). slice_get (y ∷ xs) n) one ∙ ap (λ (n : ℕ). slice_get (x ∷ y ∷ xs) n) two
-
-last_is : (xs : List Entry) → last_over None xs ≡ last_of xs
-last_is [] = refl
-last_is (x ∷ xs) = over_last x xs
 
 -- What fits the object, and asks for no mounting, is taken of an incarnation that is or was mounted.
 known_fits : (known : Bool) (b : Body) → FitsKnown known b → is_mend b ≡ false → fits_mounted b known ≡ true
@@ -196,31 +173,6 @@ module _ {D : Type 0} (moment_of : D → ℕ) (left_since : D → ℕ → List �
       (fits_so (e.incarnation == back.number) (is_mounted_mode back.mode) (is_some back.identity) e.body) comes (within next) (body_fits next))
 
   -- Behind it the object is known where it was, or is bound by it.
-  own_knows : (b : Body) → is_some (identity_by b back.identity) ≡ known_by b (is_some back.identity)
-  own_knows (body.Bind identity) = refl
-  own_knows (body.Batch ops tail) = refl
-  own_knows (body.Ask ask) = refl
-  own_knows body.Sync = refl
-  own_knows (body.Message sent) = refl
-  own_knows (body.Halt c) = refl
-  own_knows body.Mend = refl
-
-  other_knows : (b : Body) → ((bound : Object) → b ≡ body.Bind bound → ⊥) → is_some back.identity ≡ known_by b (is_some back.identity)
-  other_knows (body.Bind identity) binds_not = absurd (binds_not identity refl)
-  other_knows (body.Batch ops tail) binds_not = refl
-  other_knows (body.Ask ask) binds_not = refl
-  other_knows body.Sync binds_not = refl
-  other_knows (body.Message sent) binds_not = refl
-  other_knows (body.Halt c) binds_not = refl
-  other_knows body.Mend binds_not = refl
-
-  knows_as : (x own_is on : Bool) (b : Body) → is_unfit (fit_as x own_is on) ≡ false → ((bound : Object) → b ≡ body.Bind bound → (own_is ≡ true) × (on ≡ true))
-      → is_some (identity_after (fit_as x own_is on) back.identity b) ≡ known_by b (is_some back.identity)
-  knows_as true true true b fits binds = own_knows b
-  knows_as true true false b fits binds = other_knows b (λ bound is. true≢false (sym (binds bound is).1))
-  knows_as true false on b fits binds = other_knows b (λ bound is. true≢false (sym (binds bound is).0))
-  knows_as false own_is on b fits binds = absurd (true≢false fits)
-
   bound_on : (bound : Object) → e.body ≡ body.Bind bound → (m : BackMode) → OwnFits (stand_of m) e.body → is_wanted m ≡ false → is_mounted_mode m ≡ true
   bound_on bound is Mounted fits none = refl
   bound_on bound is (Down ending) fits none = absurd (true≢false (sym fits ∙ ap fits_down is))
@@ -235,6 +187,6 @@ module _ {D : Type 0} (moment_of : D → ℕ) (left_since : D → ℕ → List �
 
   pub known_behind : is_some (identity_after (fit_of back e) back.identity e.body) ≡ known_by e.body (known_over first taken)
   known_behind =
-      knows_as fits_all (e.incarnation == back.number) (is_mounted_mode back.mode) e.body next_fits
+      knows_as back.identity fits_all (e.incarnation == back.number) (is_mounted_mode back.mode) e.body next_fits
       (λ bound is. let o = bound_own bound is next in (eq-eqb e.incarnation back.number o.0, o.1))
       ∙ ap (λ (x : Bool). known_by e.body x) object

@@ -35,7 +35,7 @@ use Rattle.object_core.specs.One.{HasItsClass, IsOne, Origin, TellsNow, class_in
 use Rattle.object_core.specs.declared.object.Core.{Core}
 
 -- The class of a front, or the first where it has none.
-class_is : (known : Option ℕ) → IsClass known (unwrap_or known 0)
+pub class_is : (known : Option ℕ) → IsClass known (unwrap_or known 0)
 class_is None = tt
 class_is (Some class) = refl
 

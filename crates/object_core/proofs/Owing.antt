@@ -19,9 +19,11 @@ use Rattle.object_front.specs.Came.{events}
 use Rattle.object_front.specs.Standing.{kind_in}
 use Rattle.output_gate.specs.Telling.{opened_map}
 use Rattle.front_history.specs.Turns.{HalvesAreSaid}
-use Rattle.object_messages.proofs.Counts.{times-append}
+use Rattle.object_messages.proofs.Counts.{times-append, times_of-append}
+use Rattle.object_messages.proofs.FrontsNumbering.{numbers_rise}
+use Rattle.object_messages.proofs.Once.{ascending_once}
 use Rattle.object_messages.specs.Laws.{PassedIsTaken, RepliesAreOwed, gone}
-use Rattle.object_messages.specs.Naming.{asked_by, asked_in, called_in, message_of, messages_of, replied_by, replied_in, times}
+use Rattle.object_messages.specs.Naming.{asked_by, asked_in, called_in, message_of, messages_of, replied_by, replied_in, times, times_of}
 use Rattle.object_core.proofs.Alike.{class_for}
 use Rattle.object_core.proofs.Telling.{is_history}
 use Rattle.object_core.specs.One.{IsOne, Origin, TellsNow, messages}
@@ -61,6 +63,12 @@ asks_among : (first whole : List Sent) → IsPrefix first whole → (asked : ℕ
 asks_among first whole (rest, is) asked has =
     subst (λ (all : List (ℕ × ℕ)). Contains all asked) (sym (flat_map-append asked_by first rest) ∙ ap asked_in is)
     (Contains-append_left (asked_in first) (asked_in rest) asked has)
+
+-- Nor does it ask this oftener.
+fewer_asks : (asked : ℕ × ℕ) (first whole : List Sent) → IsPrefix first whole → times_of asked (asked_in first) ≤ times_of asked (asked_in whole)
+fewer_asks asked first whole (rest, is) =
+    subst (λ (all : List (ℕ × ℕ)). times_of asked (asked_in first) ≤ times_of asked all) (sym (flat_map-append asked_by first rest) ∙ ap asked_in is)
+    (omega (arith, times_of-append asked (asked_in first) (asked_in rest)))
 
 -- So the messages among what entries say.
 pub messages_begin : (first whole : List Entry) → IsPrefix first whole → IsPrefix (messages_of first) (messages_of whole)
@@ -107,4 +115,11 @@ module _ {D : Type 0} (moment_of : D → ℕ) (left_since : D → ℕ → List �
         asked = λ asked has.
             asks_among (messages_of back.taken) (messages_of log.sent) was_sent asked
             ((takes log back).0 asked (asks_among (messages core.back.log.released.items) (gone (passed (history log back))) left asked has));
+        once = λ asked.
+            below_all (times_of asked (asked_in (messages core.back.log.released.items))) (times_of asked (asked_in (gone (passed (history log back)))))
+            (times_of asked (asked_in (messages_of back.taken))) (times_of asked (asked_in (messages_of log.sent))) (times_of asked (asked_in (messages_of said_so))) 1
+            (fewer_asks asked (messages core.back.log.released.items) (gone (passed (history log back))) left) ((takes log back).2 asked)
+            (fewer_asks asked (messages_of back.taken) (messages_of log.sent) was_sent)
+            (fewer_asks asked (messages_of log.sent) (messages_of said_so) was_said)
+            (ascending_once asked (asked_in (messages_of said_so)) (numbers_rise kind (opened_map origin.start).alarm pair.taken pair.by.gate));
       }

@@ -1,11 +1,12 @@
 -- What a step of the back leaves of the pair.
-use Rattle.std.proofs.Common.{◌≡◌, sym, subst, false, List, [], ◌++◌, append-nil}
+use Rattle.std.proofs.Common.{◌≡◌, ◌∙◌, ap, sym, subst, false, List, [], ◌++◌, append-nil}
 use Rattle.storage_map.specs.Contents.{Contents}
+use Rattle.timeline.specs.Intake as intake
 use Rattle.timeline.specs.Intake.{Kind, Front}
 use Rattle.timeline.specs.Logs.{Fronted, fronted}
 use Rattle.timeline.specs.declared.entry.Entry.{Entry}
 use Rattle.timeline.specs.declared.notice.Notice.{Notice}
-use Rattle.object_front.specs.Standing.{Stood, is_stopped}
+use Rattle.object_front.specs.Standing.{Stood, IsTakenBy, is_stopped}
 use Rattle.object_front.specs.declared.evaluated.Evaluated.{Evaluated}
 use Rattle.object_front.specs.declared.half.Half.{Half}
 use Rattle.object_history.specs.Pair.{Rear, IsPair}
@@ -47,3 +48,16 @@ pair_now k opened st half rear line notices on paired =
     (subst (λ (u : List Entry). IsPair k opened st.front (logged_with log u) rear (line ++ u) notices) (paired.sent_all on)
     (subst (λ (n : List Notice). IsPair k opened st.front (logged_with log paired.unsent) rear (line ++ paired.unsent) (n ++ notices)) (paired.missed_none on)
     (subst (λ (f : Front). IsPair k opened f (logged_with log paired.unsent) rear (line ++ paired.unsent) (paired.missed ++ notices)) (paired.stands on) paired.pair))))
+
+-- And has taken what it is paired by.
+pub taken_now : (k : Kind) (opened : Contents) (st : Stood) (half : Half Evaluated) (rear : Rear) (line : List Entry) (notices : List Notice)
+    → is_stopped half ≡ false → (paired : ArePaired k opened st half rear line notices)
+    → IsTakenBy k (intake.opened opened.alarm) paired.taken st.front (fronted half.log)
+taken_now k opened st half rear line notices on paired = record {
+  at = paired.by.at ∙ paired.stands on;
+  gate = paired.by.gate;
+  sent = sym (append-nil half.log.sent.items) ∙ ap (λ (x : List Entry). half.log.sent.items ++ x) (sym (paired.sent_all on)) ∙ paired.by.sent;
+  delivered = paired.by.delivered;
+  downed = paired.by.downed;
+  ends = paired.by.ends;
+}

@@ -47,6 +47,7 @@ use Rattle.object_history.specs.Pair.{Held, Stand, Rear, Together, unreached, an
 use Rattle.object_history.specs.Seen.{held_of, stand_of}
 use Rattle.front_history.specs.Turns.{HalvesAreWhole}
 use Rattle.object_core.proofs.Alike.{stuck_alike, waits_alike, enters_alike}
+use Rattle.object_core.proofs.Becoming.{pair_ends}
 use Rattle.object_core.proofs.Emptied.{NeedsAll, holds_nothing, all_released, all_durable, all_flushed}
 use Rattle.object_core.proofs.FitTaken.{events_logged}
 use Rattle.object_core.proofs.Hearing.{not_none}
@@ -155,6 +156,10 @@ module _ {D : Type 0} (moment_of : D → ℕ) (left_since : D → ℕ → List �
   is_pair : IsPair (kind_in script class) opened one.st.front front rear (one.lost ++ core.line.waiting) core.notices.waiting
   is_pair = pair_now (kind_in script class) opened one.st core.front.half rear (one.lost ++ core.line.waiting) core.notices.waiting front_goes (one.pair tells class is)
 
+  -- As many ends are logged as there are incarnations before its own.
+  pub one_ends : suc (length front.ends) ≡ one.st.front.incarnation
+  one_ends = pair_ends (kind_in script class) opened one.st.front front rear (one.lost ++ core.line.waiting) core.notices.waiting is_pair
+
   no_mounting : is_wanted back.mode ≡ false
   no_mounting = and_free back.stuck (is_wanted back.mode) fits_back nothing.mend
 
@@ -257,10 +262,10 @@ module _ {D : Type 0} (moment_of : D → ℕ) (left_since : D → ℕ → List �
         (pair_state (kind_in script class) opened one.st.front front rear (one.lost ++ core.line.waiting) core.notices.waiting is_pair o so)
 
     -- What its newest incarnation was delivered and has said is logged.
-    was_delivered : of_number (suc (length log.stops)) front.delivered ≡ one.st.front.events
+    pub was_delivered : of_number (suc (length log.stops)) front.delivered ≡ one.st.front.events
     was_delivered = ap (λ (n : ℕ). of_number n front.delivered) (sym is_newest) ∙ events_now one.st.front front is_pair.logged
 
-    has_said : said_in (entries_of (suc (length log.stops)) front.sent) ≡ one.st.front.said
+    pub has_said : said_in (entries_of (suc (length log.stops)) front.sent) ≡ one.st.front.said
     has_said =
         ap (λ (n : ℕ). said_in (entries_of n front.sent)) (sym is_newest) ∙ ap said_in (entries_now one.st.front front is_pair.logged)
         ∙ said_numbered one.st.front.incarnation 1 one.st.front.said

@@ -41,7 +41,7 @@ module _ (k : Kind) (script : Script) where
       sent_fits taken class first last i es (said ++ body.Mend ∷ []) (down (Some e))
       (easy_fitted class first last i es said (down None) fitted tt (body.Mend ∷ []) (down (Some e))
       (All-cons (Easy (known_over first (numbered i 1 said))) body.Mend [] (mend_easy _) (All-nil (Easy (known_over first (numbered i 1 said))))) (λ none waits. absurd waits))
-      may.1 fit
+      may.1 fit.1
   sent_fits (wanted e ∷ taken) class first last i es said (down (Some call)) fitted may fit = absurd (called call may.0)
   sent_fits (noticed (notice.Read number r) ∷ taken) class first last i es said (serves (waiting o u b)) fitted may fit =
       let step = answers (life k i) o u (answer.Read r) in

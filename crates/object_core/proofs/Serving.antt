@@ -43,7 +43,7 @@ numbered_of least most incarnation number [] above below = tt
 numbered_of least most incarnation number (b ∷ bodies) above below = ((above, below), numbered_of least most incarnation (suc number) bodies above below)
 
 -- an item leads on
-takes_on : (k : Kind) (i : ℕ) (es : List Event) (said : List Body) (mode : Mode) (t : Taken)
+pub takes_on : (k : Kind) (i : ℕ) (es : List Event) (said : List Body) (mode : Mode) (t : Taken)
     → i ≤ (takes k (record { incarnation = i; events = es; said = said; mode = mode }) t).incarnation
 takes_on k i es said (serves (idle o)) (delivered e) = omega arith
 takes_on k i es said (serves (waiting o t b)) (noticed (notice.Read number r)) = omega arith
@@ -56,7 +56,7 @@ takes_on k i es said (down call) (noticed (notice.Down cause before after)) = om
 takes_on k i es said mode (wanted e) = omega arith
 takes_on k i es said mode t = omega arith
 
-after_on : (k : Kind) (taken : List Taken) (f : Front) → f.incarnation ≤ (front_after k f taken).incarnation
+pub after_on : (k : Kind) (taken : List Taken) (f : Front) → f.incarnation ≤ (front_after k f taken).incarnation
 after_on k [] f = omega arith
 after_on k (t ∷ taken) f = omega (arith, takes_on k f.incarnation f.events f.said f.mode t, after_on k taken (takes k f t))
 
@@ -75,7 +75,7 @@ sent_of k (t ∷ taken) f least above =
     (sent_of k taken (takes k f t) least (omega (arith, above, on)))
 
 -- What one of some items names, they name; and the other way.
-named_by : {X Y : Type 0} (f : X → List Y) (xs : List X) (y : Y) → Contains (flat_map f xs) y → (x : X) × Contains xs x × Contains (f x) y
+pub named_by : {X Y : Type 0} (f : X → List Y) (xs : List X) (y : Y) → Contains (flat_map f xs) y → (x : X) × Contains xs x × Contains (f x) y
 named_by f [] y is = absurd (omega (arith, is.1))
 named_by f (x ∷ xs) y is =
     elim (Contains-append_cases (f x) (flat_map f xs) y is) [
@@ -83,7 +83,7 @@ named_by f (x ∷ xs) y is =
       | inr later ↦ let rest = named_by f xs y later in (rest.0, Contains-append_right (x ∷ []) xs rest.0 rest.1, rest.2)
     ]
 
-names_by : {X Y : Type 0} (f : X → List Y) (xs : List X) (x : X) (y : Y) → Contains xs x → Contains (f x) y → Contains (flat_map f xs) y
+pub names_by : {X Y : Type 0} (f : X → List Y) (xs : List X) (x : X) (y : Y) → Contains xs x → Contains (f x) y → Contains (flat_map f xs) y
 names_by f [] x y there is = absurd (omega (arith, there.1))
 names_by {X} {Y} f (z ∷ xs) x y there is =
     elim (Contains-append_cases (z ∷ []) xs x there) [

@@ -31,11 +31,11 @@ none_later : {X : Type 0} (xs ys : List X) → any (xs ++ ys) ≡ false → any 
 none_later [] ys is = is
 none_later (x ∷ xs) ys is = absurd (true≢false is)
 
-no_events : (items : List (ℕ × Event)) → events items ≡ [] → items ≡ []
+pub no_events : (items : List (ℕ × Event)) → events items ≡ [] → items ≡ []
 no_events [] is = refl
 no_events (item ∷ items) is = let no : ⊥ = cc in absurd no
 
-first_of_none : {X : Type 0} (xs ys : List X) → xs ++ ys ≡ [] → xs ≡ []
+pub first_of_none : {X : Type 0} (xs ys : List X) → xs ++ ys ≡ [] → xs ≡ []
 first_of_none [] ys is = refl
 first_of_none (x ∷ xs) ys is = let no : ⊥ = cc in absurd no
 

@@ -6,6 +6,7 @@ use Rattle.timeline.specs.Intake.{Taken, delivered, noticed, wanted}
 use Rattle.timeline.specs.declared.entry.Body.{Body}
 use Rattle.timeline.specs.declared.entry.Body.TheVariants as body
 use Rattle.timeline.specs.declared.entry.Entry.{Entry}
+use Rattle.object_front.specs.Kinds.{is_call}
 use Rattle.object_front.specs.Taking.{class_after}
 use Rattle.output_gate.specs.Fits.{is_halting, comes_behind}
 
@@ -35,9 +36,9 @@ abbrev pub AreFit : (known : Bool) (last : Option Entry) → List Entry → Type
 AreFit known last [] = Unit {0}
 AreFit known last (e ∷ entries) = (comes_behind last e ≡ true) × FitsKnown known e.body × AreFit (known_by e.body known) (Some e) entries
 
--- Each event that was delivered was one that a front of the class takes that it then had.
+-- Each event that was delivered was one that a front of the class takes that it then had, and each that asks for a mounting is a call.
 abbrev pub IsFitIntake : Script → Option ℕ → List Taken → Type 0
 IsFitIntake script class [] = Unit {0}
 IsFitIntake script class (delivered e ∷ taken) = (is_fit script class e ≡ true) × IsFitIntake script (class_after script class e) taken
 IsFitIntake script class (noticed n ∷ taken) = IsFitIntake script class taken
-IsFitIntake script class (wanted e ∷ taken) = IsFitIntake script class taken
+IsFitIntake script class (wanted e ∷ taken) = (is_call e ≡ true) × IsFitIntake script class taken

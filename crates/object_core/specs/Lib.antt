@@ -5,6 +5,8 @@ pub mod Limited
 pub mod Dropping
 pub mod One
 pub mod Stepping
+pub mod Apart
+pub mod Alone
 pub mod Collecting
 pub mod Running
 pub mod Laws
@@ -14,3 +16,5 @@ pub mod Unended
 pub mod Drops
 pub mod Once
 pub mod Unmoved
+pub mod Classless
+pub mod Fetches

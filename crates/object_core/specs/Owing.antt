@@ -4,7 +4,7 @@ use Rattle.std.specs.List.{Contains}
 use Rattle.do_tree.specs.Tree.{Script}
 use Rattle.object_front.specs.Came.{events}
 use Rattle.object_front.specs.Standing.{is_stopped}
-use Rattle.object_messages.specs.Naming.{asked_in, called_in, messages_of, replied_in, times}
+use Rattle.object_messages.specs.Naming.{asked_in, called_in, messages_of, replied_in, times, times_of}
 use Rattle.timeline.specs.Logs.{Fronted, fronted}
 use Rattle.timeline.specs.declared.caller.Caller.{Caller}
 use Rattle.timeline.specs.declared.message.Message.{Message}
@@ -12,10 +12,11 @@ use Rattle.object_core.specs.One.{IsGivenUnasked, IsOne, Origin, TellsNow, messa
 use Rattle.object_core.specs.declared.object.Core.{Core}
 
 -- Nobody gets more replies than he made calls, of those that were delivered or answered by `Down`; and what left of calls and fetches was
--- sent.
+-- sent, and left once.
 pub record IsOwed (log : Fronted) (gone : List Message) : Type 0 where
   pub replies : (from : Caller) → times from (replied_in gone) ≤ times from (called_in (events log.delivered ++ events log.downed))
   pub asked : (asked : ℕ × ℕ) → Contains (asked_in gone) asked → Contains (asked_in (messages_of log.sent)) asked
+  pub once : (asked : ℕ × ℕ) → times_of asked (asked_in gone) ≤ 1
 
 abbrev pub OneIsOwed : {D : Type 0} → (D → ℕ) → (D → ℕ → List ℕ → Type 0) → (D → Option (List ℕ)) → (D → List ℕ → Type 0) → (D → ℕ) → Core D → Type 0
 OneIsOwed moment_of left_since told image faults_of core = (script : Script) (origin : Origin) → TellsNow told core.back

@@ -1,5 +1,7 @@
 //! What holds of each object, for whoever holds one. A call costs nothing and tells its caller the law.
+ghost use Rattle.object_core.specs.Classless.{OneWithoutClass};
 ghost use Rattle.object_core.specs.Drops.{OneDrops};
+ghost use Rattle.object_core.specs.Fetches.{OneWaitsForFetches};
 ghost use Rattle.object_core.specs.Leaving.{OneLeaves, OneRests};
 ghost use Rattle.object_core.specs.Once.{OneServesOnce};
 ghost use Rattle.object_core.specs.Owing.{OneIsOwed, OneSticks};
@@ -160,4 +162,19 @@ pub fn all_are_owed<D: Disk>()
     names::passed_is_taken();
     names::unmoved_says_nothing();
     laws::halves_are_said();
+}
+
+/// What an object says and leaves whose class its script hasn't.
+pub fn one_without_class<D: Disk>(core: &Core<D>)
+    ensures { OneWithoutClass D.moment_of D.left_since D.told D.image D.faults_of core.now }
+{
+    let _ = core;
+}
+
+/// What a fetch is at which it leaves a call at rest.
+pub fn one_waits_for_fetches<D: Disk>(core: &Core<D>)
+    ensures { OneWaitsForFetches D.moment_of D.left_since D.told D.image D.faults_of core.now }
+{
+    laws::halves_are_whole();
+    let _ = core;
 }

@@ -5,11 +5,13 @@ ghost use Rattle.do_tree.specs.Tree.{Script};
 ghost use Rattle.storage_map.specs.declared.op.Op.{Op};
 ghost use Rattle.output_gate.specs.Serving.{IsBack};
 ghost use Rattle.output_gate.specs.Storing.{KeepsTelling};
+ghost use Rattle.object_core.specs.Alone.{AreApart};
 ghost use Rattle.object_core.specs.Collecting.{Collects};
 ghost use Rattle.object_core.specs.One.{AreFresh, IsOne, IsOneOf, CanRun, KeepsOne, Origin, mounted_at, unused};
 ghost use Rattle.object_core.specs.Running.{Runs};
 ghost use Rattle.object_core.specs.Stepping.{Steps};
 
+use crate::apart::halves_meet;
 use crate::choice::Choice;
 use do_disk::Disk;
 use do_tree::Checked;
@@ -86,7 +88,11 @@ impl<D: Disk> Core<D> {
         ensures one { (script : Script) (origin : Origin)
             → IsOneOf D.moment_of D.left_since D.told D.image D.faults_of script origin front.half inbox back line notices out
             → IsOne D.moment_of D.left_since D.told D.image D.faults_of script origin result }
+        ensures apart { (script : Script) (origin : Origin)
+            → AreApart D.moment_of D.left_since D.told D.image D.faults_of script origin front.half inbox back line notices out
+            → IsOne D.moment_of D.left_since D.told D.image D.faults_of script origin result }
     {
+        halves_meet();
         Core {
             front,
             back,

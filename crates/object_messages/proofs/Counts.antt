@@ -1,4 +1,4 @@
--- How often a caller stands in lists that are joined.
+-- How often a caller, a call or a fetch stands in lists that are joined.
 use Rattle.std.proofs.Common.{◌≡◌, ◌∙◌, refl, ap, ℕ, suc, ◌+◌, List, [], ◌∷◌, ◌++◌, length, arith, length-append}
 use Rattle.std.proofs.lemmas.List.Concat.{flat_map-append}
 use Rattle.std.proofs.lemmas.List.Elements.{filter-append}
@@ -12,7 +12,7 @@ use Rattle.timeline.specs.declared.entry.Body.TheVariants as body
 use Rattle.timeline.specs.declared.entry.Entry.{Entry}
 use Rattle.timeline.specs.declared.event.Event.{Event}
 use Rattle.timeline.specs.declared.message.Message.TheVariants as message
-use Rattle.object_messages.specs.Naming.{message_of, messages_of, replied_by, replied_in, times}
+use Rattle.object_messages.specs.Naming.{message_of, messages_of, replied_by, replied_in, same_numbers, times, times_of}
 
 -- How often a body replies to a caller, and how often an event is a call of his.
 abbrev pub told : Caller → Body → ℕ
@@ -26,6 +26,12 @@ pub times-append : (from : Caller) (xs ys : List Caller) → times from (xs ++ y
 times-append from xs ys =
     ap (λ (zs : List Caller). length zs) (filter-append (same_caller from) xs ys)
     ∙ length-append (filter (same_caller from) xs) (filter (same_caller from) ys)
+
+-- So does a call or a fetch.
+pub times_of-append : (asked : ℕ × ℕ) (xs ys : List (ℕ × ℕ)) → times_of asked (xs ++ ys) ≡ times_of asked xs + times_of asked ys
+times_of-append asked xs ys =
+    ap (λ (zs : List (ℕ × ℕ)). length zs) (filter-append (same_numbers asked) xs ys)
+    ∙ length-append (filter (same_numbers asked) xs) (filter (same_numbers asked) ys)
 
 -- Of what items name he has what each of them does.
 pub times-flat_map : {X : Type 0} (from : Caller) (names : X → List Caller) (xs : List X)

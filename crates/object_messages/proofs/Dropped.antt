@@ -37,11 +37,11 @@ more_answered i answered more o all number least most =
     ⊎_elim (λ still. inl still) (λ was. inr (Contains-append_left answered more (i, number) was)) (all number least most)
 
 -- Numbers that are told equal are so.
-equal_so : (m n : ℕ) → (m == n) ≡ true → m ≡ n
+pub equal_so : (m n : ℕ) → (m == n) ≡ true → m ≡ n
 equal_so m n is = grind (arith, nat_tests)
 
 -- The task that stands under a number waits under it.
-under_number : (number : ℕ) (tasks : List OpenTask) (u : OpenTask) → task_under number tasks ≡ Some u → u.number ≡ number
+pub under_number : (number : ℕ) (tasks : List OpenTask) (u : OpenTask) → task_under number tasks ≡ Some u → u.number ≡ number
 under_number number [] u is = absurd cc
 under_number number (t ∷ tasks) u is = by_first (t.number == number) refl is (under_number number tasks u)
   where
@@ -50,7 +50,7 @@ under_number number (t ∷ tasks) u is = by_first (t.number == number) refl is (
     by_first false other found more = more found
 
 -- An answer that isn't out of date is one to this incarnation.
-fresh_answer : (now i : ℕ) (waits : Bool) → not (i == now && waits) ≡ false → i ≡ now
+pub fresh_answer : (now i : ℕ) (waits : Bool) → not (i == now && waits) ≡ false → i ≡ now
 fresh_answer now i waits is = grind (arith, nat_tests)
 
 resumes_answered : (now : ℕ) (o : Object) (events : List Event) (e : Event) → is_stale now o e ≡ false → (u : OpenTask) → resumed_by e o.tasks ≡ Some u

@@ -16,3 +16,7 @@ pub mod Whose
 pub mod FrontsWhose
 pub mod PassedNaming
 pub mod Unmoved
+pub mod Once
+pub mod Fetching
+pub mod FrontsFetching
+pub mod PassedWhole

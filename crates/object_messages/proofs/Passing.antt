@@ -19,15 +19,15 @@ use Rattle.timeline.specs.declared.entry.Body.TheVariants as body
 use Rattle.timeline.specs.declared.entry.Entry.{Entry}
 use Rattle.timeline.specs.declared.message.Message.{Message}
 use Rattle.timeline.specs.declared.message.Message.TheVariants as message
-use Rattle.object_messages.proofs.Counts.{told, one_replies, replies_are_told, times-append, times-flat_map}
+use Rattle.object_messages.proofs.Counts.{told, one_replies, replies_are_told, times-append, times-flat_map, times_of-append}
 use Rattle.object_messages.proofs.FrontsNumbering.{asked_among}
 use Rattle.object_messages.proofs.Numbering.{asked, asked_of}
 use Rattle.object_messages.specs.Exact.{PassedIsAll}
 use Rattle.object_messages.specs.Laws.{PassedIsTaken, gone}
-use Rattle.object_messages.specs.Naming.{asked_by, asked_in, message_of, messages_of, replied_by, replied_in, times}
+use Rattle.object_messages.specs.Naming.{asked_by, asked_in, message_of, messages_of, replied_by, replied_in, times, times_of}
 
 -- What stands in one list stands in the other.
-abbrev Within : List (ℕ × ℕ) → List (ℕ × ℕ) → Type 0
+abbrev pub Within : List (ℕ × ℕ) → List (ℕ × ℕ) → Type 0
 Within xs ys = (x : ℕ × ℕ) → Contains xs x → Contains ys x
 
 -- Nothing does,
@@ -48,22 +48,19 @@ join_within xs ys first second one other =
     both_within xs ys (first ++ second) (λ x there. Contains-append_left first second x (one x there))
     (λ x there. Contains-append_right first second x (other x there))
 
--- What becomes of a message: it asks no more, and replies as it did.
+-- What becomes of a message: it asks as it did or nothing, and replies as it did.
 abbrev Fares : Message → List Passed → Type 0
-Fares sent items = Within (asked_in (gone items)) (asked_by sent) × (replied_in (gone items) ≡ replied_by sent)
+Fares sent items = ((asked_in (gone items) ≡ asked_by sent) ⊎ (asked_in (gone items) ≡ [])) × (replied_in (gone items) ≡ replied_by sent)
 
 -- It leaves as it is,
 stays_fares : (sent : Message) (needs since : ℕ) → Fares sent (record { message = sent; needs = needs; since = since } ∷ [])
-stays_fares sent needs since = (
-  subst (λ (xs : List (ℕ × ℕ)). Within xs (asked_by sent)) (sym (append-nil (asked_by sent))) (λ x there. there),
-  append-nil (replied_by sent),
-)
+stays_fares sent needs since = (inl (append-nil (asked_by sent)), append-nil (replied_by sent))
 
 -- it is replaced or dropped,
 replaced_fares : (needs since : ℕ) (cause : Cause) (sent : Message) → Fares sent (replaced needs since cause sent)
-replaced_fares needs since cause (message.Reply to result) = (none_within [], refl)
-replaced_fares needs since cause (message.Call incarnation number to method args depth) = (none_within ((incarnation, number) ∷ []), refl)
-replaced_fares needs since cause (message.Fetch incarnation number value) = (none_within ((incarnation, number) ∷ []), refl)
+replaced_fares needs since cause (message.Reply to result) = (inl refl, refl)
+replaced_fares needs since cause (message.Call incarnation number to method args depth) = (inr refl, refl)
+replaced_fares needs since cause (message.Fetch incarnation number value) = (inr refl, refl)
 
 -- one or the other,
 either_fares : (b : Bool) (sent : Message) (one other : List Passed) → Fares sent one → Fares sent other → Fares sent (if b then one else other)
@@ -84,9 +81,19 @@ if_fares : (older : History) (number : ℕ) (bound : Option (Cause × ℕ)) (hel
 if_fares older number bound held true = stays_fares held.message (durable_at older) (length older)
 if_fares older number bound held false = by_bound_fares (length (kept_before older)) number bound held.behind held.message
 
--- So the messages among what was said.
+-- Where something asks as another does or nothing, it asks no more.
+same_or_none : (xs ys : List (ℕ × ℕ)) → (xs ≡ ys) ⊎ (xs ≡ []) → Within xs ys
+same_or_none xs ys (inl same) = subst (Within xs) same (λ x there. there)
+same_or_none xs ys (inr none) = subst (λ (zs : List (ℕ × ℕ)). Within zs ys) (sym none) (none_within ys)
+
+no_oftener : (asked : ℕ × ℕ) (xs ys : List (ℕ × ℕ)) → (xs ≡ ys) ⊎ (xs ≡ []) → times_of asked xs ≤ times_of asked ys
+no_oftener asked xs ys (inl same) = omega (arith, ap (times_of asked) same)
+no_oftener asked xs ys (inr none) = omega (arith, ap (times_of asked) none)
+
+-- So the messages among what was said: nothing is asked that wasn't, nor oftener, and who is replied to was.
 abbrev AllFare : List Body → List Passed → Type 0
 AllFare bodies items = Within (asked_in (gone items)) (asked bodies) × (replied_in (gone items) ≡ flat_map answered_by bodies)
+    × ((x : ℕ × ℕ) → times_of x (asked_in (gone items)) ≤ times_of x (asked bodies))
 
 -- What messages name that leave in two parts.
 pub gone_both : {X : Type 0} (names : Message → List X) (one other : List Passed)
@@ -100,16 +107,25 @@ first_fares : (sent : Message) (bodies : List Body) (one other : List Passed) �
 first_fares sent bodies one other first rest = (
   subst (λ (xs : List (ℕ × ℕ)). Within xs (asked (body.Message sent ∷ bodies))) (sym (gone_both asked_by one other))
       (join_within (asked_in (gone one)) (asked_in (gone other)) (asked_of (body.Message sent)) (asked bodies)
-      (subst (Within (asked_in (gone one))) (sym (append-nil (asked_by sent))) first.0) rest.0),
+      (subst (Within (asked_in (gone one))) (sym (append-nil (asked_by sent))) (same_or_none (asked_in (gone one)) (asked_by sent) first.0)) rest.0),
   gone_both replied_by one other
       ∙ ap (λ (xs : List Caller). xs ++ replied_in (gone other)) (first.1 ∙ sym (append-nil (replied_by sent)) ∙ one_replies (body.Message sent))
       ∙ ap (λ (xs : List Caller). answered_by (body.Message sent) ++ xs) rest.1,
+  λ x. omega (
+    arith,
+    ap (times_of x) (gone_both asked_by one other),
+    times_of-append x (asked_in (gone one)) (asked_in (gone other)),
+    no_oftener x (asked_in (gone one)) (asked_by sent) first.0,
+    ap (times_of x) (append-nil (asked_by sent)),
+    times_of-append x (asked_of (body.Message sent)) (asked bodies),
+    rest.2 x,
+  ),
 )
 
 -- All of them, by what becomes of each.
 held_fare : (leaves : Held → List Passed) → ((held : Held) → Fares held.message (leaves held)) → (count : ℕ) (bodies : List Body)
     → AllFare bodies (flat_map leaves (held_in count bodies))
-held_fare leaves fares count [] = (none_within [], refl)
+held_fare leaves fares count [] = (none_within [], refl, λ x. omega arith)
 held_fare leaves fares count (body.Batch ops tail ∷ bodies) = held_fare leaves fares (count + 1) bodies
 held_fare leaves fares count (body.Message sent ∷ bodies) =
     first_fares sent bodies (leaves _) (flat_map leaves (held_in count bodies)) (fares _) (held_fare leaves fares count bodies)
@@ -135,15 +151,30 @@ said_asked [] = refl
 said_asked (entry ∷ entries) =
     ap (λ (rest : List (ℕ × ℕ)). asked_of entry.body ++ rest) (said_asked entries) ∙ sym (first_asked entry entries)
 
--- How often an entry replies to a caller.
+-- How often an entry replies to a caller, and how often it asks this.
 abbrev replies : Caller → Entry → ℕ
 replies from entry = told from entry.body
+
+abbrev asks : ℕ × ℕ → Entry → ℕ
+asks x entry = times_of x (asked_of entry.body)
 
 -- Entries reply as what was said in them.
 said_told : (from : Caller) (entries : List Entry) → sum_by (told from) (said_in entries) ≡ sum_by (replies from) entries
 said_told from [] = refl
 said_told from (entry ∷ entries) =
     omega (arith, said_told from entries, sum_by-cons (told from) entry.body (said_in entries), sum_by-cons (replies from) entry entries)
+
+-- Entries ask as often as each of them does.
+asked_times : (x : ℕ × ℕ) (entries : List Entry) → times_of x (asked_among entries) ≡ sum_by (asks x) entries
+asked_times x [] = refl
+asked_times x (entry ∷ entries) =
+    omega (
+      arith,
+      ap (times_of x) (first_asked entry entries),
+      times_of-append x (asked_of entry.body) (asked_among entries),
+      asked_times x entries,
+      sum_by-cons (asks x) entry entries,
+    )
 
 -- Some of the entries ask no more than all.
 kept_within : (b : Bool) (entry : Entry) (some entries : List Entry) → Within (asked_among some) (asked_among entries)
@@ -179,41 +210,41 @@ filter_first p f entry entries = by_kept (p entry)
     by_kept true = sum_by-cons f entry (filter p entries)
     by_kept false = omega arith
 
--- The replies of the entries of the first incarnations.
-abbrev replies_among : Caller → ℕ → List Entry → ℕ
-replies_among from n entries = sum_by (replies from) (filter (λ (entry : Entry). is_among n entry.incarnation) entries)
+-- What the entries of the first incarnations weigh.
+abbrev weigh_among : (Entry → ℕ) → ℕ → List Entry → ℕ
+weigh_among weighs n entries = sum_by weighs (filter (λ (entry : Entry). is_among n entry.incarnation) entries)
 
--- Of none there are none.
-none_among : (from : Caller) (entries : List Entry) → replies_among from 0 entries ≡ 0
-none_among from [] = refl
-none_among from (entry ∷ entries) =
+-- Those of none weigh nothing.
+none_among : (weighs : Entry → ℕ) (entries : List Entry) → weigh_among weighs 0 entries ≡ 0
+none_among weighs [] = refl
+none_among weighs (entry ∷ entries) =
     omega (
       arith,
-      none_among from entries,
-      filter_first (λ (e : Entry). is_among 0 e.incarnation) (replies from) entry entries,
-      none_first entry.incarnation (replies from entry),
+      none_among weighs entries,
+      filter_first (λ (e : Entry). is_among 0 e.incarnation) weighs entry entries,
+      none_first entry.incarnation (weighs entry),
     )
   where
     none_first : (i v : ℕ) → cond (is_among 0 i) v 0 ≡ 0
     none_first i v = grind (arith, nat_tests)
 
 -- The entries of an incarnation, and those of the ones before it.
-one_more : (from : Caller) (n : ℕ) (entries : List Entry)
-    → sum_by (replies from) (entries_of (suc n) entries) + replies_among from n entries ≡ replies_among from (suc n) entries
-one_more from n [] = refl
-one_more from n (entry ∷ entries) =
+one_more : (weighs : Entry → ℕ) (n : ℕ) (entries : List Entry)
+    → sum_by weighs (entries_of (suc n) entries) + weigh_among weighs n entries ≡ weigh_among weighs (suc n) entries
+one_more weighs n [] = refl
+one_more weighs n (entry ∷ entries) =
     omega (
       arith,
-      one_more from n entries,
-      one_number entry.incarnation n (replies from entry),
-      filter_first (λ (e : Entry). e.incarnation == suc n) (replies from) entry entries,
-      filter_first (λ (e : Entry). is_among n e.incarnation) (replies from) entry entries,
-      filter_first (λ (e : Entry). is_among (suc n) e.incarnation) (replies from) entry entries,
+      one_more weighs n entries,
+      one_number entry.incarnation n (weighs entry),
+      filter_first (λ (e : Entry). e.incarnation == suc n) weighs entry entries,
+      filter_first (λ (e : Entry). is_among n e.incarnation) weighs entry entries,
+      filter_first (λ (e : Entry). is_among (suc n) e.incarnation) weighs entry entries,
     )
 
 -- All of them, where each entry is of one of these incarnations.
 all_among : (from : Caller) (n : ℕ) (entries : List Entry) → AllByRecursion (λ (e : Entry). (1 ≤ e.incarnation) × (e.incarnation ≤ n)) entries
-    → replies_among from n entries ≡ sum_by (replies from) entries
+    → weigh_among (replies from) n entries ≡ sum_by (replies from) entries
 all_among from n [] all = refl
 all_among from n (entry ∷ entries) all =
     omega (
@@ -241,20 +272,38 @@ passed_within front back (suc n) =
 
 -- and replies as what was taken of these incarnations.
 passed_replies : (from : Caller) (front : Fronted) (back : Backed) (n : ℕ)
-    → times from (replied_in (gone (passed (incarnations front back n)))) ≡ replies_among from n back.taken
-passed_replies from front back zero = sym (none_among from back.taken)
+    → times from (replied_in (gone (passed (incarnations front back n)))) ≡ weigh_among (replies from) n back.taken
+passed_replies from front back zero = sym (none_among (replies from) back.taken)
 passed_replies from front back (suc n) =
     let older = incarnations front back n in
     let i = incarnation_at front back n in
     omega (
       arith,
       passed_replies from front back n,
-      one_more from n back.taken,
+      one_more (replies from) n back.taken,
       ap (times from) (gone_both replied_by (passed older) (passed_in older i)),
       times-append from (replied_in (gone (passed older))) (replied_in (gone (passed_in older i))),
       ap (times from) (passed_fare older i).1,
       times-flat_map from answered_by (said_in i.taken),
       said_told from (entries_of (suc n) back.taken),
+    )
+
+-- And it asks no oftener.
+passed_asks : (x : ℕ × ℕ) (front : Fronted) (back : Backed) (n : ℕ)
+    → times_of x (asked_in (gone (passed (incarnations front back n)))) ≤ weigh_among (asks x) n back.taken
+passed_asks x front back zero = omega (arith, none_among (asks x) back.taken)
+passed_asks x front back (suc n) =
+    let older = incarnations front back n in
+    let i = incarnation_at front back n in
+    omega (
+      arith,
+      passed_asks x front back n,
+      one_more (asks x) n back.taken,
+      ap (times_of x) (gone_both asked_by (passed older) (passed_in older i)),
+      times_of-append x (asked_in (gone (passed older))) (asked_in (gone (passed_in older i))),
+      (passed_fare older i).2 x,
+      ap (times_of x) (said_asked i.taken),
+      asked_times x (entries_of (suc n) back.taken),
     )
 
 -- So with all incarnations.
@@ -268,6 +317,12 @@ passed_taken front back =
         passed_replies from front back n,
         replies_are_told from back.taken,
         sum_by-filter_both is_one (λ e. not (is_one e)) (λ e. refl) (replies from) back.taken,
+      ),
+      λ asked. omega (
+        arith,
+        passed_asks asked front back n,
+        asked_times asked back.taken,
+        sum_by-filter_both is_one (λ e. not (is_one e)) (λ e. refl) (asks asked) back.taken,
       ),
     )
 

@@ -10,7 +10,7 @@ use Rattle.timeline.specs.Passed.{Passed, passed}
 use Rattle.timeline.specs.declared.caller.Caller.{Caller}
 use Rattle.timeline.specs.declared.event.Event.{Event}
 use Rattle.timeline.specs.declared.message.Message.{Message}
-use Rattle.object_messages.specs.Naming.{answered_by, asked_in, called_in, messages_of, replied_in, times}
+use Rattle.object_messages.specs.Naming.{answered_by, asked_in, called_in, messages_of, replied_in, times, times_of}
 
 -- Where a front stands so, its incarnation has given these numbers.
 abbrev pub IsGivenIn : Mode → ℕ → Type 0
@@ -65,8 +65,10 @@ RepliesAreOwed = (k : Kind) (alarm : Option (ℤ × ℕ)) (taken : List Taken) �
 abbrev pub gone : List Passed → List Message
 gone items = map (λ (p : Passed). p.message) items
 
--- The calls and fetches that pass are some that were taken, and nobody gets more replies by them than were taken for him.
+-- The calls and fetches that pass are some that were taken, none oftener than it was; and nobody gets more replies by them than were taken
+-- for him.
 abbrev pub PassedIsTaken : Type 0
 PassedIsTaken = (front : Fronted) (back : Backed)
     → ((asked : ℕ × ℕ) → Contains (asked_in (gone (passed (history front back)))) asked → Contains (asked_in (messages_of back.taken)) asked)
     × ((from : Caller) → times from (replied_in (gone (passed (history front back)))) ≤ times from (replied_in (messages_of back.taken)))
+    × ((asked : ℕ × ℕ) → times_of asked (asked_in (gone (passed (history front back)))) ≤ times_of asked (asked_in (messages_of back.taken)))

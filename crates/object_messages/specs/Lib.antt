@@ -4,3 +4,4 @@ pub mod Dropped
 pub mod Exact
 pub mod Ends
 pub mod Unmoved
+pub mod Fetches

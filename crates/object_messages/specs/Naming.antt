@@ -1,5 +1,5 @@
 -- Whom and what messages and events name: a caller; and a call or a fetch, by its incarnation and its number. This project's profile.
-use Rattle.std.specs.Prelude.{ℕ, List, [], ◌∷◌, length}
+use Rattle.std.specs.Prelude.{ℕ, Bool, ◌==◌, ◌&&◌, List, [], ◌∷◌, length}
 use Rattle.std.specs.List.{flat_map, filter}
 use Rattle.timeline.specs.Replies.{caller_of, same_caller}
 use Rattle.timeline.specs.declared.caller.Caller.{Caller}
@@ -19,6 +19,14 @@ asked_by (message.Reply to result) = []
 
 abbrev pub asked_in : List Message → List (ℕ × ℕ)
 asked_in messages = flat_map asked_by messages
+
+-- The fetches alone.
+abbrev pub fetched_by : Message → List (ℕ × ℕ)
+fetched_by (message.Fetch incarnation number value) = (incarnation, number) ∷ []
+fetched_by _ = []
+
+abbrev pub fetched_in : List Message → List (ℕ × ℕ)
+fetched_in messages = flat_map fetched_by messages
 
 -- To whom a message replies.
 abbrev pub replied_by : Message → List Caller
@@ -50,3 +58,10 @@ messages_of entries = flat_map (λ (entry : Entry). message_of entry.body) entri
 -- How often a caller stands there: a request is its line.
 abbrev pub times : Caller → List Caller → ℕ
 times from callers = length (filter (same_caller from) callers)
+
+-- How often a call or a fetch stands there, by its incarnation and its number.
+abbrev pub same_numbers : ℕ × ℕ → ℕ × ℕ → Bool
+same_numbers a b = b.0 == a.0 && b.1 == a.1
+
+abbrev pub times_of : ℕ × ℕ → List (ℕ × ℕ) → ℕ
+times_of asked all = length (filter (same_numbers asked) all)

@@ -2,8 +2,9 @@
 ghost use Rattle.object_messages.specs.Dropped.{DropsAreAnswered};
 ghost use Rattle.object_messages.specs.Ends.{EndsAreNeeded, UnendedPassAsTaken};
 ghost use Rattle.object_messages.specs.Exact.{LeftIsEach, PassedIsAll, PassedNamesTaken, RepliesAreExact, RepliesNameCallers};
+ghost use Rattle.object_messages.specs.Fetches.{AnswersAreOwn, LeftFetchesAreOpen, NewestPassesWhole};
 ghost use Rattle.object_messages.specs.Laws.{EarlyIsUnasked, NumbersAreGiven, NumbersAscend, PassedIsTaken, RepliesAreOwed};
-ghost use Rattle.object_messages.specs.Unmoved.{UnmovedSaysNothing};
+ghost use Rattle.object_messages.specs.Unmoved.{AnswersMoveNothing, UnmovedSaysNothing};
 
 /// Each call and fetch that was sent has a number that was given.
 pub fn numbers_are_given()
@@ -73,4 +74,24 @@ pub fn passed_names_taken()
 /// Who was given nothing says nothing to others.
 pub fn unmoved_says_nothing()
     ensures { UnmovedSaysNothing }
+{}
+
+/// Nor who was given nothing but answers.
+pub fn answers_move_nothing()
+    ensures { AnswersMoveNothing }
+{}
+
+/// Where an idle object leaves a call at a fetch, that one was said and isn't answered.
+pub fn left_fetches_are_open()
+    ensures { LeftFetchesAreOpen }
+{}
+
+/// An answer is delivered to the incarnation that it names.
+pub fn answers_are_own()
+    ensures { AnswersAreOwn }
+{}
+
+/// What was taken of an incarnation that hasn't stopped passes as it is.
+pub fn newest_passes_whole()
+    ensures { NewestPassesWhole }
 {}

@@ -1,5 +1,5 @@
 -- What is posted to objects, with the fetches that are open, is what was routed from them and replied to them.
-use Rattle.std.proofs.Common.{◌≡◌, ◌≢◌, ◌≤◌, ◌<◌, ◌∙◌, ℕ, suc, ◌+◌, ℤ, List, [], ◌∷◌, ◌++◌, cond, Option, Some, None, Err, true, false, refl, sym, ap, subst, arith, true≢false}
+use Rattle.std.proofs.Common.{◌≡◌, ◌≤◌, ◌<◌, ◌∙◌, ℕ, suc, ◌+◌, ℤ, List, [], ◌∷◌, ◌++◌, cond, Option, Some, None, Err, true, false, refl, sym, ap, subst, arith, true≢false}
 use Rattle.std.specs.Prelude.{Bool, Result, is_some, not, ◌==◌}
 use Rattle.std.specs.List.{AllByRecursion, filter, find, sum_by}
 use Rattle.std.proofs.lemmas.Bool.Decides.{nat_tests}
@@ -7,7 +7,7 @@ use Rattle.std.proofs.lemmas.List.Sums.{sum_by-append, sum_by-cons, sum_by_push}
 use Rattle.do_value.specs.declared.value.Value.{Value}
 use Rattle.do_tree.specs.Tree.{Script}
 use Rattle.timeline.specs.Lines.{Identity, Line}
-use Rattle.timeline.specs.Switch.{OpenFetch, Switch, SwitchLog, Given, opened, answers_to, accepts, routes, routes_from, is_fit, is_known, object_at, gives_nothing, tick_posts}
+use Rattle.timeline.specs.Switch.{OpenFetch, Switch, SwitchLog, Given, opened, answers_to, accepts, routes, routes_from, is_fit, is_known, object_at, fetches_from, gives_nothing, tick_posts}
 use Rattle.timeline.specs.declared.caller.Caller.{Caller}
 use Rattle.timeline.specs.declared.caller.Caller.TheVariants as from
 use Rattle.timeline.specs.declared.caller.Failure.{Failure}
@@ -20,11 +20,11 @@ use Rattle.switch_history.proofs.Cases.{OfCall, by_call, by_line}
 use Rattle.switch_history.proofs.Slots.{all_append, all_filter, is_own}
 
 -- ---- open fetches stand in the order of their numbers
-abbrev AreOrdered : List OpenFetch → Type 0
+abbrev pub AreOrdered : List OpenFetch → Type 0
 AreOrdered [] = Unit {0}
 AreOrdered (f ∷ fetches) = AllByRecursion (λ (g : OpenFetch). f.k < g.k) fetches × AreOrdered fetches
 
-abbrev IsNumbered : Switch → Type 0
+abbrev pub IsNumbered : Switch → Type 0
 IsNumbered s = AreOrdered s.unanswered × AllByRecursion (λ (f : OpenFetch). f.k ≤ s.fetches) s.unanswered
 
 -- so do those that pass a test,
@@ -118,17 +118,17 @@ module _ (weighs : ℕ → ℕ → ℕ → ℕ) where
   fetch_weighs f = weighs f.slot f.incarnation f.number
 
   -- What is given leaves the open fetches numbered; it posts what it takes of these, and this more.
-  record Goes (s : Switch) (more : ℕ) (given : Given) : Type 0 where
-    numbered : IsNumbered given.after
-    balance : sum_by event_weighs given.posts + sum_by fetch_weighs given.after.unanswered ≡ sum_by fetch_weighs s.unanswered + more
+  pub record Goes (s : Switch) (more : ℕ) (given : Given) : Type 0 where
+    pub numbered : IsNumbered given.after
+    pub balance : sum_by event_weighs given.posts + sum_by fetch_weighs given.after.unanswered ≡ sum_by fetch_weighs s.unanswered + more
 
   module _ (script : Script) (s : Switch) (numbered : IsNumbered s) where
-    to_caller : (to : Caller) (result : Result Value Failure) → Goes s (object_weighs to) (answers_to s to result)
+    pub to_caller : (to : Caller) (result : Result Value Failure) → Goes s (object_weighs to) (answers_to s to result)
     to_caller (from.Request line number) result = record { numbered = numbered; balance = omega arith }
     to_caller (from.Object slot incarnation number) result =
         record { numbered = numbered; balance = omega (arith, sum_by-cons event_weighs (slot, event.Answer incarnation number result s.tick) []) }
 
-    of_call : (caller : Caller) (to : Identity) → OfCall script s (Goes s (object_weighs caller)) caller to
+    pub of_call : (caller : Caller) (to : Identity) → OfCall script s (Goes s (object_weighs caller)) caller to
     of_call caller to = record {
       refused = λ f _. to_caller caller (Err f);
       posted = λ number slot args depth _ _. record {
@@ -155,7 +155,7 @@ module _ (weighs : ℕ → ℕ → ℕ → ℕ) where
         by_known true rest = omega (arith, rest, sum_by-cons event_weighs (slot, event.Tick moment) (tick_posts script moment (suc slot) objects))
         by_known false rest = rest
 
-    line_goes : (l : Line) → Goes s 0 (accepts script s l)
+    pub line_goes : (l : Line) → Goes s 0 (accepts script s l)
     line_goes l = by_line script s (λ m given. Goes s 0 given) (record {
       calls = λ at number to method args. of_call (from.Request at number) to;
       ticked = λ at moment. record { numbered = numbered; balance = omega (arith, ticks_weigh moment 0 s.objects) };
@@ -175,6 +175,19 @@ module _ (weighs : ℕ → ℕ → ℕ → ℕ) where
       unknown = λ at object. record { numbered = numbered; balance = omega arith };
     }) l
 
+    -- a fetch is open then
+    pub fetch_goes : (slot incarnation number : ℕ) (value : Value) (object : Identity)
+        → Goes s (weighs slot incarnation number) (fetches_from s slot incarnation number value object)
+    fetch_goes slot incarnation number value object =
+        let fetch : OpenFetch = record { k = s.fetches + 1; slot = slot; incarnation = incarnation; number = number } in record {
+          numbered = (
+            next_ordered s.fetches s.unanswered fetch numbered.1 (omega arith) numbered.0,
+            all_append (λ (g : OpenFetch). g.k ≤ s.fetches + 1) s.unanswered (fetch ∷ []) (more_below s.fetches (s.fetches + 1) s.unanswered (omega arith) numbered.1)
+                (omega arith, tt),
+          );
+          balance = omega (arith, sum_by_push fetch_weighs s.unanswered fetch);
+        }
+
     message_goes : (sent : ℕ × Message) → IsFit s sent → Goes s (sent_weighs sent) (routes script s sent)
     message_goes sent fit = at_object sent.0 sent.1 (object_at s sent.0) fit.comes fit.replies
       where
@@ -190,15 +203,7 @@ module _ (weighs : ℕ → ℕ → ℕ → ℕ) where
         at_object slot (message.Call incarnation number to method args depth) (Some object) comes replies =
             by_call script s (Goes s (weighs slot incarnation number)) (from.Object slot incarnation number) to method args depth
             (of_call (from.Object slot incarnation number) to)
-        at_object slot (message.Fetch incarnation number value) (Some object) comes replies =
-            let fetch : OpenFetch = record { k = s.fetches + 1; slot = slot; incarnation = incarnation; number = number } in record {
-              numbered = (
-                next_ordered s.fetches s.unanswered fetch numbered.1 (omega arith) numbered.0,
-                all_append (λ (g : OpenFetch). g.k ≤ s.fetches + 1) s.unanswered (fetch ∷ []) (more_below s.fetches (s.fetches + 1) s.unanswered (omega arith) numbered.1)
-                    (omega arith, tt),
-              );
-              balance = omega (arith, sum_by_push fetch_weighs s.unanswered fetch);
-            }
+        at_object slot (message.Fetch incarnation number value) (Some object) comes replies = fetch_goes slot incarnation number value object
 
   -- What a run has posted to objects, with the fetches that are open, is what it has routed.
   pub record IsEven (log : SwitchLog) (s : Switch) : Type 0 where

@@ -1,15 +1,14 @@
 -- A call or a fetch that was routed once got one answer, or it is a call that is left, or a fetch that is open.
-use Rattle.std.proofs.Common.{◌≡◌, ◌≤◌, ◌<◌, ◌∙◌, ℕ, zero, suc, ◌+◌, List, [], ◌∷◌, ◌++◌, length, map, cond, Option, Err, true, false, refl, sym, ap, subst, arith, length-append}
+use Rattle.std.proofs.Common.{◌≡◌, ◌≤◌, ◌<◌, ◌∙◌, ℕ, zero, suc, ◌+◌, List, [], ◌∷◌, length, map, cond, Option, Err, true, false, refl, sym, ap, subst, arith}
 use Rattle.std.specs.Prelude.{Bool, Result, ◌==◌, ◌&&◌, nat_lt}
 use Rattle.std.specs.List.{filter, flat_map, sum_by}
 use Rattle.std.proofs.lemmas.Bool.Decides.{nat_tests}
-use Rattle.std.proofs.lemmas.List.Elements.{filter-append}
 use Rattle.std.proofs.lemmas.List.Sums.{sum_by-append, sum_by-cons, sum_by_push}
 use Rattle.do_value.specs.declared.value.Value.{Value}
 use Rattle.do_tree.specs.Tree.{Script}
 use Rattle.mailbox.specs.Posting.{of_slot}
-use Rattle.object_messages.proofs.Counts.{times-append, times-flat_map}
-use Rattle.object_messages.specs.Naming.{answered_by, answered_in, asked_by, asked_in, replied_by, times}
+use Rattle.object_messages.proofs.Counts.{times-append, times-flat_map, times_of-append}
+use Rattle.object_messages.specs.Naming.{answered_by, answered_in, asked_by, asked_in, fetched_by, fetched_in, replied_by, times, times_of}
 use Rattle.timeline.specs.Finish.{is_fetch_of}
 use Rattle.timeline.specs.Lines.{Identity, Line}
 use Rattle.timeline.specs.Replies.{caller_of}
@@ -22,7 +21,7 @@ use Rattle.timeline.specs.declared.event.Event.TheVariants as event
 use Rattle.timeline.specs.declared.message.Message.{Message}
 use Rattle.timeline.specs.declared.message.Message.TheVariants as message
 use Rattle.timeline.specs.declared.notice.Waits.{Waits}
-use Rattle.switch_history.specs.Asks.{AsksAreAnsweredOnce, open_of, same_numbers, times_of, who_waits}
+use Rattle.switch_history.specs.Asks.{AsksAreAnsweredOnce, open_of, who_waits}
 use Rattle.switch_history.specs.Fit.{IsFitRun, begins, accepted, routed}
 use Rattle.switch_history.proofs.Asks.{event_weighs, fetch_weighs, is_even, object_weighs, sent_weighs}
 use Rattle.switch_history.proofs.Balanced.{message_weighs, post_weighs, ticks_weigh_none}
@@ -34,10 +33,10 @@ use Rattle.switch_history.proofs.Slots.{is_other, is_own, own}
 -- ---- what the items of all slots weigh is what those of each do
 module _ {X : Type 0} (weighs : X → ℕ) where
   -- those of the slots below one
-  abbrev below : ℕ → List (ℕ × X) → ℕ
+  abbrev pub below : ℕ → List (ℕ × X) → ℕ
   below n items = sum_by (λ (item : ℕ × X). cond (nat_lt item.0 n) (weighs item.1) 0) items
 
-  below_none : (items : List (ℕ × X)) → below 0 items ≡ 0
+  pub below_none : (items : List (ℕ × X)) → below 0 items ≡ 0
   below_none [] = refl
   below_none (item ∷ items) =
       omega (arith, below_none items, sum_by-cons (λ (i : ℕ × X). cond (nat_lt i.0 0) (weighs i.1) 0) item items, none_less item.0 (weighs item.1))
@@ -45,7 +44,7 @@ module _ {X : Type 0} (weighs : X → ℕ) where
       none_less : (k v : ℕ) → cond (nat_lt k 0) v 0 ≡ 0
       none_less k v = grind (arith, nat_tests)
 
-  below_more : (n : ℕ) (items : List (ℕ × X)) → below (suc n) items ≡ below n items + sum_by weighs (of_slot n items)
+  pub below_more : (n : ℕ) (items : List (ℕ × X)) → below (suc n) items ≡ below n items + sum_by weighs (of_slot n items)
   below_more n [] = refl
   below_more n (item ∷ items) =
       omega (
@@ -64,7 +63,7 @@ module _ {X : Type 0} (weighs : X → ℕ) where
       by_slot true = sum_by-cons weighs item.1 (of_slot n items)
       by_slot false = omega arith
 
-  below_all : (n : ℕ) (items : List (ℕ × X)) → sum_by (λ (item : ℕ × X). item.0 + 1) items ≤ n → below n items ≡ sum_by (λ (item : ℕ × X). weighs item.1) items
+  pub below_all : (n : ℕ) (items : List (ℕ × X)) → sum_by (λ (item : ℕ × X). item.0 + 1) items ≤ n → below n items ≡ sum_by (λ (item : ℕ × X). weighs item.1) items
   below_all n [] most = refl
   below_all n (item ∷ items) most =
       let sums = sum_by-cons (λ (i : ℕ × X). i.0 + 1) item items in
@@ -107,15 +106,24 @@ module _ {X Y Z : Type 0} (f : X → ℕ) (g : Y → ℕ) (h : Z → ℕ) (xs : 
 
 -- ---- calls that are posted were routed
 module _ (weighs : ℕ → ℕ → ℕ → ℕ) where
-  abbrev by_object : Caller → ℕ
+  abbrev pub by_object : Caller → ℕ
   by_object = object_weighs weighs
 
-  abbrev asked_weighs : ℕ × Message → ℕ
+  abbrev pub asked_weighs : ℕ × Message → ℕ
   asked_weighs (slot, message.Reply to result) = 0
   asked_weighs (slot, message.Call incarnation number to method args depth) = weighs slot incarnation number
   asked_weighs (slot, message.Fetch incarnation number value) = weighs slot incarnation number
 
-  abbrev answer_weighs : ℕ × Event → ℕ
+  -- of these the calls, and the fetches
+  abbrev pub call_weighs : ℕ × Message → ℕ
+  call_weighs (slot, message.Call incarnation number to method args depth) = weighs slot incarnation number
+  call_weighs (slot, m) = 0
+
+  abbrev pub open_weighs : ℕ × Message → ℕ
+  open_weighs (slot, message.Fetch incarnation number value) = weighs slot incarnation number
+  open_weighs (slot, m) = 0
+
+  abbrev pub answer_weighs : ℕ × Event → ℕ
   answer_weighs (slot, event.Answer incarnation number result at) = weighs slot incarnation number
   answer_weighs (slot, e) = 0
 
@@ -137,8 +145,8 @@ module _ (weighs : ℕ → ℕ → ℕ → ℕ) where
   answer_calls s (from.Request line number) result = refl
   answer_calls s (from.Object slot incarnation number) result = omega arith
 
-  message_calls : (script : Script) (s : Switch) (sent : ℕ × Message) → sum_by (post_weighs by_object) (routes script s sent).posts ≤ asked_weighs sent
-  message_calls script s sent = by_message script s (λ m given. sum_by (post_weighs by_object) given.posts ≤ asked_weighs m) (record {
+  message_calls : (script : Script) (s : Switch) (sent : ℕ × Message) → sum_by (post_weighs by_object) (routes script s sent).posts ≤ call_weighs sent
+  message_calls script s sent = by_message script s (λ m given. sum_by (post_weighs by_object) given.posts ≤ call_weighs m) (record {
     nothing = λ m. omega arith;
     replied = λ slot to result _. omega (arith, answer_calls s to result);
     called = λ slot incarnation number to object method args depth _. record {
@@ -149,8 +157,8 @@ module _ (weighs : ℕ → ℕ → ℕ → ℕ) where
     fetched = λ slot incarnation number value object _. omega arith;
   }) sent
 
-  run_calls : (script : Script) (named : List (Option Identity)) (log : SwitchLog) (s : Switch) → IsFitRun script (opened named) log s
-      → sum_by (post_weighs by_object) log.posts ≤ sum_by asked_weighs log.routed
+  pub run_calls : (script : Script) (named : List (Option Identity)) (log : SwitchLog) (s : Switch) → IsFitRun script (opened named) log s
+      → sum_by (post_weighs by_object) log.posts ≤ sum_by call_weighs log.routed
   run_calls script named _ _ begins = omega arith
   run_calls script named _ _ (accepted log s l run) =
       omega (arith, run_calls script named log s run, line_calls script s l, sum_by-append (post_weighs by_object) log.posts (accepts script s l).posts)
@@ -160,8 +168,20 @@ module _ (weighs : ℕ → ℕ → ℕ → ℕ) where
         run_calls script named log s run,
         message_calls script s sent,
         sum_by-append (post_weighs by_object) log.posts (routes script s sent).posts,
-        sum_by_push asked_weighs log.routed sent,
+        sum_by_push call_weighs log.routed sent,
       )
+
+  -- what asks is a call or a fetch
+  one_asks : (sent : ℕ × Message) → asked_weighs sent ≡ call_weighs sent + open_weighs sent
+  one_asks (slot, message.Reply to result) = refl
+  one_asks (slot, message.Call incarnation number to method args depth) = omega arith
+  one_asks (slot, message.Fetch incarnation number value) = omega arith
+
+  -- so do all that ask
+  pub all_asks : (sent : List (ℕ × Message)) → sum_by asked_weighs sent ≡ sum_by call_weighs sent + sum_by open_weighs sent
+  all_asks [] = refl
+  all_asks (m ∷ sent) =
+      omega (arith, all_asks sent, one_asks m, sum_by-cons asked_weighs m sent, sum_by-cons call_weighs m sent, sum_by-cons open_weighs m sent)
 
   -- an event is a call or an answer or neither, and a message asks or replies
   one_event : (post : ℕ × Event) → event_weighs weighs post ≡ answer_weighs post + post_weighs by_object post
@@ -171,7 +191,7 @@ module _ (weighs : ℕ → ℕ → ℕ → ℕ) where
   one_event (slot, event.Tick at) = refl
   one_event (slot, event.Evict at) = refl
 
-  all_events : (posts : List (ℕ × Event)) → sum_by (event_weighs weighs) posts ≡ sum_by answer_weighs posts + sum_by (post_weighs by_object) posts
+  pub all_events : (posts : List (ℕ × Event)) → sum_by (event_weighs weighs) posts ≡ sum_by answer_weighs posts + sum_by (post_weighs by_object) posts
   all_events [] = refl
   all_events (post ∷ posts) =
       omega (
@@ -188,7 +208,7 @@ module _ (weighs : ℕ → ℕ → ℕ → ℕ) where
   one_message (slot, message.Call incarnation number to method args depth) = omega arith
   one_message (slot, message.Fetch incarnation number value) = omega arith
 
-  all_messages : (sent : List (ℕ × Message)) → sum_by (sent_weighs weighs) sent ≡ sum_by asked_weighs sent + sum_by (message_weighs by_object) sent
+  pub all_messages : (sent : List (ℕ × Message)) → sum_by (sent_weighs weighs) sent ≡ sum_by asked_weighs sent + sum_by (message_weighs by_object) sent
   all_messages [] = refl
   all_messages (m ∷ sent) =
       omega (
@@ -209,11 +229,11 @@ flip a b = by_same (a == b) refl
     by_same false other = other ∙ sym (is_other b a (λ e. let so : (a == b) ≡ true = subst (λ (k : ℕ). (a == k) ≡ true) (sym e) (is_own a) in absurd (cc (so, other))))
 
 module _ (slot : ℕ) (asked : ℕ × ℕ) where
-  abbrev caller : Caller
+  abbrev pub caller : Caller
   caller = from.Object slot asked.0 asked.1
 
   -- It counts once.
-  abbrev is_it : ℕ → ℕ → ℕ → ℕ
+  abbrev pub is_it : ℕ → ℕ → ℕ → ℕ
   is_it other incarnation number = cond (other == slot && incarnation == asked.0 && number == asked.1) 1 0
 
   caller_counts : (x : Caller) → object_weighs is_it x ≡ times caller (x ∷ [])
@@ -233,10 +253,6 @@ module _ (slot : ℕ) (asked : ℕ × ℕ) where
   callers_count [] = refl
   callers_count (x ∷ xs) = omega (arith, callers_count xs, caller_counts x, times-append caller (x ∷ []) xs, sum_by-cons (object_weighs is_it) x xs)
 
-  times_of-append : (xs ys : List (ℕ × ℕ)) → times_of asked (xs ++ ys) ≡ times_of asked xs + times_of asked ys
-  times_of-append xs ys =
-      ap (λ (zs : List (ℕ × ℕ)). length zs) (filter-append (same_numbers asked) xs ys) ∙ length-append (filter (same_numbers asked) xs) (filter (same_numbers asked) ys)
-
   -- what items name that weigh by slot and numbers
   module _ {X : Type 0} (names : X → List (ℕ × ℕ)) (weighs : ℕ × X → ℕ)
       (here : (x : X) → weighs (slot, x) ≡ times_of asked (names x)) (away : (other : ℕ) (x : X) → (other == slot) ≡ false → weighs (other, x) ≡ 0) where
@@ -252,7 +268,7 @@ module _ (slot : ℕ) (asked : ℕ × ℕ) where
               rest,
               sum_by-cons weighs item items,
               subst (λ (n : ℕ). weighs (n, item.1) ≡ times_of asked (names item.1)) (sym (own item.0 slot same)) (here item.1),
-              times_of-append (names item.1) (flat_map names (of_slot slot items)),
+              times_of-append asked (names item.1) (flat_map names (of_slot slot items)),
             )
         by_slot false other rest = omega (arith, rest, sum_by-cons weighs item items, away item.0 item.1 other)
 
@@ -272,7 +288,7 @@ module _ (slot : ℕ) (asked : ℕ × ℕ) where
       by_tests true b c is = cc
       by_tests false b c is = refl
 
-  answers_count : (posts : List (ℕ × Event)) → sum_by (answer_weighs is_it) posts ≡ times_of asked (answered_in (of_slot slot posts))
+  pub answers_count : (posts : List (ℕ × Event)) → sum_by (answer_weighs is_it) posts ≡ times_of asked (answered_in (of_slot slot posts))
   answers_count = items_count answered_by (answer_weighs is_it) here away
     where
       here : (e : Event) → answer_weighs is_it (slot, e) ≡ times_of asked (answered_by e)
@@ -289,7 +305,7 @@ module _ (slot : ℕ) (asked : ℕ × ℕ) where
       away other (event.Tick at) is = refl
       away other (event.Evict at) is = refl
 
-  asks_count : (sent : List (ℕ × Message)) → sum_by (asked_weighs is_it) sent ≡ times_of asked (asked_in (of_slot slot sent))
+  pub asks_count : (sent : List (ℕ × Message)) → sum_by (asked_weighs is_it) sent ≡ times_of asked (asked_in (of_slot slot sent))
   asks_count = items_count asked_by (asked_weighs is_it) here away
     where
       here : (m : Message) → asked_weighs is_it (slot, m) ≡ times_of asked (asked_by m)
@@ -302,7 +318,21 @@ module _ (slot : ℕ) (asked : ℕ × ℕ) where
       away other (message.Call incarnation number to method args depth) is = one_away other incarnation number is
       away other (message.Fetch incarnation number value) is = one_away other incarnation number is
 
-  open_count : (fetches : List OpenFetch) → sum_by (fetch_weighs is_it) fetches ≡ open_of slot asked fetches
+  -- of these the fetches
+  pub fetches_count : (sent : List (ℕ × Message)) → sum_by (open_weighs is_it) sent ≡ times_of asked (fetched_in (of_slot slot sent))
+  fetches_count = items_count fetched_by (open_weighs is_it) here away
+    where
+      here : (m : Message) → open_weighs is_it (slot, m) ≡ times_of asked (fetched_by m)
+      here (message.Reply to result) = refl
+      here (message.Call incarnation number to method args depth) = refl
+      here (message.Fetch incarnation number value) = one_here incarnation number
+
+      away : (other : ℕ) (m : Message) → (other == slot) ≡ false → open_weighs is_it (other, m) ≡ 0
+      away other (message.Reply to result) is = refl
+      away other (message.Call incarnation number to method args depth) is = refl
+      away other (message.Fetch incarnation number value) is = one_away other incarnation number is
+
+  pub open_count : (fetches : List OpenFetch) → sum_by (fetch_weighs is_it) fetches ≡ open_of slot asked fetches
   open_count [] = refl
   open_count (f ∷ fetches) =
       omega (arith, open_count fetches, sum_by-cons (fetch_weighs is_it) f fetches, by_test (is_fetch_of slot asked.0 asked.1 f))
@@ -325,7 +355,7 @@ module _ (slot : ℕ) (asked : ℕ × ℕ) where
         times-append caller (item.1 ∷ []) (who_waits left),
       )
 
-  calls_count : (posts : List (ℕ × Event)) → sum_by (post_weighs (object_weighs is_it)) posts ≡ sum_by (λ (post : ℕ × Event). times caller (caller_of post.1)) posts
+  pub calls_count : (posts : List (ℕ × Event)) → sum_by (post_weighs (object_weighs is_it)) posts ≡ sum_by (λ (post : ℕ × Event). times caller (caller_of post.1)) posts
   calls_count [] = refl
   calls_count (post ∷ posts) =
       omega (
@@ -336,7 +366,7 @@ module _ (slot : ℕ) (asked : ℕ × ℕ) where
         sum_by-cons (λ (p : ℕ × Event). times caller (caller_of p.1)) post posts,
       )
 
-  replies_count : (sent : List (ℕ × Message))
+  pub replies_count : (sent : List (ℕ × Message))
       → sum_by (message_weighs (object_weighs is_it)) sent ≡ sum_by (λ (m : ℕ × Message). times caller (replied_by m.1)) sent
   replies_count [] = refl
   replies_count (m ∷ sent) =
@@ -354,7 +384,13 @@ asked_once script named log s left run of_slots served_within slot asked once =
     let c : Caller = caller slot asked in
     let items : List (ℕ × (Caller × Waits)) = map (λ (item : ℕ × Caller × Waits). (item.0, (item.1, item.2))) left in
     let few : sum_by (post_weighs (object_weighs (is_it slot asked))) log.posts ≤ 1 =
-    omega (arith, run_calls (is_it slot asked) script named log s run, asks_count slot asked log.routed, once) in
+    omega (
+      arith,
+      run_calls (is_it slot asked) script named log s run,
+      all_asks (is_it slot asked) log.routed,
+      asks_count slot asked log.routed,
+      once,
+    ) in
     let each : (u : ℕ) → sum_by (λ (m : Message). times c (replied_by m)) (of_slot u log.routed) + sum_by (λ (i : Caller × Waits). times c (who i)) (of_slot u items)
     ≡ sum_by (λ (e : Event). times c (caller_of e)) (of_slot u log.posts) = λ u.
     omega (

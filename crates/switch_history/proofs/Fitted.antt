@@ -54,6 +54,11 @@ abbrev Known : Script → Option Identity → Type 0
 Known script None = Unit {0}
 Known script (Some object) = is_known script object ≡ true
 
+-- The event answers a call or a fetch.
+abbrev pub IsAnswer : Event → Type 0
+IsAnswer (event.Answer incarnation number result at) = Unit {0}
+IsAnswer e = ⊥
+
 module _ (script : Script) where
   -- an answer fits each class
   answer_fits : (class : Option ℕ) (incarnation number : ℕ) (result : Result Value Failure) (moment : ℤ) → is_some class ≡ true
@@ -82,11 +87,6 @@ module _ (script : Script) where
             (is, subst (λ (c : Option ℕ). FitTo script c (call ∷ []) c) (sym has) (own_fit, keeps)),
       )
 
-  -- to one whose class isn't known answers alone are posted
-  abbrev IsAnswer : Event → Type 0
-  IsAnswer (event.Answer incarnation number result moment) = Unit {0}
-  IsAnswer e = ⊥
-
   -- to a slot whose object is of no class of the script only answers are posted, in each step
   unknown_goes : (object : Identity) → is_known script object ≡ false → (o after : Option Identity) (es news : List Event) → o ≡ Some object → AllByRecursion IsAnswer es
       → Posted script o news after → (after ≡ Some object) × AllByRecursion IsAnswer (es ++ news)
@@ -99,7 +99,7 @@ module _ (script : Script) where
   unknown_goes object unknown _ _ es _ is all (binds to class call has own_fit keeps) = absurd (none-some object is)
 
   -- answers of which none answers anything are none
-  none_of : (es : List Event) → AllByRecursion IsAnswer es → answered_in es ≡ [] → es ≡ []
+  pub none_of : (es : List Event) → AllByRecursion IsAnswer es → answered_in es ≡ [] → es ≡ []
   none_of [] all none = refl
   none_of (event.Answer incarnation number result moment ∷ es) all none = absurd (cc)
   none_of (event.Call caller method args depth moment ∷ es) all none = absurd all.0
@@ -134,6 +134,12 @@ module _ (script : Script) where
   stood_fits first o es (inl stood) none = fit_from script (class_in script first) (class_in script o) es stood.1
   stood_fits first o es (inr stood) none =
       subst (λ (l : List Event). AreFitFrom script (class_in script first) l) (sym (none_of es stood.4 (none stood.0 stood.1 stood.2))) tt
+
+  -- to a slot that still has an object whose class isn't known answers alone were posted
+  pub stood_unknown : (first o : Option Identity) (es : List Event) (object : Identity) → o ≡ Some object → is_known script object ≡ false → Stood first o es
+      → AllByRecursion IsAnswer es
+  stood_unknown first o es object is unknown (inl stood) = absurd (true≢false (sym (subst (Known script) is stood.0) ∙ unknown))
+  stood_unknown first o es object is unknown (inr stood) = stood.4
 
   -- ---- methods that callers name
   no_more : (b : Bool) → not (b && false) ≡ true

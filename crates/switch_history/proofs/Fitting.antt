@@ -22,11 +22,11 @@ use Rattle.switch_history.proofs.Standing.{at, slot_has, same_object, free_has, 
 use Rattle.switch_history.proofs.Fitted.{Posted, quiet, fits, binds, Stood, stands, goes_on, stood_fits, method_fits, known_posted, answer_posted, one_posted, ticks_posted}
 
 -- The slots of open fetches have objects.
-abbrev HasObject : List (Option Identity) → OpenFetch → Type 0
+abbrev pub HasObject : List (Option Identity) → OpenFetch → Type 0
 HasObject objects fetch = is_some (at objects fetch.slot) ≡ true
 
 -- So have those of all open fetches.
-abbrev HaveObjects : List (Option Identity) → List OpenFetch → Type 0
+abbrev pub HaveObjects : List (Option Identity) → List OpenFetch → Type 0
 HaveObjects objects fetches = AllByRecursion (HasObject objects) fetches
 
 -- What a step gives.
@@ -140,9 +140,9 @@ module _ (script : Script) (s : Switch) (there : HaveObjects s.objects s.unanswe
   }
 
 -- ---- a run
-record Stands (script : Script) (named : List (Option Identity)) (posts : List (ℕ × Event)) (objects : List (Option Identity)) (fetches : List OpenFetch) : Type 0 where
-  slots : (slot : ℕ) → Stood script (at named slot) (at objects slot) (of_slot slot posts)
-  open_fetches : HaveObjects objects fetches
+pub record Stands (script : Script) (named : List (Option Identity)) (posts : List (ℕ × Event)) (objects : List (Option Identity)) (fetches : List OpenFetch) : Type 0 where
+  pub slots : (slot : ℕ) → Stood script (at named slot) (at objects slot) (of_slot slot posts)
+  pub open_fetches : HaveObjects objects fetches
 
 -- what was posted to the slots stands after a step
 stands_on : (script : Script) (named : List (Option Identity)) (log : List (ℕ × Event)) (s : Switch) (given : Given) → Stands script named log s.objects s.unanswered → Step script s given
@@ -155,7 +155,7 @@ stands_on script named log s given stood step = record {
 }
 
 -- it stands after a run
-run_stands : (script : Script) (named : List (Option Identity)) (log : SwitchLog) (s : Switch) → IsSwitchRun script (opened named) log s
+pub run_stands : (script : Script) (named : List (Option Identity)) (log : SwitchLog) (s : Switch) → IsSwitchRun script (opened named) log s
     → Stands script named log.posts s.objects s.unanswered
 run_stands script named _ _ begins = record { slots = λ slot. stands script (at named slot); open_fetches = tt }
 run_stands script named _ _ (after_line log s l run) =

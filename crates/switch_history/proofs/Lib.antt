@@ -16,4 +16,8 @@ mod Inside
 mod Once
 mod Asks
 mod AsksOnce
+mod NoMore
+mod Unknown
+mod Opened
+mod Told
 mod Placed

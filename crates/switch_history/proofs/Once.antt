@@ -28,10 +28,10 @@ use Rattle.switch_history.proofs.Requests.{Request, like, like_itself, requests,
 
 -- ---- how many are counted
 -- A number counts once or not.
-abbrev counted : (ℤ → Bool) → ℤ → ℕ
+abbrev pub counted : (ℤ → Bool) → ℤ → ℕ
 counted counts number = cond (counts number) 1 0
 
-many_sum : (counts : ℤ → Bool) (numbers : List ℤ) → many counts numbers ≡ sum_by (counted counts) numbers
+pub many_sum : (counts : ℤ → Bool) (numbers : List ℤ) → many counts numbers ≡ sum_by (counted counts) numbers
 many_sum counts [] = refl
 many_sum counts (n ∷ numbers) = omega (arith, by_count (counts n), many_sum counts numbers, sum_by-cons (counted counts) n numbers)
   where
@@ -39,7 +39,7 @@ many_sum counts (n ∷ numbers) = omega (arith, by_count (counts n), many_sum co
     by_count true = omega arith
     by_count false = omega arith
 
-sum_flat : {X : Type 0} (weighs : ℤ → ℕ) (names : X → List ℤ) (xs : List X) → sum_by weighs (flat_map names xs) ≡ sum_by (λ x. sum_by weighs (names x)) xs
+pub sum_flat : {X Y : Type 0} (weighs : Y → ℕ) (names : X → List Y) (xs : List X) → sum_by weighs (flat_map names xs) ≡ sum_by (λ x. sum_by weighs (names x)) xs
 sum_flat weighs names [] = refl
 sum_flat weighs names (x ∷ xs) =
     omega (

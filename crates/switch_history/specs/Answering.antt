@@ -51,8 +51,8 @@ many counts numbers = length (filter counts numbers)
 
 -- Each accepted call has exactly one line that replies to it or gives its error, or it is left, once: whichever numbers count, as many calls
 -- of these are accepted as are answered or left.
-abbrev pub AreAnsweredOnce : List Line → List OutLine → List (ℕ × Caller × Waits) → Type 0
-AreAnsweredOnce accepted lines left = (counts : ℤ → Bool)
+abbrev pub AreAnsweredOrLeft : List Line → List OutLine → List (ℕ × Caller × Waits) → Type 0
+AreAnsweredOrLeft accepted lines left = (counts : ℤ → Bool)
     → many counts (answers_in lines) + many counts (requests_left left) ≡ many counts (calls_in accepted)
 
 -- Accepted lines stand in the order of their numbers, each of which is one line's.
@@ -77,4 +77,4 @@ AreOfSlots slots left = All (λ (item : ℕ × Caller × Waits). item.0 < slots)
 abbrev pub CallsAreAnsweredOnce : Type 0
 CallsAreAnsweredOnce = (script : Script) (named : List (Option Identity)) (log : SwitchLog) (s : Switch) (left : List (ℕ × Caller × Waits))
     → IsFitRun script (opened named) log s → AreInOrder log.accepted → AreOfSlots (length named) left → AreServedOnce (length named) log left
-    → AreAnsweredOnce log.accepted log.lines left
+    → AreAnsweredOrLeft log.accepted log.lines left

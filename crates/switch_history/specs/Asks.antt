@@ -1,9 +1,9 @@
 -- What becomes of the calls and the fetches of objects. This project's profile.
-use Rattle.std.specs.Prelude.{◌≡◌, ◌≤◌, ◌+◌, ℕ, Bool, ◌==◌, ◌&&◌, List, length, map, Option}
+use Rattle.std.specs.Prelude.{◌≡◌, ◌≤◌, ◌+◌, ℕ, List, length, map, Option}
 use Rattle.std.specs.List.{filter}
 use Rattle.do_tree.specs.Tree.{Script}
 use Rattle.mailbox.specs.Posting.{of_slot}
-use Rattle.object_messages.specs.Naming.{answered_in, asked_in, times}
+use Rattle.object_messages.specs.Naming.{answered_in, asked_in, times, times_of}
 use Rattle.timeline.specs.Finish.{is_fetch_of}
 use Rattle.timeline.specs.Lines.{Identity}
 use Rattle.timeline.specs.Switch.{OpenFetch, Switch, SwitchLog, opened}
@@ -12,13 +12,6 @@ use Rattle.timeline.specs.declared.caller.Caller.TheVariants as from
 use Rattle.timeline.specs.declared.notice.Waits.{Waits}
 use Rattle.switch_history.specs.Answering.{AreOfSlots, AreServedOnce}
 use Rattle.switch_history.specs.Fit.{IsFitRun}
-
--- How often an incarnation and a number stand among some.
-abbrev pub same_numbers : ℕ × ℕ → ℕ × ℕ → Bool
-same_numbers a b = b.0 == a.0 && b.1 == a.1
-
-abbrev pub times_of : ℕ × ℕ → List (ℕ × ℕ) → ℕ
-times_of asked all = length (filter (same_numbers asked) all)
 
 -- The fetches of a slot's object that are open under these.
 abbrev pub open_of : ℕ → ℕ × ℕ → List OpenFetch → ℕ

@@ -2,6 +2,10 @@ pub mod Posted
 pub mod Fit
 pub mod Answering
 pub mod Asks
+pub mod AskedOnce
+pub mod Unknown
+pub mod Opened
+pub mod Lines
 pub mod Laws
 pub mod Ends
 pub mod Moments

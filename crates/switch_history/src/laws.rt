@@ -1,10 +1,14 @@
 //! Laws of a run of the switch. A call costs nothing and tells its caller the law.
 ghost use Rattle.switch_history.specs.Answering.{CallsAreAnsweredOnce};
+ghost use Rattle.switch_history.specs.AskedOnce.{AnswersAreNoMoreThanAsks};
 ghost use Rattle.switch_history.specs.Asks.{AsksAreAnsweredOnce};
 ghost use Rattle.switch_history.specs.Ends.{EndsAreRouted};
 ghost use Rattle.switch_history.specs.Laws.{AnswersAreAsked, CallsComeInOrder, FetchesAreNumbered, PostsFit, RequestsAreAnswered};
+ghost use Rattle.switch_history.specs.Lines.{LeftHasItsLine};
 ghost use Rattle.switch_history.specs.Moments.{MomentsAreInRange};
+ghost use Rattle.switch_history.specs.Opened.{FetchesAreOpen};
 ghost use Rattle.switch_history.specs.Placed.{PostsArePlaced};
+ghost use Rattle.switch_history.specs.Unknown.{UnknownIsOnlyAnswered};
 
 /// An answer is posted to the object that asked for it alone.
 pub fn answers_are_asked()
@@ -54,4 +58,24 @@ pub fn asks_are_answered_once()
 /// Each event is posted to a slot that has an object, and each call of an object comes from one that has one.
 pub fn posts_are_placed()
     ensures { PostsArePlaced }
+{}
+
+/// No call or fetch is posted more answers than it was routed times, where nobody is replied to more often than he called.
+pub fn answers_are_no_more_than_asks()
+    ensures { AnswersAreNoMoreThanAsks }
+{}
+
+/// A slot whose object is of no class of the script is posted answers alone.
+pub fn unknown_is_only_answered()
+    ensures { UnknownIsOnlyAnswered }
+{}
+
+/// A fetch that was routed and got no answer is open.
+pub fn fetches_are_open()
+    ensures { FetchesAreOpen }
+{}
+
+/// Each request that is left has exactly one line, and so has each accepted call in the end.
+pub fn left_has_its_line()
+    ensures { LeftHasItsLine }
 {}

@@ -35,7 +35,7 @@ returns-clause-row g c =
     (c.row_of.ensures.front ∙ ap (λ (front : Front). fronted front.half.log) c.split-front.ensures.0)
     (c.row_of.ensures.back ∙ ap (λ (back : Back g.row.D.Denot). backed back.log) c.split-front.ensures.1)
     c.one_is_history.ensures c.one_has_intake.ensures c.one_has_got.ensures c.one_has_class.ensures c.one_has_left.ensures c.one_has_told.ensures c.one_is_owed.ensures c.one_is_limited.ensures
-    c.one_tells_no_end.ensures c.one_drops.ensures
+    c.one_tells_no_end.ensures c.one_drops.ensures c.one_without_class.ensures
 
 pub returns-clause-quiet : goal.returns-clause-quiet
 returns-clause-quiet g c =
@@ -51,6 +51,7 @@ returns-clause-settled g c =
     (c.row_of.ensures.front ∙ ap (λ (front : Front). fronted front.half.log) c.split-front.ensures.0)
     (c.row_of.ensures.back ∙ ap (λ (back : Back g.row.D.Denot). backed back.log) c.split-front.ensures.1)
     c.one_is_quiet.ensures c.one_leaves.ensures c.one_rests.ensures c.one_sticks.ensures c.one_serves_once.ensures
+    c.one_has_let_go.ensures c.one_waits_for_fetches.ensures c.one_without_class.ensures
 
 pub returns-clause-left : goal.returns-clause-left
 returns-clause-left g c =

@@ -1,18 +1,14 @@
-use Rattle.std.proofs.Common.{◌≡◌, ◌≤◌, ◌∙◌, ap, sym, subst, refl, arith, Ok, Err, None, Some, Option, ℕ, List}
+use Rattle.std.proofs.Common.{◌∙◌, ap, sym, subst, ℕ}
 use Rattle.do_tree.specs.Checked.{tree_of}
 use Rattle.do_disk.specs.Disk.{Rose}
-use Rattle.line_server.specs.Lines.{count_of, source_of}
-use Rattle.mailbox.specs.Runs.{log_of, out_of, state_of}
+use Rattle.line_server.specs.Lines.{source_of}
+use Rattle.mailbox.specs.Runs.{log_of, out_of}
 use Rattle.mailbox.specs.Seen.{seen_log}
 use Rattle.mailbox.specs.declared.switch_log.SwitchLog.{SwitchLog}
 use Rattle.host_core.proofs.Reporting.{Ended, all_served, ends_by, finished_is, read_is, most_by, same_posts, serves_first, no_lines, prints_lines, write_rose, write_steady, reports}
-use Rattle.host_core.proofs.Answered.{are_settled}
 use Rattle.host_core.proofs.Ending.{either_way}
-use Rattle.host_core.proofs.InOrder.{come_in_order}
-use Rattle.host_core.proofs.Once.{are_answered}
 use Rattle.host_core.proofs.Reporting.{accepts_later, all_later, read_later}
 use Rattle.host_core.proofs.Servings.{of_ok}
-use Rattle.host_core.specs.Objects.{AreThere}
 use Rattle.host_core.specs.Quiet.{AreLeftIn}
 use Rattle.host_core.specs.Report.{PrintsLines}
 use Rattle.host_core.specs.declared.report.Report.{Report}
@@ -42,41 +38,28 @@ returns-clause-report g c = λ limit contents one_each going.
     rest.resting rest.routed)
     (λ sure is. let rest = all_served c.serve_lines-served.result _ sure c.serve_lines-served.ensures.resting c.serve_lines-served.ensures.read_resting in
     let serves = all_served c.serve_lines-served.result _ sure c.serve_lines-served.ensures.serving c.serve_lines-served.ensures.read_serving limit contents c.args.directory first in
-    are_settled g.D.Disk.moment_of g.D.Disk.left_since g.D.Disk.told g.D.Disk.faults_of limit (tree_of c.args.checked.now) contents c.args.directory
-    (log_of c.serve_lines-served.new.switch) (state_of c.serve_lines-served.new.switch) c.close-closed.new.rows.items c.close-closed.new.left.items
-    c.answers_are_asked.ensures serves.run
-    (c.close-closed.ensures.rows limit (tree_of c.args.checked.now) contents c.args.directory (log_of c.serve_lines-served.new.switch) has.slots)
-    (subst (λ (n : ℕ). AreThere n (log_of c.serve_lines-served.new.switch)) (sym c.close-closed.ensures.many) has.there)
-    (either_way c.close-closed.result _ ⊥ _ c.close-closed.ensures.settled (c.finish-end.ensures.closed sure is)
+    either_way c.close-closed.result _ ⊥ _ c.close-closed.ensures.settled (c.finish-end.ensures.closed sure is)
     (λ settled. settled limit (tree_of c.args.checked.now) contents c.args.directory (log_of c.serve_lines-served.new.switch) serves.slots rest.resting rest.routed)
-    (λ never. absurd never)))
+    (λ never. absurd never))
     (λ sure is. subst (λ (n : ℕ). AreLeftIn n c.close-closed.new.left.items) (sym c.close-closed.ensures.many)
     (either_way c.close-closed.result _ ⊥ _ c.close-closed.ensures.left_in (c.finish-end.ensures.closed sure is) (λ left_in. left_in) (λ never. absurd never)))
-    (λ sure. come_in_order g.D.Disk.moment_of g.D.Disk.left_since g.D.Disk.told g.D.Disk.faults_of limit (tree_of c.args.checked.now) contents c.args.directory
-    (log_of c.serve_lines-served.new.switch) (state_of c.serve_lines-served.new.switch) c.close-closed.new.rows.items c.calls_come_in_order.ensures
-    (all_served c.serve_lines-served.result _ sure c.serve_lines-served.ensures.serving c.serve_lines-served.ensures.read_serving limit contents c.args.directory first).run
-    (c.close-closed.ensures.rows limit (tree_of c.args.checked.now) contents c.args.directory (log_of c.serve_lines-served.new.switch) has.slots))
-    (λ sure is. let rest = all_served c.serve_lines-served.result _ sure c.serve_lines-served.ensures.resting c.serve_lines-served.ensures.read_resting in
-    let serves = all_served c.serve_lines-served.result _ sure c.serve_lines-served.ensures.serving c.serve_lines-served.ensures.read_serving limit contents c.args.directory first in
-    are_answered g.D.Disk.told limit (tree_of c.args.checked.now) contents c.args.directory (log_of c.serve_lines-served.new.switch) (state_of c.serve_lines-served.new.switch)
-    c.close-closed.new.left.items c.close-closed.new.rows.items c.calls_are_answered_once.ensures c.asks_are_answered_once.ensures
-    (all_served c.serve_lines-served.result _ sure c.serve_lines-served.ensures.order c.serve_lines-served.ensures.read_order)
-    (c.close-closed.ensures.many ∙ c.serve_lines-served.ensures.many ∙ sym c.requires.many)
-    (subst (λ (n : ℕ). AreLeftIn n c.close-closed.new.left.items) (sym c.close-closed.ensures.many)
-    (either_way c.close-closed.result _ ⊥ _ c.close-closed.ensures.left_in (c.finish-end.ensures.closed sure is) (λ left_in. left_in) (λ never. absurd never)))
-    (λ tell. serves.fit (c.close-closed.ensures.tells tell))
-    (are_settled g.D.Disk.moment_of g.D.Disk.left_since g.D.Disk.told g.D.Disk.faults_of limit (tree_of c.args.checked.now) contents c.args.directory
-    (log_of c.serve_lines-served.new.switch) (state_of c.serve_lines-served.new.switch) c.close-closed.new.rows.items c.close-closed.new.left.items
-    c.answers_are_asked.ensures serves.run
+    (λ sure. all_served c.serve_lines-served.result _ sure c.serve_lines-served.ensures.order c.serve_lines-served.ensures.read_order)
+    c.close-closed.ensures.tells (ap seen_log c.into_parts-out.ensures.log)
     (c.close-closed.ensures.rows limit (tree_of c.args.checked.now) contents c.args.directory (log_of c.serve_lines-served.new.switch) has.slots)
-    (subst (λ (n : ℕ). AreThere n (log_of c.serve_lines-served.new.switch)) (sym c.close-closed.ensures.many) has.there)
-    (either_way c.close-closed.result _ ⊥ _ c.close-closed.ensures.settled (c.finish-end.ensures.closed sure is)
-    (λ settled. settled limit (tree_of c.args.checked.now) contents c.args.directory (log_of c.serve_lines-served.new.switch) serves.slots rest.resting rest.routed)
-    (λ never. absurd never))))
-    (ap seen_log c.into_parts-out.ensures.log)
-    (c.close-closed.ensures.rows limit (tree_of c.args.checked.now) contents c.args.directory (log_of c.serve_lines-served.new.switch) has.slots)
-    c.close-closed.ensures.many (c.requires.many ∙ sym c.serve_lines-served.ensures.many) one_each c.finish-end.ensures.late c.ends_are_routed.ensures
-    c.posts_fit.ensures c.moments_are_in_range.ensures
+    c.close-closed.ensures.many (c.requires.many ∙ sym c.serve_lines-served.ensures.many) one_each c.finish-end.ensures.late
+    (record {
+      asked = c.answers_are_asked.ensures;
+      order = c.calls_come_in_order.ensures;
+      ends = c.ends_are_routed.ensures;
+      fit = c.posts_fit.ensures;
+      moments = c.moments_are_in_range.ensures;
+      calls = c.calls_are_answered_once.ensures;
+      asks = c.asks_are_answered_once.ensures;
+      few = c.answers_are_no_more_than_asks.ensures;
+      alone = c.unknown_is_only_answered.ensures;
+      open_fetches = c.fetches_are_open.ensures;
+      lines = c.left_has_its_line.ensures;
+    })
 
 pub returns-clause-lines : goal.returns-clause-lines
 returns-clause-lines g c =

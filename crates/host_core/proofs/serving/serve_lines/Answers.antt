@@ -1,11 +1,9 @@
-use Rattle.std.proofs.Common.{◌≡◌, ◌≤◌, ◌∙◌, ap, sym, subst, refl, arith, Ok, Err, None, Option, ℕ, List}
+use Rattle.std.proofs.Common.{◌∙◌, ap, sym, subst, refl, arith, Ok, Err, Option}
 use Rattle.std.proofs.lemmas.Result.{err_from_is_err_and}
 use Rattle.do_tree.specs.Checked.{tree_of}
-use Rattle.line_server.specs.Lines.{count_of, source_of, most_left}
-use Rattle.line_server.specs.Requests.{SeenLine}
+use Rattle.line_server.specs.Lines.{count_of, source_of}
 use Rattle.line_server.specs.declared.line.Line as read
 use Rattle.mailbox.specs.Runs.{log_of}
-use Rattle.timeline.specs.Lines.{Line}
 use Rattle.host_core.proofs.Ending.{serves_served, prints_fault, prints_good, line_waits, never, read_fault_of}
 use Rattle.host_core.proofs.Once.{next_in_order, next_up_to, none_in_order, none_up_to}
 use Rattle.host_core.proofs.Printings.{prints_then}
@@ -14,7 +12,7 @@ use Rattle.std.specs.Prelude.{Result}
 use Rattle.host_core.specs.Ends.{most_waiting}
 use Rattle.host_core.specs.Running.{PrintsUntil}
 use Rattle.host_core.specs.declared.serving.Stop.{Stop}
-use Rattle.host_core.specs.Reading.{Accepts, read_lines}
+use Rattle.host_core.specs.Reading.{Accepts}
 use Rattle.host_core.proofs.serving.serve_lines.Goals as goal
 
 pub returns-in_err-settle-clause-accepts : goal.returns-in_err-settle-clause-accepts

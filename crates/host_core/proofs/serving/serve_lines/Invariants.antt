@@ -4,7 +4,7 @@ use Rattle.do_tree.specs.Checked.{tree_of}
 use Rattle.line_server.specs.Lines.{IsReading, source_of, count_of, fault_of as line_fault}
 use Rattle.line_server.specs.declared.TheConstants.{MOST_LINES}
 use Rattle.placement.specs.Slots.{Slots}
-use Rattle.mailbox.specs.Runs.{fault_of, log_of}
+use Rattle.mailbox.specs.Runs.{log_of}
 use Rattle.switch_history.specs.Answering.{AreInOrder}
 use Rattle.host_core.proofs.Once.{AreUpTo}
 use Rattle.host_core.specs.Objects.{CanAllRun}

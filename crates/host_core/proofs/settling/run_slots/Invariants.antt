@@ -2,7 +2,7 @@ use Rattle.std.proofs.Common.{◌≡◌, ◌<◌, ℕ, List, length, Option}
 use Rattle.do_tree.specs.Checked.{tree_of}
 use Rattle.placement.specs.Slots.{Slots}
 use Rattle.timeline.specs.Switch.{SwitchLog}
-use Rattle.host_core.specs.Objects.{AllSlots, AllTell, AreGoing, CanAllRun}
+use Rattle.host_core.specs.Objects.{AllSlots, ObjectsTell, AreGoing, CanAllRun}
 use Rattle.host_core.specs.Slots.{IsResting}
 use Rattle.host_core.proofs.settling.run_slots.Given as goal
 
@@ -13,7 +13,7 @@ invariant-loop-slot g l = record {
   going : (limit : ℕ) (contents : ℕ → Option (List ℕ)) (named : Slots) (log : SwitchLog)
       → AreGoing g.D.Disk.moment_of g.D.Disk.left_since g.D.Disk.told g.D.Disk.image g.D.Disk.faults_of limit (tree_of l.checked) contents named log l.fn.objects
       → AreGoing g.D.Disk.moment_of g.D.Disk.left_since g.D.Disk.told g.D.Disk.image g.D.Disk.faults_of limit (tree_of l.checked) contents named log l.objects;
-  tells : AllTell g.D.Disk.told l.objects → AllTell g.D.Disk.told l.fn.objects;
+  tells : ObjectsTell g.D.Disk.told l.objects → ObjectsTell g.D.Disk.told l.fn.objects;
   rest : AllSlots (λ slot core inbox out. slot < l.slot → IsResting (tree_of l.checked) core inbox) l.objects;
   many : length l.objects.cores.items ≡ l.slots;
   same : l.slots ≡ length l.fn.objects.cores.items;

@@ -1,5 +1,6 @@
 use Rattle.std.proofs.Common.{refl}
 use Rattle.host_workers.proofs.Backing.{flush_keeps}
+use Rattle.host_workers.proofs.Alone.{flush_alone}
 use Rattle.host_workers.proofs.back_cell.BackCell.flush.Goals as goal
 
 pub flush-requires : goal.flush-requires
@@ -11,3 +12,10 @@ returns-clause-cell g c start opening one =
     flush_keeps g.D.Disk.moment_of g.D.Disk.left_since g.D.Disk.told g.D.Disk.image g.D.Disk.faults_of start opening c.args.self.now.back c.flush.new.self
     c.args.self.now.line.got c.args.self.now.line.got c.args.self.now.notices.sent c.args.self.now.notices.sent c.args.self.now.out.sent c.args.self.now.out.sent one c.flush.result refl refl refl
     e.nothing e.flushed e.tells e.stopped e.back
+
+pub returns-clause-alone : goal.returns-clause-alone
+returns-clause-alone g c start opening object limit alarm one =
+    let e = c.flush.ensures in
+    flush_alone g.D.Disk.moment_of g.D.Disk.left_since g.D.Disk.told g.D.Disk.image g.D.Disk.faults_of start opening object limit alarm c.args.self.now.back c.flush.new.self
+    c.args.self.now.line.got c.args.self.now.line.got c.args.self.now.notices.sent c.args.self.now.notices.sent c.args.self.now.out.sent c.args.self.now.out.sent one c.flush.result refl refl refl
+    e.nothing e.flushed e.tells e.limit e.stopped e.back

@@ -1,0 +1,26 @@
+use Rattle.host_workers.proofs.jobs.step_back.Goals as goal
+
+pub flush-flushed-requires : goal.flush-flushed-requires
+flush-flushed-requires g c =
+    let can = c.requires in
+    (can.0, can.1, c.take_all-took.ensures.cell can.0 can.1 can.2)
+
+pub release_all-released-requires : goal.release_all-released-requires
+release_all-released-requires g c =
+    let can = c.requires in
+    (can.0, can.1, c.flush-flushed.ensures.cell can.0 can.1 (c.take_all-took.ensures.cell can.0 can.1 can.2))
+
+pub mend-mended-requires : goal.mend-mended-requires
+mend-mended-requires g c =
+    let can = c.requires in
+    (can.0, can.1, c.release_all-released.ensures.cell can.0 can.1 (c.flush-flushed.ensures.cell can.0 can.1 (c.take_all-took.ensures.cell can.0 can.1 can.2)))
+
+pub returns-clause-cell : goal.returns-clause-cell
+returns-clause-cell g c start opening is =
+    c.mend-mended.ensures.cell start opening (c.release_all-released.ensures.cell start opening
+    (c.flush-flushed.ensures.cell start opening (c.take_all-took.ensures.cell start opening is)))
+
+pub returns-clause-alone : goal.returns-clause-alone
+returns-clause-alone g c start opening object limit alarm is =
+    c.mend-mended.ensures.alone start opening object limit alarm (c.release_all-released.ensures.alone start opening object limit alarm
+    (c.flush-flushed.ensures.alone start opening object limit alarm (c.take_all-took.ensures.alone start opening object limit alarm is)))

@@ -1,0 +1,54 @@
+-- What names one run.
+use Rattle.std.specs.Prelude.{ℕ, ℤ, List, [], Option, None}
+use Rattle.do_tree.specs.Tree.{Script}
+use Rattle.lane.specs.Lanes.{LaneId, nowhere}
+use Rattle.storage_map.specs.Limits.{Object}
+use Rattle.storage_map.specs.declared.op.Op.{Op}
+use Rattle.timeline.specs.Switch.{Switch, opened}
+
+-- The script; how many slots there are, and for each, by its number: its four lanes (to the front events and notices, from it its entries, and
+-- what its back lets go), the class and the alarm with which its front begins, the batches with which its back was mounted, the moment of
+-- that, its object then, and how many bytes its journal may have; the lane of the lines; the switch from which the run begins; what the input has left and what the sink holds, where they tell it; and
+-- how many reads and writes of them have failed before.
+pub record Run : Type 0 where
+  pub script : Script
+  pub slots : ℕ
+  pub inboxes : ℕ → LaneId
+  pub notices : ℕ → LaneId
+  pub entries : ℕ → LaneId
+  pub outs : ℕ → LaneId
+  pub classes : ℕ → Option ℕ
+  pub alarms : ℕ → Option (ℤ × ℕ)
+  pub starts : ℕ → List (List Op)
+  pub openings : ℕ → ℕ
+  pub objects : ℕ → Option Object
+  pub limits : ℕ → ℕ
+  pub lines : LaneId
+  pub switch : Switch
+  pub input : Option (List ℕ)
+  pub held : Option (List ℕ)
+  pub read_faults : ℕ
+  pub write_faults : ℕ
+
+-- A run of no slot.
+abbrev pub nobody : Run
+nobody = record {
+  script = record { import = None; classes = [] };
+  slots = 0;
+  inboxes = λ slot. nowhere;
+  notices = λ slot. nowhere;
+  entries = λ slot. nowhere;
+  outs = λ slot. nowhere;
+  classes = λ slot. None;
+  alarms = λ slot. None;
+  starts = λ slot. [];
+  openings = λ slot. 0;
+  objects = λ slot. None;
+  limits = λ slot. 0;
+  lines = nowhere;
+  switch = opened [];
+  input = None;
+  held = None;
+  read_faults = 0;
+  write_faults = 0;
+}

@@ -1,0 +1,303 @@
+//! What is done with a cell that is out of its place.
+ghost use Rattle.std.specs.Prelude.{◌≡◌, ℕ, ℤ, List, Option, Some};
+ghost use Rattle.timeline.specs.Switch.{Switch as SeenSwitch};
+ghost use Rattle.host_workers.specs.Backs.{CanStep, KeepsBackCell, KeepsCellAlone, SameLanes as SameBackLanes};
+ghost use Rattle.host_workers.specs.Board.{IsHeld, held_count};
+ghost use Rattle.host_workers.specs.Fronts.{IsFrontCell, KeepsFrontCell, SameLanes as SameFrontLanes};
+ghost use Rattle.host_workers.specs.Lines.{HasCounted, IsLinesCell};
+ghost use Rattle.host_workers.specs.Switches.{IsSwitchCell, KeepsPrinted, KeepsSwitchCell, SameLanes as SameSwitchLanes};
+
+use crate::back_cell::BackCell;
+use crate::cells::Held;
+use crate::front_cell::FrontCell;
+use crate::lines_cell::LinesCell;
+use crate::names::Names;
+use crate::switch_cell::SwitchCell;
+use do_disk::{Disk, Sink, Source, TurnGate};
+use do_value::NoMemory;
+use line_server::LineFault;
+use mailbox::SwitchFault;
+use object_front::Turned;
+use std::alloc::Global;
+use std::sync::Wait;
+use timeline::Stepped;
+
+/// How many steps of one kind a worker makes at most while it holds a cell.
+pub const MOST_STEPS: u32 = 1_024;
+
+/// How a worker ended.
+#[derive(Clone, Copy, PartialEq, Eq, Debug, Drop)]
+pub enum WorkEnd {
+    /// The input has ended, and nothing is left to do.
+    Ended,
+    /// A read of the input has failed, and nothing is left to do.
+    ReadFailed,
+    /// A worker has met a write fault.
+    WriteFailed,
+    /// A worker has met want of memory.
+    NoMemory,
+}
+
+// A place whose cell a worker takes to work on it.
+#[derive(Clone, Copy, Debug, Drop)]
+pub(crate) enum Job {
+    Front(u32),
+    Back(u32),
+    Switch,
+    Lines,
+}
+
+// What a worker found at a cell.
+#[derive(Clone, Copy, Debug, Drop)]
+pub(crate) enum Found {
+    // There was nothing to do.
+    Nothing,
+    // It did all that there was to do.
+    Made,
+    // It did something, and there may be more to do.
+    More,
+    // The input has ended, or it stands at this fault.
+    Stopped(WorkEnd),
+}
+
+impl Found {
+    // How much it says: a cell that stopped says most.
+    fn rank(&self) -> u8 {
+        match self {
+            Found::Nothing => 0,
+            Found::Made => 1,
+            Found::More => 2,
+            Found::Stopped(_) => 3,
+        }
+    }
+
+    // What was found in two things that were done.
+    fn and(self, other: Found) -> Found {
+        if self.rank() < other.rank() {
+            other
+        } else {
+            self
+        }
+    }
+}
+
+// Works on a cell, without the lock.
+pub(crate) fn work_on<'s, L: Names, D: Disk, R: Source, W: Sink, T: Wait + Copy, G: TurnGate>(
+    alloc: Global,
+    gate: &G,
+    held: Held<'s, D, R, W, T>,
+) -> (Held<'s, D, R, W, T>, Found)
+    requires held { IsHeld L.names D.moment_of D.left_since D.told D.image D.faults_of R.left R.faults_of W.taken W.faults_of held }
+    ensures held { IsHeld L.names D.moment_of D.left_since D.told D.image D.faults_of R.left R.faults_of W.taken W.faults_of result.0 }
+    ensures count { held_count result.0 ≡ held_count held.entry }
+{
+    match held {
+        Held::Front { slot, cell } => {
+            let mut cell = cell;
+            let found = turn_front(alloc, gate, slot, &mut cell);
+            (Held::Front { slot, cell }, found)
+        }
+        Held::Back { slot, cell } => {
+            let mut cell = cell;
+            let found = step_back(alloc, &mut cell);
+            (Held::Back { slot, cell }, found)
+        }
+        Held::Switch { cell } => {
+            let mut cell = cell;
+            let found = run_switch(&mut cell);
+            (Held::Switch { cell }, found)
+        }
+        Held::Lines { cell } => {
+            let mut cell = cell;
+            let found = read_line(&mut cell);
+            (Held::Lines { cell }, found)
+        }
+    }
+}
+
+// Makes a front's turns until it is idle, within the gate.
+fn turn_front<'s, T: Wait + Copy, G: TurnGate>(
+    alloc: Global,
+    gate: &G,
+    slot: u32,
+    cell: &mut FrontCell<'s, T>,
+) -> Found
+    requires { (first : Option ℕ) × (alarm : Option (ℤ × ℕ)) × IsFrontCell first alarm cell.old }
+    ensures lanes { SameFrontLanes cell.old cell.new }
+    ensures cell { KeepsFrontCell cell.old cell.new }
+{
+    gate.enter(slot);
+    let found = make_turns(alloc, cell);
+    gate.leave(slot);
+    found
+}
+
+fn make_turns<'s, T: Wait + Copy>(alloc: Global, cell: &mut FrontCell<'s, T>) -> Found
+    requires { (first : Option ℕ) × (alarm : Option (ℤ × ℕ)) × IsFrontCell first alarm cell.old }
+    ensures lanes { SameFrontLanes cell.old cell.new }
+    ensures cell { KeepsFrontCell cell.old cell.new }
+{
+    let mut found = Found::Nothing;
+    for _ in 0..MOST_STEPS {
+        match cell.turn(alloc) {
+            Ok(Turned::Ran) => found = Found::Made,
+            Ok(Turned::Idle) => return found,
+            Err(NoMemory) => return Found::Stopped(WorkEnd::NoMemory),
+        }
+    }
+    Found::More
+}
+
+// Takes all that has come, appends it as one flight, and lets go what may go. What that makes room for is taken by the next worker.
+fn step_back<D: Disk, T: Wait + Copy>(alloc: Global, cell: &mut BackCell<D, T>) -> Found
+    requires { CanStep D.moment_of D.left_since D.told D.image D.faults_of cell.old }
+    ensures lanes { SameBackLanes cell.old cell.new }
+    ensures cell { KeepsBackCell D.moment_of D.left_since D.told D.image D.faults_of cell.old cell.new }
+    ensures alone { KeepsCellAlone D.moment_of D.left_since D.told D.image D.faults_of cell.old cell.new }
+{
+    let took = take_all(cell);
+    let flushed = flush(cell);
+    let released = release_all(cell);
+    let mended = mend(alloc, cell);
+    again(took.and(flushed).and(released).and(mended))
+}
+
+// Whether a back that did something has more to do only another look tells.
+fn again(found: Found) -> Found {
+    match found {
+        Found::Made => Found::More,
+        found => found,
+    }
+}
+
+// What a step found.
+fn found_of(stepped: Stepped) -> Found {
+    match stepped {
+        Stepped::Did => Found::Made,
+        Stepped::Nothing => Found::Nothing,
+    }
+}
+
+fn take_all<D: Disk, T: Wait + Copy>(cell: &mut BackCell<D, T>) -> Found
+    requires { CanStep D.moment_of D.left_since D.told D.image D.faults_of cell.old }
+    ensures lanes { SameBackLanes cell.old cell.new }
+    ensures cell { KeepsBackCell D.moment_of D.left_since D.told D.image D.faults_of cell.old cell.new }
+    ensures alone { KeepsCellAlone D.moment_of D.left_since D.told D.image D.faults_of cell.old cell.new }
+{
+    let mut found = Found::Nothing;
+    for _ in 0..MOST_STEPS {
+        match cell.take() {
+            Ok(Stepped::Did) => found = Found::Made,
+            Ok(Stepped::Nothing) => return found,
+            Err(NoMemory) => return Found::Stopped(WorkEnd::NoMemory),
+        }
+    }
+    Found::More
+}
+
+fn flush<D: Disk, T: Wait + Copy>(cell: &mut BackCell<D, T>) -> Found
+    requires { CanStep D.moment_of D.left_since D.told D.image D.faults_of cell.old }
+    ensures lanes { SameBackLanes cell.old cell.new }
+    ensures cell { KeepsBackCell D.moment_of D.left_since D.told D.image D.faults_of cell.old cell.new }
+    ensures alone { KeepsCellAlone D.moment_of D.left_since D.told D.image D.faults_of cell.old cell.new }
+{
+    found_of(cell.flush())
+}
+
+fn release_all<D: Disk, T: Wait + Copy>(cell: &mut BackCell<D, T>) -> Found
+    requires { CanStep D.moment_of D.left_since D.told D.image D.faults_of cell.old }
+    ensures lanes { SameBackLanes cell.old cell.new }
+    ensures cell { KeepsBackCell D.moment_of D.left_since D.told D.image D.faults_of cell.old cell.new }
+    ensures alone { KeepsCellAlone D.moment_of D.left_since D.told D.image D.faults_of cell.old cell.new }
+{
+    let mut found = Found::Nothing;
+    for _ in 0..MOST_STEPS {
+        match cell.release() {
+            Ok(Stepped::Did) => found = Found::Made,
+            Ok(Stepped::Nothing) => return found,
+            Err(NoMemory) => return Found::Stopped(WorkEnd::NoMemory),
+        }
+    }
+    Found::More
+}
+
+// Mounts the journal again, where an append has failed.
+fn mend<D: Disk, T: Wait + Copy>(alloc: Global, cell: &mut BackCell<D, T>) -> Found
+    requires { CanStep D.moment_of D.left_since D.told D.image D.faults_of cell.old }
+    ensures lanes { SameBackLanes cell.old cell.new }
+    ensures cell { KeepsBackCell D.moment_of D.left_since D.told D.image D.faults_of cell.old cell.new }
+    ensures alone { KeepsCellAlone D.moment_of D.left_since D.told D.image D.faults_of cell.old cell.new }
+{
+    match cell.mend(alloc) {
+        Ok(stepped) => found_of(stepped),
+        Err(NoMemory) => Found::Stopped(WorkEnd::NoMemory),
+    }
+}
+
+// What the switch found.
+fn found_in(answer: Result<Stepped, SwitchFault>) -> Found {
+    match answer {
+        Ok(stepped) => found_of(stepped),
+        Err(SwitchFault::WriteFailed) => Found::Stopped(WorkEnd::WriteFailed),
+        Err(SwitchFault::NoMemory) => Found::Stopped(WorkEnd::NoMemory),
+    }
+}
+
+// Accepts the lines that have come, and routes the messages.
+fn run_switch<'s, W: Sink, T: Wait + Copy>(cell: &mut SwitchCell<'s, W, T>) -> Found
+    requires { (first : SeenSwitch) × IsSwitchCell first cell.old }
+    ensures lanes { SameSwitchLanes cell.old cell.new }
+    ensures cell { KeepsSwitchCell cell.old cell.new }
+    ensures printed { KeepsPrinted W.taken W.faults_of cell.old.switch cell.new.switch }
+{
+    let accepted = accept_all(cell);
+    accepted.and(route_all(cell))
+}
+
+fn accept_all<'s, W: Sink, T: Wait + Copy>(cell: &mut SwitchCell<'s, W, T>) -> Found
+    requires { (first : SeenSwitch) × IsSwitchCell first cell.old }
+    ensures lanes { SameSwitchLanes cell.old cell.new }
+    ensures cell { KeepsSwitchCell cell.old cell.new }
+    ensures printed { KeepsPrinted W.taken W.faults_of cell.old.switch cell.new.switch }
+{
+    let mut found = Found::Nothing;
+    for _ in 0..MOST_STEPS {
+        match found_in(cell.accept()) {
+            Found::Nothing => return found,
+            Found::Stopped(end) => return Found::Stopped(end),
+            _ => found = Found::Made,
+        }
+    }
+    Found::More
+}
+
+fn route_all<'s, W: Sink, T: Wait + Copy>(cell: &mut SwitchCell<'s, W, T>) -> Found
+    requires { (first : SeenSwitch) × IsSwitchCell first cell.old }
+    ensures lanes { SameSwitchLanes cell.old cell.new }
+    ensures cell { KeepsSwitchCell cell.old cell.new }
+    ensures printed { KeepsPrinted W.taken W.faults_of cell.old.switch cell.new.switch }
+{
+    let mut found = Found::Nothing;
+    for _ in 0..MOST_STEPS {
+        match found_in(cell.route()) {
+            Found::Nothing => return found,
+            Found::Stopped(end) => return Found::Stopped(end),
+            _ => found = Found::Made,
+        }
+    }
+    Found::More
+}
+
+// Reads the next line and sends it to the switch.
+fn read_line<R: Source, T: Wait + Copy>(cell: &mut LinesCell<R, T>) -> Found
+    ensures cell { (whole : List ℕ) → IsLinesCell R.left whole cell.old → IsLinesCell R.left whole cell.new }
+    ensures counts { (from : ℕ) → HasCounted R.faults_of from cell.old.lines → HasCounted R.faults_of from cell.new.lines }
+    ensures lane { cell.new.send.lane ≡ cell.old.send.lane }
+{
+    match cell.read() {
+        Ok(Stepped::Did) => Found::Made,
+        Ok(Stepped::Nothing) => Found::Stopped(WorkEnd::Ended),
+        Err(LineFault::ReadFailed) => Found::Stopped(WorkEnd::ReadFailed),
+        Err(LineFault::NoMemory) => Found::Stopped(WorkEnd::NoMemory),
+    }
+}

@@ -1,0 +1,125 @@
+//! The board under its lock, and the workers.
+ghost use Rattle.std.specs.Prelude.{◌≡◌, ◌<◌, ◌≤◌, ◌+◌, IfOk, OnErr};
+ghost use Rattle.host_workers.specs.Board.{IsHeld, empty_places, held_count};
+
+use crate::board::{Board, Look};
+use crate::cells::Held;
+use crate::jobs::{Found, WorkEnd, work_on};
+use crate::names::Names;
+use do_disk::{Disk, Sink, Source, TurnGate};
+use std::alloc::Global;
+use std::sync::ledger::Share;
+use std::sync::{Condvar, Mutex, Wait};
+
+/// A board that workers share, under one lock.
+#[derive(Drop)]
+pub struct Shared<'s, L: Names, D: Disk, R: Source, W: Sink, T: Wait> {
+    lock: Mutex<Board<'s, L, D, R, W, T>>,
+    // Told at each change of the board. Who waits for it sleeps.
+    changed: Condvar,
+}
+
+/// How a worker ended, and its share.
+#[derive(Drop)]
+pub struct Worked<L: Names> {
+    pub end: WorkEnd,
+    pub share: Share<L>,
+}
+
+impl<'s, L: Names, D: Disk + Drop, R: Source + Drop, W: Sink + Drop, T: Wait + Copy> Shared<
+    's,
+    L,
+    D,
+    R,
+    W,
+    T,
+> {
+    /// It takes no memory.
+    pub fn new(board: Board<'s, L, D, R, W, T>) -> Shared<'s, L, D, R, W, T> {
+        Shared {
+            lock: Mutex::new(board),
+            changed: Condvar::new(),
+        }
+    }
+
+    /// The board, once all workers have ended: no place is empty. It takes no memory.
+    pub fn close(self, share: Share<L>) -> Board<'s, L, D, R, W, T>
+        requires { (share.parts ≡ L.parts) × (share.amount ≡ 0) }
+        ensures { empty_places result ≡ 0 }
+    {
+        let mut board = self.lock.into_inner();
+        let mut all = share;
+        board.audit(&mut all);
+        board
+    }
+
+    // Takes the next cell with something to do out of its place. It waits where another worker may still make some.
+    fn next(&self, rt: &T, share: &mut Share<L>, me: u32) -> Result<Held<'s, D, R, W, T>, WorkEnd>
+        requires { 0 < share.old.parts }
+        ensures parts { share.new.parts ≡ share.old.parts }
+        ensures held { IfOk result (λ held.
+            IsHeld L.names D.moment_of D.left_since D.told D.image D.faults_of R.left R.faults_of W.taken W.faults_of held) }
+        ensures amount { IfOk result (λ held. share.new.amount ≡ share.old.amount + held_count held) }
+        ensures ended { OnErr result (share.new.amount ≡ share.old.amount) }
+    {
+        let mut board = self.lock.lock(rt);
+        for _ in rt.forever() {
+            match board.look(me) {
+                Look::Do(job) => return Ok(board.take(share, job)),
+                Look::End(end) => {
+                    self.changed.notify_all();
+                    return Err(end);
+                }
+                Look::Wait => board = self.changed.wait(rt, board),
+            }
+        }
+        unreachable!()
+    }
+
+    // Puts a cell back at its place, and tells those who wait.
+    fn put_back(&self, rt: &T, share: &mut Share<L>, held: Held<'s, D, R, W, T>, found: Found)
+        requires held { IsHeld L.names D.moment_of D.left_since D.told D.image D.faults_of R.left R.faults_of W.taken W.faults_of held }
+        requires out { held_count held ≤ share.old.amount }
+        ensures parts { share.new.parts ≡ share.old.parts }
+        ensures amount { share.new.amount + held_count held.entry ≡ share.old.amount }
+    {
+        let mut board = self.lock.lock(rt);
+        board.put_back(share, held, found);
+        self.changed.notify_all();
+    }
+}
+
+/// Takes cells with something to do out of their places, works on each without the lock, and puts it back, until nothing is left to do and the
+/// input has ended or a read of it has failed, or until a worker has met a write fault or want of memory. Each worker has a number `me` of
+/// its own, counted from 0.
+pub fn work<
+    's,
+    L: Names,
+    D: Disk + Drop,
+    R: Source + Drop,
+    W: Sink + Drop,
+    T: Wait + Copy,
+    G: TurnGate,
+>(
+    rt: &T,
+    alloc: Global,
+    shared: &Shared<'s, L, D, R, W, T>,
+    gate: &G,
+    me: u32,
+    share: Share<L>,
+) -> Worked<L>
+    requires { (0 < share.parts) × (share.amount ≡ 0) }
+    ensures { (result.share.parts ≡ share.parts) × (result.share.amount ≡ 0) }
+{
+    let mut share = share;
+    for _ in rt.forever() {
+        match shared.next(rt, &mut share, me) {
+            Ok(held) => {
+                let (held, found) = work_on::<L, D, R, W, T, G>(alloc, gate, held);
+                shared.put_back(rt, &mut share, held, found);
+            }
+            Err(end) => return Worked { end, share },
+        }
+    }
+    unreachable!()
+}
