@@ -215,7 +215,7 @@ module _ {S R W : Type 0} (moment_of : S → ℕ) (left_since : S → ℕ → Li
     statuses = status_known wrote taken run.dumped out_after status run.end shown;
     bad_slot_kept = λ seven. let bad = ends_seven wrote taken run.dumped out_after status run.end shown seven in (run.dumps.bad bad.0 bad.1).1;
     line_limit = lines_unread old report empty run.dumps.dump_alone.1;
-    accepted = accepts_unread old report empty (left input) (left input_after) _ (ap left unread) run.dumps.dump_alone.0 run.dumps.dump_alone.1;
+    accepted = accepts_unread old report empty (left input) (left input_after) (ap left unread) run.dumps.dump_alone.0 run.dumps.dump_alone.1;
     all_read = λ five. absurd (no_five five);
     unread = λ none. (unread, run.dumps.dump_alone.0, run.dumps.dump_alone.1 ∙ empty.lines);
     silent = λ none silent. ap taken (ends_silent wrote taken run.dumped out_after status run.end shown silent ∙ run.dumps.unwritten (omega (arith, some, ap length none)));

@@ -150,7 +150,7 @@ any_unread faults_of left read taken wrote depot_before depot_after input input_
   statuses = is.0;
   bad_slot_kept = λ seven. absurd (is.2 seven);
   line_limit = lines_unread report report empty refl;
-  accepted = accepts_unread report report empty (left input) (left input_after) _ (ap left same) refl refl;
+  accepted = accepts_unread report report empty (left input) (left input_after) (ap left same) refl refl;
   all_read = λ five. absurd (is.1 five);
   unread = λ none. (same, refl, empty.lines);
   silent = λ none. silent;

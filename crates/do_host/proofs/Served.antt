@@ -2,15 +2,11 @@
 use Rattle.std.proofs.Common.{◌≡◌, ◌≢◌, ◌≤◌, ◌<◌, ◌⊎◌, ⊎_elim, inl, inr, ℕ, List, [], length, Option, refl, sym, ap, subst, ◌∙◌, arith}
 use Rattle.std.specs.Prelude.{IsSome}
 use Rattle.do_disk.specs.Asks.{Ask}
-use Rattle.do_disk.specs.Disk.{IfTold, Rose}
+use Rattle.do_disk.specs.Disk.{Rose}
 use Rattle.do_tree.specs.Tree.{Script}
-use Rattle.line_server.proofs.Looking.{looked_fewer}
-use Rattle.line_server.specs.Going.{HasLookedAt}
 use Rattle.mailbox.specs.Seen.{seen_log}
-use Rattle.timeline.specs.Lines.{Line}
 use Rattle.host_core.specs.Opening.{HasFailedDisk}
-use Rattle.host_core.specs.Reading.{Accepts, AcceptsAllRead}
-use Rattle.host_core.specs.Report.{HasCause, IsEmpty, IsOpened, ReadsLines, most_unaccepted}
+use Rattle.host_core.specs.Report.{HasCause, IsEmpty, IsOpened, ReadsLines}
 use Rattle.host_core.specs.declared.report.Report.{Report}
 use Rattle.host_core.specs.declared.settings.Bad.{Bad}
 use Rattle.host_core.specs.declared.settings.ServeEnd.{ServeEnd}
@@ -18,7 +14,7 @@ use Rattle.host_core.specs.declared.settings.ServeEnd.TheVariants as ends
 use Rattle.do_host.specs.Endings.{TellsBad, TellsEnd}
 use Rattle.do_host.specs.Runs.{AtAnyEnd, ServesTree}
 use Rattle.do_host.specs.SlotLines.{bad_line}
-use Rattle.do_host.specs.Status.{IsStatus, IsDumpStatus, IsSilentStatus, most_waiting, status_of}
+use Rattle.do_host.specs.Status.{IsStatus, IsDumpStatus, IsSilentStatus, status_of}
 use Rattle.do_host.specs.Written.{WritesAll, WritesFirstOf}
 
 -- The status and the end: each status of the slots is that of its end; and a bad slot has three.
@@ -85,18 +81,6 @@ end_seven ends.ReadFailed is = cc
 end_seven ends.WriteFailed is = cc
 end_seven (ends.BadSlot bad) is = (bad, refl)
 
--- a line more may be looked at where memory was wanting
-end_waiting : (end : ServeEnd) → most_unaccepted end ≤ most_waiting (status_of end)
-end_waiting ends.Finished = omega arith
-end_waiting ends.OpenFailed = omega arith
-end_waiting ends.NoMemory = omega arith
-end_waiting ends.ReadFailed = omega arith
-end_waiting ends.WriteFailed = omega arith
-end_waiting (ends.BadSlot bad) = omega arith
-
-bad_waiting : (end : ServeEnd) (bad : Bad) (n : ℕ) → end ≡ ends.BadSlot bad → most_unaccepted end ≤ n
-bad_waiting end bad n is = let none : most_unaccepted end ≡ 0 = ap most_unaccepted is in omega (arith, none)
-
 read_failed_is_good : ends.ReadFailed ≢ ends.WriteFailed
 read_failed_is_good same = cc
 
@@ -156,12 +140,6 @@ module _ {W : Type 0} (wrote : W → ℕ) (taken : W → Option (List ℕ)) (out
   ends_silent (in_part bad is six was rose) silent = absurd (silent.3 six)
   ends_silent (untold bad is four same) silent = same
 
-  pub ends_waiting : Ends wrote taken out after status end → most_unaccepted end ≤ most_waiting status
-  ends_waiting (plain other is same) = subst (λ s. most_unaccepted end ≤ most_waiting s) (sym is) (end_waiting end)
-  ends_waiting (told bad is seven was counted) = bad_waiting end bad (most_waiting status) is
-  ends_waiting (in_part bad is six was rose) = bad_waiting end bad (most_waiting status) is
-  ends_waiting (untold bad is four same) = bad_waiting end bad (most_waiting status) is
-
 -- a dump has one of its statuses, as it reads nothing
 plain_dump : (end : ServeEnd) → end ≢ ends.ReadFailed → IsDumpStatus (status_of end)
 plain_dump ends.Finished other = (0, omega arith, refl)
@@ -176,14 +154,6 @@ dump_known wrote taken out after status end other (plain no_bad is same) = subst
 dump_known wrote taken out after status end other (told bad is seven was counted) = (4, omega arith, sym seven)
 dump_known wrote taken out after status end other (in_part bad is six was rose) = (3, omega arith, sym six)
 dump_known wrote taken out after status end other (untold bad is four same) = (2, omega arith, sym four)
-
--- at most so many more were looked at, or more
-more_looked : (whole : List ℕ) (after : Option (List ℕ)) (most more count : ℕ) (accepted : List Line) → most ≤ more → Accepts whole after most accepted count → Accepts whole after more accepted count
-more_looked whole after most more count accepted few accepts = record {
-  first = accepts.first;
-  looked_at = let looked = accepts.looked_at in
-      record { read = looked.read; source = looked.source; reached = looked.reached; more = looked.more; few = omega (arith, looked.few, few); all = looked.all };
-}
 
 module _ {S R W : Type 0} (moment_of : S → ℕ) (left_since : S → ℕ → List ℕ → Type 0) (store_told : S → Option (List ℕ)) (image : S → List ℕ → Type 0) (faults_of : S → ℕ)
     (left : R → Option (List ℕ)) (read : R → ℕ) (taken : W → Option (List ℕ)) (wrote : W → ℕ) (slots : ℕ)
@@ -203,8 +173,7 @@ module _ {S R W : Type 0} (moment_of : S → ℕ) (left_since : S → ℕ → Li
     statuses = status_known wrote taken served after status end is;
     bad_slot_kept = λ seven. let bad = ends_seven wrote taken served after status end is seven in opened.kept bad.0 bad.1;
     line_limit = lines.limit;
-    accepted = λ whole told. more_looked whole (left input_after) (most_unaccepted end) (most_waiting status) report.lines (seen_log report.switch).accepted
-        (ends_waiting wrote taken served after status end is) (lines.accepted whole told);
+    accepted = lines.accepted;
     all_read = λ five. lines.all_read (ends_five wrote taken served after status end is five).0;
     unread = λ none. let same = opened.unread (omega (arith, some, ap length none)) in (same.0, same.2, same.3);
     silent = λ none silent. ap taken (ends_silent wrote taken served after status end is silent ∙ (opened.unread (omega (arith, some, ap length none))).1);

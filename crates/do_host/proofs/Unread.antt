@@ -22,20 +22,21 @@ given_none whole given left none told = record {
   first = rw none refl;
 }
 
-accepts_none : (before after : Option (List ℕ)) (most count : ℕ) (accepted : List Line) → accepted ≡ [] → count ≡ 0 → after ≡ before
-    → IfTold before (λ whole. Accepts whole after most accepted count)
-accepts_none before after most count accepted none zero same whole told = record {
+accepts_none : (before after : Option (List ℕ)) (count : ℕ) (accepted : List Line) → accepted ≡ [] → count ≡ 0 → after ≡ before
+    → IfTold before (λ whole. Accepts whole after accepted count)
+accepts_none before after count accepted none zero same whole told = record {
   first = given_none whole (read_lines accepted) after (ap read_lines none) (same ∙ told);
-  looked_at = looked_none whole (read_lines accepted) most count after (ap read_lines none) zero (same ∙ told);
+  most = 0;
+  looked_at = looked_none whole (read_lines accepted) 0 count after (ap read_lines none) zero (same ∙ told);
 }
 
 module _ {S : Type 0} (old report : Report S) (empty : IsEmpty old) where
   -- nothing was accepted of it
-  pub accepts_unread : (before after : Option (List ℕ)) (most : ℕ) → after ≡ before → report.switch ≡ old.switch → report.lines ≡ old.lines
-      → IfTold before (λ whole. Accepts whole after most (seen_log report.switch).accepted report.lines)
-  accepts_unread before after most same switch lines =
+  pub accepts_unread : (before after : Option (List ℕ)) → after ≡ before → report.switch ≡ old.switch → report.lines ≡ old.lines
+      → IfTold before (λ whole. Accepts whole after (seen_log report.switch).accepted report.lines)
+  accepts_unread before after same switch lines =
       let log : seen_log report.switch ≡ timeline.no_log = ap seen_log switch ∙ empty.switch in
-      accepts_none before after most report.lines (seen_log report.switch).accepted (ap (λ (l : timeline.SwitchLog). l.accepted) log) (lines ∙ empty.lines) same
+      accepts_none before after report.lines (seen_log report.switch).accepted (ap (λ (l : timeline.SwitchLog). l.accepted) log) (lines ∙ empty.lines) same
 
   -- and no line was counted
   pub lines_unread : report.lines ≡ old.lines → report.lines ≤ most_lines

@@ -18,7 +18,7 @@ use Rattle.do_host.specs.Dump.{AreIdleRows, IsDumpOf}
 use Rattle.do_host.specs.Endings.{TellsEnd}
 use Rattle.do_host.specs.ScriptLines.{IsRefusalLine, IsScriptLine, IsCheckLine}
 use Rattle.do_host.specs.Scripts.{IsAccepted}
-use Rattle.do_host.specs.Status.{most_waiting, IsStatus, IsEarlyStatus, IsCheckStatus, IsDumpStatus, IsSilentStatus}
+use Rattle.do_host.specs.Status.{IsStatus, IsEarlyStatus, IsCheckStatus, IsDumpStatus, IsSilentStatus}
 use Rattle.do_host.specs.Written.{WritesAll, WritesFirstOf}
 
 -- a line of this kind that the text has was written, all of it, or its first bytes
@@ -35,7 +35,7 @@ pub record AtAnyEnd {S R W : Type 0} (faults_of : S → ℕ) (left : R → Optio
   pub statuses : IsStatus status
   pub bad_slot_kept : status ≡ 7 → IsSome report.unopened
   pub line_limit : report.lines ≤ most_lines
-  pub accepted : IfTold (left input) (λ whole. Accepts whole (left input_after) (most_waiting status) (seen_log report.switch).accepted report.lines)
+  pub accepted : IfTold (left input) (λ whole. Accepts whole (left input_after) (seen_log report.switch).accepted report.lines)
   -- at a read fault no whole line that was read is lost
   pub all_read : status ≡ 5 → IfTold (left input) (λ whole. AcceptsAllRead whole (left input_after) (seen_log report.switch).accepted report.lines)
   -- where no slot was mounted nothing was read, and but for the line of the status nothing written

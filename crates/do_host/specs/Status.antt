@@ -1,6 +1,6 @@
 -- The status of a run. This project's profile: 0 where all was done, 1 for words that aren't taken, 2 for a script that is refused, 3 where the
 -- depot or a slot's disk failed while the slots were opened, 4 for want of memory, 5 for a read fault, 6 for a write fault, 7 for a bad slot.
-use Rattle.std.specs.Prelude.{◌≢◌, ℕ, ◌==◌, if◌then◌else◌, [], ◌∷◌, Result, Ok, Err}
+use Rattle.std.specs.Prelude.{◌≢◌, ℕ, [], ◌∷◌, Result, Ok, Err}
 use Rattle.std.specs.List.{Contains}
 use Rattle.do_disk.specs.declared.depot.DepotFault.{DepotFault}
 use Rattle.do_disk.specs.declared.depot.DepotFault.TheVariants.{Failed, NoMemory as NoDepotMemory}
@@ -29,10 +29,6 @@ IsDumpStatus status = Contains (0 ∷ 3 ∷ 4 ∷ 6 ∷ 7 ∷ []) status
 -- the slot, and no write fault
 abbrev pub IsSilentStatus : ℕ → Type 0
 IsSilentStatus status = (status ≢ 0) × (status ≢ 1) × (status ≢ 2) × (status ≢ 6) × (status ≢ 7)
-
--- how many lines may have been looked at and not accepted: one where memory was wanting
-abbrev pub most_waiting : ℕ → ℕ
-most_waiting status = if status == 4 then 1 else 0
 
 -- the status of an end of the slots
 abbrev pub status_of : ServeEnd → ℕ

@@ -24,6 +24,7 @@ use do_value::NoMemory;
 use host_core::{Report, ServeEnd, Served, Settings, opening_end, serve};
 use std::alloc::Global;
 use std::sync::Wait;
+use std::thread::Threads;
 
 /// The line of a run whose words aren't taken.
 const USAGE: &str = "[\"usage\"]\n";
@@ -52,8 +53,14 @@ pub struct Ran<R, W> {
 ///
 /// No other status comes. It isn't promised to return.
 ///
-/// The gate isn't called yet.
-pub fn run<P: Depot, R: Source + Send, W: Sink + Send, G: TurnGate + Sync, T: Wait>(
+/// As many threads serve as the words ask for. The gate is entered and left, with the number of the slot, round the turns that one makes of a slot's object.
+pub fn run<
+    P: Depot,
+    R: Source + Drop + Send,
+    W: Sink + Drop + Send,
+    G: TurnGate + Sync,
+    T: Threads + Wait + Copy + Send + Sync,
+>(
     rt: &T,
     alloc: Global,
     words: &[String],
@@ -96,7 +103,13 @@ pub fn run<P: Depot, R: Source + Send, W: Sink + Send, G: TurnGate + Sync, T: Wa
 }
 
 // Reads the script, and serves the input over the slots where it is accepted.
-fn run_serve<P: Depot, R: Source + Send, W: Sink + Send, G: TurnGate + Sync, T: Wait>(
+fn run_serve<
+    P: Depot,
+    R: Source + Drop + Send,
+    W: Sink + Drop + Send,
+    G: TurnGate + Sync,
+    T: Threads + Wait + Copy + Send + Sync,
+>(
     rt: &T,
     alloc: Global,
     told: ServeWords,
@@ -123,7 +136,13 @@ fn run_serve<P: Depot, R: Source + Send, W: Sink + Send, G: TurnGate + Sync, T: 
 }
 
 // Serves the input over the slots, and tells the end.
-fn serve_checked<P: Depot, R: Source + Send, W: Sink + Send, G: TurnGate + Sync, T: Wait>(
+fn serve_checked<
+    P: Depot,
+    R: Source + Drop + Send,
+    W: Sink + Drop + Send,
+    G: TurnGate + Sync,
+    T: Threads + Wait + Copy + Send + Sync,
+>(
     rt: &T,
     alloc: Global,
     checked: &Checked,

@@ -1,4 +1,4 @@
--- An object that is made of what was mounted.
+-- The halves that are made of what was mounted.
 use Rattle.std.proofs.Common.{◌≡◌, ◌∙◌, refl, sym, ap, subst, ℕ, List, Option, Some, None}
 use Rattle.std.specs.Prelude.{IfSome, slice_get}
 use Rattle.batch_journal.specs.Frames.{batches_in}
@@ -9,15 +9,11 @@ use Rattle.do_disk.specs.Disk.{next_count}
 use Rattle.do_tree.specs.Lookup.{class_named}
 use Rattle.do_tree.specs.Tree.{Class, Script}
 use Rattle.storage_map.specs.Limits.{Object}
-use Rattle.storage_map.specs.declared.op.Op.{Op}
 use Rattle.object_front.proofs.Fitted.{named}
-use Rattle.object_front.specs.declared.evaluated.Evaluated.{Evaluated}
-use Rattle.object_front.specs.declared.half.Half.{Half}
 use Rattle.output_gate.specs.Logs.{IsFresh}
 use Rattle.output_gate.specs.Serving.{IsBack}
-use Rattle.output_gate.specs.declared.back.Back.{Back}
-use Rattle.object_core.specs.One.{AreFresh, IsOne, class_in, mounted_at, unused}
-use Rattle.object_core.specs.declared.object.Core.{Core}
+use Rattle.object_core.specs.One.{AreFresh, class_in}
+use Rattle.host_workers.specs.declared.joining.Halves.{Halves}
 use Rattle.host_core.specs.Begun.{HasBegun, IsMountedAt}
 
 -- the script has the class that is found in it
@@ -37,16 +33,17 @@ known_as script object class is = subst (λ (o : Option ℕ). IsKnown script o) 
 
 module _ {D : Type 0} (moment_of : D → ℕ) (left_since : D → ℕ → List ℕ → Type 0) (told : D → Option (List ℕ)) (image : D → List ℕ → Type 0) (faults_of : D → ℕ)
     (limit : ℕ) (script : Script) where
-  pub has_begun : (content : Option (List ℕ)) (object : Option Object) (mounted : Mounted D) (front : Half Evaluated) (back : Back D) (core : Core D)
-      → IsMountedAt moment_of left_since told image limit content object mounted → IsFresh mounted back
+  -- the halves that are made of what was mounted
+  pub has_begun : (content : Option (List ℕ)) (object : Option Object) (mounted : Mounted D) (halves : Halves D)
+      → IsMountedAt moment_of left_since told image limit content object mounted → IsFresh mounted halves.back
       → ((disk : D) (is : IsMountOf told image moment_of left_since disk mounted)
-      → IsBack moment_of left_since told image faults_of (batches_in is.frames) (next_count (moment_of disk)) back)
-      → AreFresh script front back
-      → ((start : List (List Op)) (opening : ℕ) → IsBack moment_of left_since told image faults_of start opening back → AreFresh script front back
-      → IsOne moment_of left_since told image faults_of script (mounted_at start opening back) core)
-      → core.inbox ≡ unused → core.out ≡ unused → HasBegun moment_of left_since told image faults_of limit script content object core
-  has_begun content object mounted front back core at fresh known are makes inbox out = record {
-    origin = mounted_at (batches_in at.mount.frames) (next_count (moment_of at.disk)) back;
+      → IsBack moment_of left_since told image faults_of (batches_in is.frames) (next_count (moment_of disk)) halves.back)
+      → AreFresh script halves.front.half halves.back → HasBegun moment_of left_since told image faults_of limit script content object halves
+  has_begun content object mounted halves at fresh known are = record {
+    start = batches_in at.mount.frames;
+    opening = next_count (moment_of at.disk);
+    fresh = are;
+    stands = known at.disk at.mount;
     begun = record {
       frames = at.mount.frames;
       recovered = λ file is. at.mount.recovers file (at.content_is ∙ is);
@@ -57,7 +54,4 @@ module _ {D : Type 0} (moment_of : D → ℕ) (left_since : D → ℕ → List �
       left = refl;
       limited = fresh.limit ∙ at.limited;
     };
-    one = makes (batches_in at.mount.frames) (next_count (moment_of at.disk)) (known at.disk at.mount) are;
-    inbox = inbox;
-    out = out;
   }

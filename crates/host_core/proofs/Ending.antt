@@ -1,17 +1,22 @@
 -- What a run that serves is at its end, and what it has printed.
-use Rattle.std.proofs.Common.{◌≡◌, ◌≤◌, ◌∙◌, ap, sym, refl, arith, ℕ, List, Option, None, Result, Ok, Err}
+use Rattle.std.proofs.Common.{◌≡◌, ◌∙◌, ap, sym, subst, refl, ℕ, List, [], Option, None, Some, Result, Ok, Err}
 use Rattle.std.specs.Prelude.{OnOk, OnErr}
-use Rattle.line_server.specs.Lines.{most_left}
+use Rattle.do_disk.specs.Disk.{Rose}
+use Rattle.line_server.specs.declared.out_line.OutLine.{OutLine}
 use Rattle.line_server.specs.declared.fault.LineFault.{LineFault}
 use Rattle.line_server.specs.declared.fault.LineFault.TheVariants as line
 use Rattle.do_tree.specs.Tree.{Script}
 use Rattle.placement.specs.Slots.{Slots}
-use Rattle.mailbox.specs.Runs.{fault_of, log_of, state_of}
+use Rattle.mailbox.proofs.Writings.{part_then, writes_then}
+use Rattle.mailbox.specs.Runs.{fault_of, lines_of, log_of, out_of, state_of}
+use Rattle.mailbox.specs.Written.{Writes, WritesInPart}
 use Rattle.mailbox.specs.declared.fault.SwitchFault.{SwitchFault}
 use Rattle.mailbox.specs.declared.fault.SwitchFault.TheVariants as switch
 use Rattle.mailbox.specs.declared.switch.Switch.{Switch}
+use Rattle.host_workers.specs.Switches.{HasPrinted}
 use Rattle.host_core.proofs.Routings.{all_stand}
-use Rattle.host_core.specs.Ends.{line_stop, switch_stop, most_waiting}
+use Rattle.host_core.specs.Ends.{line_stop, switch_stop}
+use Rattle.host_core.specs.Objects.{AreThere}
 use Rattle.host_core.specs.Running.{HasServed, IsServing, Prints, PrintsUntil}
 use Rattle.mailbox.specs.SoFar.IsRunSoFar.{whole}
 use Rattle.host_core.specs.declared.objects.Objects.{Objects}
@@ -26,7 +31,7 @@ pub serves_served : {D W : Type 0} (moment_of : D → ℕ) (left_since : D → �
 serves_served moment_of left_since told image faults_of limit script contents named switch objects serving = record {
   run = whole (state_of switch) serving.run;
   slots = all_stand moment_of left_since told image faults_of limit script contents named (log_of switch) objects serving.slots;
-  there = serving.there;
+  there = subst (λ (n : ℕ). AreThere n (log_of switch)) (sym serving.all) serving.there;
 }
 
 -- What holds at a good answer and what holds at a fault, either way.
@@ -57,7 +62,7 @@ pub no_read_stop : (f : SwitchFault) → stopped (switch_stop f) ≡ stopped sto
 no_read_stop switch.WriteFailed is = cc
 no_read_stop switch.NoMemory is = cc
 
--- The stop of a fault of the reader is no write fault, and leaves as many lines looked at.
+-- The stop of a fault of the reader is no write fault.
 pub no_write_stop : (f : LineFault) → stopped (line_stop f) ≡ stopped stops.WriteFailed → ⊥
 no_write_stop line.ReadFailed is = cc
 no_write_stop line.NoMemory is = cc
@@ -76,19 +81,15 @@ good = Ok tt
 pub never : good ≡ faulted switch.WriteFailed → ⊥
 never e = cc
 
-pub line_waits : (T : Type 0) (f : LineFault) → most_left {T = T} (Err f) ≤ most_waiting (stopped (line_stop f))
-line_waits T line.ReadFailed = omega arith
-line_waits T line.NoMemory = omega arith
+abbrev fault_is_none : Option SwitchFault
+fault_is_none = None
 
-abbrev line_failed : (T : Type 0) → LineFault → Result T LineFault
-line_failed T f = Err f
+abbrev fault_is : SwitchFault → Option SwitchFault
+fault_is f = Some f
 
--- Where a run of lines stops at a read fault, the reader gave that.
-pub read_fault_of : (T : Type 0) (f : LineFault) (stop : Stop) (result : Result (Unit {0}) Stop) → result ≡ Err stop → stop ≡ line_stop f → result ≡ Err stops.ReadFailed
-    → line_failed T f ≡ line_failed T line.ReadFailed
-read_fault_of T line.ReadFailed stop result is so failed = refl
-read_fault_of T line.NoMemory stop result is so failed =
-    let same : stopped stops.NoMemory ≡ stopped stops.ReadFailed = ap Err (sym so) ∙ sym is ∙ failed in let no : ⊥ = cc in absurd no
+-- None is no fault.
+never_fault : (f : SwitchFault) → fault_is_none ≡ fault_is f → ⊥
+never_fault f e = cc
 
 module _ {W : Type 0} (taken : W → Option (List ℕ)) (faults : W → ℕ) where
   -- What is printed until a run of lines stops at a fault of the switch, or at another cause.
@@ -116,3 +117,47 @@ module _ {W : Type 0} (taken : W → Option (List ℕ)) (faults : W → ℕ) whe
     counted = λ none. record { failed = λ failed. absurd (never failed); steady = λ _. (prints.counted none).steady (no_fault (Ok x) x switch.WriteFailed refl) };
   }
   prints_good a b (Err f) y is prints = cc
+
+  -- ---- what was printed before by the workers
+  -- A switch at no fault stands at no write fault.
+  none_failed : (b : Switch W) → fault_of b ≡ None → fault_of b ≡ Some switch.WriteFailed → ⊥
+  none_failed b goes failed = let no : fault_is_none ≡ fault_is switch.WriteFailed = sym goes ∙ failed in never_fault switch.WriteFailed no
+
+  module _ (a b : Switch W) (blank : lines_of a ≡ []) (has : HasPrinted taken faults (taken (out_of a)) (faults (out_of a)) b) where
+    -- All that the workers logged was written, where no write failed.
+    all_printed : (fault_of b ≡ Some switch.WriteFailed → ⊥) → Writes (taken (out_of a)) (taken (out_of b)) (lines_of a) (lines_of b)
+    all_printed unfailed = subst (λ (ls : List OutLine). Writes (taken (out_of a)) (taken (out_of b)) ls (lines_of b)) (sym blank) (has.written unfailed)
+
+    -- The first bytes of it were, where one did.
+    some_printed : fault_of b ≡ Some switch.WriteFailed → WritesInPart (taken (out_of a)) (taken (out_of b)) (lines_of a) (lines_of b)
+    some_printed failed = subst (λ (ls : List OutLine). WritesInPart (taken (out_of a)) (taken (out_of b)) ls (lines_of b)) (sym blank) (has.part failed)
+
+    -- The workers have stopped at this fault.
+    pub printed_fault : (f : SwitchFault) → (faulted f ≡ Err switch.WriteFailed → fault_of b ≡ Some switch.WriteFailed)
+        → (fault_of b ≡ Some switch.WriteFailed → faulted f ≡ Err switch.WriteFailed) → PrintsUntil taken faults a b (stopped (switch_stop f))
+    printed_fault f to from = record {
+      written = λ unwritten. all_printed (λ failed. unwritten (ap stop_of (from failed)));
+      part = λ failed. some_printed (to (ap faulted (write_stop f failed)));
+      failed = λ failed. has.failed (to (ap faulted (write_stop f failed)));
+      steady = λ unwritten. has.steady (λ failed. unwritten (ap stop_of (from failed)));
+    }
+
+    -- They have met no fault, and nothing is printed behind them.
+    pub printed_so_far : (result : Result (Unit {0}) Stop) → fault_of b ≡ None → (result ≡ stopped stops.WriteFailed → ⊥) → PrintsUntil taken faults a b result
+    printed_so_far result goes unwritten = record {
+      written = λ _. all_printed (none_failed b goes);
+      part = λ failed. absurd (unwritten failed);
+      failed = λ failed. absurd (unwritten failed);
+      steady = λ _. has.steady (none_failed b goes);
+    }
+
+    -- They have met no fault, and this is printed behind them.
+    pub printed_then : (c : Switch W) (result : Result (Unit {0}) Stop) → fault_of b ≡ None → PrintsUntil taken faults b c result → PrintsUntil taken faults a c result
+    printed_then c result goes until = record {
+      written = λ unwritten. writes_then (taken (out_of a)) (taken (out_of b)) (taken (out_of c)) (lines_of a) (lines_of b) (lines_of c)
+          (all_printed (none_failed b goes)) (until.written unwritten);
+      part = λ failed. part_then (taken (out_of a)) (taken (out_of b)) (taken (out_of c)) (lines_of a) (lines_of b) (lines_of c)
+          (all_printed (none_failed b goes)) (until.part failed);
+      failed = λ failed. subst (λ (n : ℕ). Rose n (faults (out_of c))) (has.steady (none_failed b goes)) (until.failed failed);
+      steady = λ unwritten. until.steady unwritten ∙ has.steady (none_failed b goes);
+    }

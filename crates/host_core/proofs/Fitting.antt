@@ -17,7 +17,7 @@ use Rattle.object_core.specs.declared.object.Core.{Core}
 use Rattle.object_front.specs.Came.{AreCome, events, kept}
 use Rattle.object_messages.specs.Naming.{asked_by, asked_in, called_in, replied_by, replied_in}
 use Rattle.placement.specs.Slots.{Slots, object_at}
-use Rattle.switch_history.specs.Fit.{IsFit}
+use Rattle.mailbox.specs.Fit.{IsFit}
 use Rattle.switch_history.specs.Placed.{HasObject, IsCalledFrom, IsPlaced, PostsArePlaced}
 use Rattle.timeline.specs.Logs.{Fronted, fronted}
 use Rattle.timeline.specs.Replies.{caller_of, same_caller}
@@ -151,14 +151,17 @@ module _ {D : Type 0} (moment_of : D → ℕ) (left_since : D → ℕ → List �
   -- what waits to be routed has left
   has_left : (m : Message) → Contains (sent_on out) m → Contains gone m
   has_left m has =
-      let collected : Contains core.out.got m = subst (λ (ms : List Message). Contains ms m) (sym own.hands) has in
+      let collected : Contains core.out.got m =
+      subst (λ (ms : List Message). Contains ms m) (sym own.hands) (Contains-append_right own.taken_before (sent_on out) m has) in
       let sent : Contains (sent_on core.out) m = Contains-append_left core.out.got core.out.waiting m collected in
       subst (λ (ms : List Message). Contains ms m) (sym own.one.left) (Contains-append_right own.origin.left (sent_on core.out) m sent)
 
   -- where nothing was posted the front got nothing
   got_none : posts ≡ [] → core.inbox.got ≡ []
   got_none none =
-      nothing_first core.inbox.got core.inbox.waiting (own.gives ∙ nothing_first inbox.got inbox.waiting (own.posted ∙ none))
+      nothing_first core.inbox.got core.inbox.waiting
+      (own.gives
+      ∙ nothing_first (own.given_before ++ inbox.got) inbox.waiting (append_assoc own.given_before inbox.got inbox.waiting ∙ own.posted ∙ none))
 
   named_in : {X : Type 0} (f : Message → List X) (m : Message) (x : X) (ms : List Message) → Contains ms m → f m ≡ x ∷ [] → Contains (flat_map f ms) x
   named_in {X} f m x ms has is =
@@ -178,7 +181,7 @@ module _ {D : Type 0} (moment_of : D → ℕ) (left_since : D → ℕ → List �
       is_found (same_caller to) (replied_in gone) to (named_in replied_by m to gone has is) (itself to) in
       let some = some_pass (same_caller to) (replied_in gone) found in
       called_posted front posts core.inbox.got (kept own.one.st) own.one.has_got.lost (core.inbox.waiting ++ inbox.waiting)
-      (sym own.posted ∙ ap (λ (es : List Event). es ++ inbox.waiting) (sym own.gives) ∙ append_assoc core.inbox.got core.inbox.waiting inbox.waiting)
+      (sym own.posted ∙ sym (append_assoc own.given_before inbox.got inbox.waiting) ∙ ap (λ (es : List Event). es ++ inbox.waiting) (sym own.gives) ∙ append_assoc core.inbox.got core.inbox.waiting inbox.waiting)
       own.one.has_got.come (same_caller to)
       (passing_found (same_caller to) (called_in (events front.delivered ++ events front.downed)) (omega (arith, some, is_owed.replies to)))
 

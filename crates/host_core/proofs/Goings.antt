@@ -19,6 +19,11 @@ first_passed : {X : Type 0} (had passed rest waiting taken : List X) → taken �
 first_passed had passed rest waiting taken is =
     ap (λ xs. (had ++ xs) ++ waiting) is ∙ ap (λ xs. xs ++ waiting) (sym (append_assoc had passed rest)) ∙ append_assoc (had ++ passed) rest waiting
 
+-- What was given is the first of what was posted, before which this had been given.
+given_first : {X : Type 0} (before got waiting posts given : List X) → before ++ (got ++ waiting) ≡ posts → given ≡ before ++ got → posts ≡ given ++ waiting
+given_first {X} before got waiting posts given posted gives =
+    sym posted ∙ sym (append_assoc before got waiting) ∙ ap (λ (xs : List X). xs ++ waiting) (sym gives)
+
 pub on_ok : {P : Type 0} (result : Result (Unit {0}) NoMemory) (done : Unit {0}) → result ≡ Ok done → OnOk result P → P
 on_ok {P} result done is holds = subst (λ (r : Result (Unit {0}) NoMemory). OnOk r P) is holds
 
@@ -46,8 +51,10 @@ module _ {D : Type 0} (moment_of : D → ℕ) (left_since : D → ℕ → List �
     origin = going.origin;
     begun = going.begun;
     one = going.one;
+    given_before = going.given_before;
+    taken_before = going.taken_before;
     posted = going.posted;
-    given = (i.waiting, sym going.posted ∙ ap (λ (xs : List Event). xs ++ i.waiting) (sym going.gives));
+    given = (i.waiting, given_first going.given_before i.got i.waiting posts (sent_on a.inbox) going.posted going.gives);
     routed_first = going.routed_first;
     handed = (a.out.waiting, ap (λ (xs : List Message). xs ++ a.out.waiting) going.hands);
   }
@@ -59,9 +66,12 @@ module _ {D : Type 0} (moment_of : D → ℕ) (left_since : D → ℕ → List �
       origin = going.origin;
       begun = going.begun;
       one = keeps going.origin going.one;
-      posted = gives.posted ∙ going.posted;
-      gives = gives.sent ∙ ap (λ (xs : List Event). xs ++ gives.given) going.gives
-          ∙ ap (λ (xs : List Event). i.got ++ xs) (on_ok result done is gives.all).0 ∙ sym gives.got;
+      given_before = going.given_before;
+      taken_before = going.taken_before;
+      posted = ap (λ (xs : List Event). going.given_before ++ xs) gives.posted ∙ going.posted;
+      gives = gives.sent ∙ ap (λ (xs : List Event). xs ++ gives.given) going.gives ∙ append_assoc going.given_before i.got gives.given
+          ∙ ap (λ (xs : List Event). going.given_before ++ (i.got ++ xs)) (on_ok result done is gives.all).0
+          ∙ ap (λ (xs : List Event). going.given_before ++ xs) (sym gives.got);
       routed_first = going.routed_first;
       hands = ap (λ (queue : Both Message). queue.got) gives.out ∙ going.hands;
     }
@@ -71,12 +81,16 @@ module _ {D : Type 0} (moment_of : D → ℕ) (left_since : D → ℕ → List �
       origin = going.origin;
       begun = going.begun;
       one = keeps going.origin going.one;
-      posted = gives.posted ∙ going.posted;
+      given_before = going.given_before;
+      taken_before = going.taken_before;
+      posted = ap (λ (xs : List Event). going.given_before ++ xs) gives.posted ∙ going.posted;
       given = (
         gives.first.0 ++ j.waiting,
-        sym (gives.posted ∙ going.posted)
-            ∙ ap (λ (xs : List Event). xs ++ j.waiting) gives.got
-            ∙ first_passed i.got gives.given gives.first.0 j.waiting gives.taken gives.first.1
+        sym (ap (λ (xs : List Event). going.given_before ++ xs) gives.posted ∙ going.posted)
+            ∙ sym (append_assoc going.given_before j.got j.waiting)
+            ∙ ap (λ (xs : List Event). (going.given_before ++ xs) ++ j.waiting) gives.got
+            ∙ ap (λ (xs : List Event). xs ++ j.waiting) (sym (append_assoc going.given_before i.got gives.taken))
+            ∙ first_passed (going.given_before ++ i.got) gives.given gives.first.0 j.waiting gives.taken gives.first.1
             ∙ ap (λ (xs : List Event). xs ++ (gives.first.0 ++ j.waiting)) (sym (gives.sent ∙ ap (λ (xs : List Event). xs ++ gives.given) going.gives)),
       );
       routed_first = going.routed_first;
@@ -92,6 +106,8 @@ module _ {D : Type 0} (moment_of : D → ℕ) (left_since : D → ℕ → List �
     origin = going.origin;
     begun = going.begun;
     one = keeps going.origin going.one;
+    given_before = going.given_before;
+    taken_before = going.taken_before;
     posted = going.posted;
     gives = acts.given ∙ going.gives;
     routed_first = going.routed_first;
@@ -108,11 +124,14 @@ module _ {D : Type 0} (moment_of : D → ℕ) (left_since : D → ℕ → List �
       origin = going.origin;
       begun = going.begun;
       one = keeps going.origin going.one;
+      given_before = going.given_before;
+      taken_before = going.taken_before;
       posted = going.posted;
       gives = inbox_same hands ∙ going.gives;
-      routed_first = hands.taken ∙ going.routed_first;
-      hands = hands.got ∙ ap (λ (xs : List Message). xs ++ hands.collected) going.hands
-          ∙ ap (λ (xs : List Message). sent_on out ++ xs) (sym (on_ok result done is hands.all).0) ∙ sym hands.sent;
+      routed_first = ap (λ (xs : List Message). going.taken_before ++ xs) hands.taken ∙ going.routed_first;
+      hands = hands.got ∙ ap (λ (xs : List Message). xs ++ hands.collected) going.hands ∙ append_assoc going.taken_before (sent_on out) hands.collected
+          ∙ ap (λ (xs : List Message). going.taken_before ++ (sent_on out ++ xs)) (sym (on_ok result done is hands.all).0)
+          ∙ ap (λ (xs : List Message). going.taken_before ++ xs) (sym hands.sent);
     }
 
     pub hands_stands : HandsOn a b out later result → Keeps a b → Goes a i out → Stands b i later
@@ -120,14 +139,17 @@ module _ {D : Type 0} (moment_of : D → ℕ) (left_since : D → ℕ → List �
       origin = going.origin;
       begun = going.begun;
       one = keeps going.origin going.one;
+      given_before = going.given_before;
+      taken_before = going.taken_before;
       posted = going.posted;
-      given = (i.waiting, sym going.posted ∙ ap (λ (xs : List Event). xs ++ i.waiting) (sym (inbox_same hands ∙ going.gives)));
-      routed_first = hands.taken ∙ going.routed_first;
+      given = (i.waiting, given_first going.given_before i.got i.waiting posts (sent_on b.inbox) going.posted (inbox_same hands ∙ going.gives));
+      routed_first = ap (λ (xs : List Message). going.taken_before ++ xs) hands.taken ∙ going.routed_first;
       handed = (
         hands.first.0 ++ b.out.waiting,
         ap (λ (xs : List Message). xs ++ b.out.waiting) (hands.got ∙ ap (λ (xs : List Message). xs ++ hands.collected) going.hands)
-            ∙ first_passed (sent_on out) hands.handed hands.first.0 b.out.waiting hands.collected hands.first.1
-            ∙ ap (λ (xs : List Message). xs ++ (hands.first.0 ++ b.out.waiting)) (sym hands.sent),
+            ∙ first_passed (going.taken_before ++ sent_on out) hands.handed hands.first.0 b.out.waiting hands.collected hands.first.1
+            ∙ ap (λ (xs : List Message). xs ++ (hands.first.0 ++ b.out.waiting))
+            (append_assoc going.taken_before (sent_on out) hands.handed ∙ ap (λ (xs : List Message). going.taken_before ++ xs) (sym hands.sent)),
       );
     }
 

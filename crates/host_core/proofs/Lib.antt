@@ -9,6 +9,9 @@ pub mod Printings
 pub mod Found
 pub mod Fitting
 pub mod Servings
+pub mod Resuming
+pub mod Apart
+pub mod Keeping
 pub mod Restings
 pub mod Accepting
 pub mod Pushed
@@ -33,3 +36,5 @@ pub mod Once
 pub mod Answered
 pub mod Finished
 pub mod Reporting
+pub mod ServedOn
+pub mod Closed

@@ -1,8 +1,8 @@
 -- A slot that is mounted behind others, and one at which opening stops.
-use Rattle.std.proofs.Common.{◌≡◌, ◌≢◌, ◌+◌, ◌<◌, ◌≤◌, ⊎_elim, ℕ, List, [], ◌∷◌, ◌++◌, length, take, drop, Option, Some, Result, Ok, Err, refl, sym, ap, subst, ◌∙◌, arith, append_assoc}
-use Rattle.std.specs.Prelude.{IfErr, IfOk, IfSome, IsSome, OnErr, OnOk, slice_get}
+use Rattle.std.proofs.Common.{◌≡◌, ◌≢◌, ◌+◌, ◌<◌, ⊎_elim, ℕ, List, [], ◌∷◌, ◌++◌, length, take, drop, Option, Some, Result, Ok, Err, refl, sym, ap, subst, ◌∙◌, arith, append_assoc}
+use Rattle.std.specs.Prelude.{IfErr, IfOk, IfSome, IsSome, OnErr, OnOk}
 use Rattle.std.proofs.lemmas.Bool.{cases_lt}
-use Rattle.std.proofs.lemmas.List.{length-append, take-append-drop}
+use Rattle.std.proofs.lemmas.List.{take-append-drop}
 use Rattle.std.proofs.lemmas.List.FromFn.{map-range_with_len_more, take-map-range_with_len}
 use Rattle.batch_journal.specs.Moments.{LeavesOnly}
 use Rattle.batch_journal.specs.Mounting.{ImageOrHeader, IsMountOf}
@@ -11,28 +11,16 @@ use Rattle.batch_journal.specs.Rest.{IsStaged, disk_in, limit_of}
 use Rattle.batch_journal.specs.declared.mount.Mounted.{Mounted}
 use Rattle.do_disk.specs.Asks.{Ask, for_slot}
 use Rattle.do_tree.specs.Tree.{Script}
-use Rattle.lane.specs.Lanes.{Both, sent_on}
-use Rattle.timeline.specs.Switch.{no_log}
-use Rattle.timeline.specs.declared.event.Event.{Event}
-use Rattle.timeline.specs.declared.message.Message.{Message}
 use Rattle.placement.specs.Slots.{Slots, object_at}
 use Rattle.storage_map.specs.Limits.{Object}
-use Rattle.object_core.specs.One.{unused}
-use Rattle.object_core.specs.declared.object.Core.{Core}
+use Rattle.host_workers.specs.declared.joining.Halves.{Halves}
 use Rattle.host_core.proofs.Pushed.{push_before, push_last, push_within}
-use Rattle.host_core.specs.Begun.{HasBegun, IsMountedAt, IsNotTaken, OnlyAt}
-use Rattle.host_core.specs.Objects.{AreGoing}
-use Rattle.host_core.specs.Opening.{Asks, HasRoom, IsBad, IsRefused, LeavesHanded, StopsOpening, slot_asks}
-use Rattle.host_core.specs.Slots.{IsGoing}
-use Rattle.host_core.specs.declared.objects.Objects.{Objects}
+use Rattle.host_core.specs.Begun.{AreBegun, HasBegun, IsMountedAt, IsNotTaken, OnlyAt}
+use Rattle.host_core.specs.Opening.{Asks, IsBad, IsRefused, LeavesHanded, StopsOpening, slot_asks}
 use Rattle.host_core.specs.declared.opening.OpenEnd.{OpenEnd}
 use Rattle.host_core.specs.declared.opening.OpenEnd.TheVariants.{BadSlot}
 use Rattle.host_core.specs.declared.settings.Bad.{Bad}
 use Rattle.host_core.specs.declared.settings.Bad.TheVariants.{Twice}
-
--- room for some is room for one
-pub room_for_one : {D : Type 0} (objects : Objects D) (more : ℕ) → 1 ≤ more → HasRoom more objects → HasRoom 1 objects
-room_for_one objects more some room = record { cores = omega (arith, room.cores); inboxes = omega (arith, room.inboxes); outs = omega (arith, room.outs) }
 
 -- the questions with one slot more, and the first of them
 pub asks_more : (folder : List ℕ) (slot : ℕ) → slot_asks folder (slot + 1) ≡ slot_asks folder slot ++ for_slot folder slot ∷ []
@@ -62,51 +50,23 @@ asks_on folder slot slots before middle after less so_far asks =
 
 module _ {D : Type 0} (moment_of : D → ℕ) (left_since : D → ℕ → List ℕ → Type 0) (told : D → Option (List ℕ)) (image : D → List ℕ → Type 0) (faults_of : D → ℕ)
     (limit : ℕ) (script : Script) where
-  -- an object that was just begun goes on
-  begun_goes : (content : Option (List ℕ)) (named : Option Object) (core : Core D) → HasBegun moment_of left_since told image faults_of limit script content named core
-      → IsGoing moment_of left_since told image faults_of limit script content named [] [] core unused unused
-  begun_goes content named core begun = record {
-    origin = begun.origin;
-    begun = begun.begun;
-    one = begun.one;
-    posted = refl;
-    gives = ap (λ (queue : Both Event). sent_on queue) begun.inbox;
-    routed_first = refl;
-    hands = ap (λ (queue : Both Message). queue.got) begun.out;
-  }
-
-  -- the objects with that of one slot more
-  pub going_more : (contents : ℕ → Option (List ℕ)) (named after : Slots) (old new : Objects D) (slot : ℕ) (core : Core D) → length old.cores.items ≡ slot
-      → new.cores.items ≡ old.cores.items ++ core ∷ [] → new.inboxes.items ≡ old.inboxes.items ++ unused ∷ [] → new.outs.items ≡ old.outs.items ++ unused ∷ []
-      → OnlyAt slot named after → HasBegun moment_of left_since told image faults_of limit script (contents slot) (object_at after slot) core
-      → AreGoing moment_of left_since told image faults_of limit script contents named no_log old
-      → AreGoing moment_of left_since told image faults_of limit script contents after no_log new
-  going_more contents named after old new slot core many cores inboxes outs only begun going = record {
-    inboxes = omega (arith, ap length cores, ap length inboxes, length-append old.cores.items (core ∷ []), length-append old.inboxes.items (unused {X = Event} ∷ []), going.inboxes);
-    outs = omega (arith, ap length cores, ap length outs, length-append old.cores.items (core ∷ []), length-append old.outs.items (unused {X = Message} ∷ []), going.outs);
-    each = λ at that inbox out is_core is_inbox is_out.
-        let core_at : slice_get (old.cores.items ++ core ∷ []) at ≡ Some that = subst (λ (xs : List (Core D)). slice_get xs at ≡ Some that) cores is_core in
-        let inbox_at : slice_get (old.inboxes.items ++ unused ∷ []) at ≡ Some inbox = subst (λ (xs : List (Both Event)). slice_get xs at ≡ Some inbox) inboxes is_inbox in
-        let out_at : slice_get (old.outs.items ++ unused ∷ []) at ≡ Some out = subst (λ (xs : List (Both Message)). slice_get xs at ≡ Some out) outs is_out in
-        ⊎_elim
-        (λ less.
-        let other : at ≢ slot = λ same. omega (arith, same, less, many) in
-        subst (λ (object : Option Object). IsGoing moment_of left_since told image faults_of limit script (contents at) object [] [] that inbox out) (sym (only.others at other))
-        (going.each at that inbox out (push_before old.cores.items core that at less core_at)
-        (push_before old.inboxes.items unused inbox at (omega (arith, less, going.inboxes)) inbox_at)
-        (push_before old.outs.items unused out at (omega (arith, less, going.outs)) out_at)))
-        (λ more.
-        let last : length old.cores.items ≡ at = omega (arith, more, push_within old.cores.items core that at core_at) in
-        let here : slot ≡ at = sym many ∙ last in
-        subst (λ (n : ℕ). IsGoing moment_of left_since told image faults_of limit script (contents n) (object_at after n) [] [] that inbox out) here
-        (subst (λ (x : Core D). IsGoing moment_of left_since told image faults_of limit script (contents slot) (object_at after slot) [] [] x inbox out)
-        (push_last old.cores.items core that at last core_at)
-        (subst (λ (x : Both Event). IsGoing moment_of left_since told image faults_of limit script (contents slot) (object_at after slot) [] [] core x out)
-        (push_last old.inboxes.items unused inbox at (going.inboxes ∙ last) inbox_at)
-        (subst (λ (x : Both Message). IsGoing moment_of left_since told image faults_of limit script (contents slot) (object_at after slot) [] [] core unused x)
-        (push_last old.outs.items unused out at (going.outs ∙ last) out_at) (begun_goes (contents slot) (object_at after slot) core begun)))))
-        (cases_lt at (length old.cores.items));
-  }
+  -- the halves with those of one slot more
+  pub begun_more : (contents : ℕ → Option (List ℕ)) (named after : Slots) (old : List (Halves D)) (slot : ℕ) (halves : Halves D) → length old ≡ slot
+      → OnlyAt slot named after → HasBegun moment_of left_since told image faults_of limit script (contents slot) (object_at after slot) halves
+      → AreBegun moment_of left_since told image faults_of limit script contents named old
+      → AreBegun moment_of left_since told image faults_of limit script contents after (old ++ halves ∷ [])
+  begun_more contents named after old slot halves many only begun are = λ at that is.
+      ⊎_elim
+      (λ less.
+      let other : at ≢ slot = λ same. omega (arith, same, less, many) in
+      subst (λ (object : Option Object). HasBegun moment_of left_since told image faults_of limit script (contents at) object that) (sym (only.others at other))
+      (are at that (push_before old halves that at less is)))
+      (λ more.
+      let last : length old ≡ at = omega (arith, more, push_within old halves that at is) in
+      subst (λ (n : ℕ). HasBegun moment_of left_since told image faults_of limit script (contents n) (object_at after n) that) (sym many ∙ last)
+      (subst (λ (x : Halves D). HasBegun moment_of left_since told image faults_of limit script (contents slot) (object_at after slot) x)
+      (push_last old halves that at last is) begun))
+      (cases_lt at (length old))
 
 -- what was mounted and kept its object
 mounted_at : {D : Type 0} (told : D → Option (List ℕ)) (image : D → List ℕ → Type 0) (moment_of : D → ℕ) (left_since : D → ℕ → List ℕ → Type 0)

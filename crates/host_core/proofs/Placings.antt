@@ -35,10 +35,10 @@ module _ {X : Type 0} (old new : List X) (i : ℕ) (y : X) (is : new ≡ set old
   pub same_length : length new ≡ length old
   same_length = ap length is ∙ length-set old i y
 
-  now_here : (z : X) → slice_get new i ≡ Some z → z ≡ y
+  pub now_here : (z : X) → slice_get new i ≡ Some z → z ≡ y
   now_here z at = put_here old i y z (subst (λ (xs : List X). slice_get xs i ≡ Some z) is at)
 
-  was_there : (k : ℕ) (z : X) → slice_get new k ≡ Some z → k ≢ i → slice_get old k ≡ Some z
+  pub was_there : (k : ℕ) (z : X) → slice_get new k ≡ Some z → k ≢ i → slice_get old k ≡ Some z
   was_there k z at other = put_elsewhere old i y z k (subst (λ (xs : List X). slice_get xs k ≡ Some z) is at) other
 
 -- One slot is changed, of which this holds then, and each other stands as before.

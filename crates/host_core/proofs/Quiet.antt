@@ -26,6 +26,15 @@ nothing_to_do script core settled = record {
   mend = settled.mended;
 }
 
+-- all that was posted to an object that rests was given
+pub all_given : {D : Type 0} (moment_of : D → ℕ) (left_since : D → ℕ → List ℕ → Type 0) (told : D → Option (List ℕ)) (image : D → List ℕ → Type 0) (faults_of : D → ℕ)
+    (core : Core D) (limit : ℕ) (script : Script) (content : Option (List ℕ)) (named : Option Object) (posts : List Event) (routed : List Message) (inbox : Both Event) (out : Both Message)
+    → IsGoing moment_of left_since told image faults_of limit script content named posts routed core inbox out → IsResting script core inbox
+    → sent_on core.inbox ≡ posts
+all_given moment_of left_since told image faults_of core limit script content named posts routed inbox out going rests =
+    going.gives ∙ ap (λ (es : List Event). going.given_before ++ es) (sym (append-nil inbox.got))
+    ∙ ap (λ (es : List Event). going.given_before ++ (inbox.got ++ es)) (sym rests.given) ∙ going.posted
+
 -- all that an object released was routed, where it rests and nothing of it waits
 pub all_routed : {D : Type 0} (moment_of : D → ℕ) (left_since : D → ℕ → List ℕ → Type 0) (told : D → Option (List ℕ)) (image : D → List ℕ → Type 0) (faults_of : D → ℕ)
     (core : Core D) (limit : ℕ) (script : Script) (content : Option (List ℕ)) (named : Option Object) (posts : List Event) (routed : List Message) (inbox : Both Event) (out : Both Message)
@@ -33,7 +42,7 @@ pub all_routed : {D : Type 0} (moment_of : D → ℕ) (left_since : D → ℕ �
     → sent_on core.out ≡ routed
 all_routed moment_of left_since told image faults_of core limit script content named posts routed inbox out going rests none =
     ap (λ (ms : List Message). core.out.got ++ ms) rests.let_go ∙ append-nil core.out.got ∙ going.hands
-    ∙ ap (λ (ms : List Message). out.got ++ ms) none ∙ append-nil out.got ∙ going.routed_first
+    ∙ ap (λ (ms : List Message). going.taken_before ++ (out.got ++ ms)) none ∙ ap (λ (ms : List Message). going.taken_before ++ ms) (append-nil out.got) ∙ going.routed_first
 
 module _ {D : Type 0} (moment_of : D → ℕ) (left_since : D → ℕ → List ℕ → Type 0) (told : D → Option (List ℕ)) (image : D → List ℕ → Type 0) (faults_of : D → ℕ)
     (core : Core D) (row : SlotReport D) (store_is : IsDiskOf core.back.store row.store)

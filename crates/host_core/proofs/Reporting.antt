@@ -9,7 +9,7 @@ use Rattle.do_tree.specs.Tree.{Script}
 use Rattle.mailbox.proofs.Writings.{writes_then, part_then}
 use Rattle.mailbox.specs.Left.{finished_by}
 use Rattle.mailbox.specs.Posting.{of_slot}
-use Rattle.mailbox.specs.Runs.{Begins, fault_of, lines_of, log_of, out_of, state_of}
+use Rattle.mailbox.specs.Runs.{Begins, lines_of, log_of, out_of, state_of}
 use Rattle.mailbox.specs.Seen.{seen_log, seen_out}
 use Rattle.mailbox.specs.Written.{Writes, WritesInPart, text_of}
 use Rattle.mailbox.specs.declared.switch.Switch.{Switch}
@@ -38,15 +38,15 @@ use Rattle.host_core.proofs.SwitchLaws.{SwitchLaws}
 use Rattle.host_core.proofs.Unknown.{dropped_none, unposted}
 use Rattle.host_core.specs.Asked.{AreAskedOnce}
 use Rattle.host_core.specs.Closing.{AreSettledUnless}
-use Rattle.host_core.specs.Ends.{is_late, is_served, most_waiting, opening_end, serving_end}
+use Rattle.host_core.specs.Ends.{is_late, is_served, opening_end, serving_end}
 use Rattle.host_core.specs.Finishing.{Finishes}
-use Rattle.host_core.specs.Objects.{ObjectsTell, AreGoing, AreThere}
+use Rattle.host_core.specs.Objects.{ObjectsTell, AreThere}
 use Rattle.host_core.specs.Opening.{IsBad}
 use Rattle.host_core.specs.Quiet.{AreCallsAnswered, AreLeftIn, AreLetGo, AreSettled, IsLetGo, IsSettledSlot, RowsTell, remaining_of}
 use Rattle.host_core.specs.Reading.{Accepts, AcceptsAll, AcceptsAllRead}
-use Rattle.host_core.specs.Report.{IsFinished, IsReport, PrintsLines, is_opening_end, most_unaccepted}
+use Rattle.host_core.specs.Report.{IsFinished, IsReport, PrintsLines, is_opening_end}
 use Rattle.host_core.specs.Rows.{AreRows, IsRow}
-use Rattle.switch_history.specs.Fit.{IsFitRun, begins as fit_begins}
+use Rattle.switch_history.specs.Fit.{IsFitRun}
 use Rattle.host_core.proofs.Complete.{are_unended, unended_none}
 use Rattle.host_core.specs.Running.{HasServed, IsServing, PrintsUntil}
 use Rattle.mailbox.specs.SoFar.{IsRunSoFar}
@@ -66,7 +66,7 @@ decided : (b : Bool) (P : Type 0) → (b ≡ true → P) → (b ≡ false → P)
 decided true P sure other = sure refl
 decided false P sure other = other refl
 
-true_is_not : true ≡ false → ⊥
+pub true_is_not : true ≡ false → ⊥
 true_is_not e = cc
 
 -- ---- how a run ends
@@ -105,24 +105,6 @@ finished_is served end by is = was_finished served (sym (ends_so served end by (
 
 pub read_is : (served : Result (Unit {0}) Stop) (end : ServeEnd) → EndsBy served end → end ≡ ends.ReadFailed → served ≡ Err stops.ReadFailed
 read_is served end by is = was_read served (sym (ends_so served end by (ap is_served is)) ∙ is)
-
--- As many lines may be looked at and not accepted.
-stopped_most : (served : Result (Unit {0}) Stop) → most_waiting served ≤ most_unaccepted (so_ends served)
-stopped_most (Ok tt) = omega arith
-stopped_most (Err stops.ReadFailed) = omega arith
-stopped_most (Err stops.WriteFailed) = omega arith
-stopped_most (Err stops.NoMemory) = omega arith
-
-served_most : (served : Result (Unit {0}) Stop) → is_served (so_ends served) ≡ true → most_waiting served ≡ 0
-served_most (Ok tt) is = refl
-served_most (Err stops.ReadFailed) is = refl
-served_most (Err stops.WriteFailed) is = absurd (true_is_not (sym is))
-served_most (Err stops.NoMemory) is = absurd (true_is_not (sym is))
-
-pub most_by : (served : Result (Unit {0}) Stop) (end : ServeEnd) → EndsBy served end → most_waiting served ≤ most_unaccepted end
-most_by served end by = decided (is_served (so_ends served)) (most_waiting served ≤ most_unaccepted end)
-    (λ sure. omega (arith, served_most served sure))
-    (λ other. subst (λ (e : ServeEnd). most_waiting served ≤ most_unaccepted e) (sym (by.stopped other)) (stopped_most served))
 
 -- ---- the log
 
@@ -176,25 +158,6 @@ settled_same told limit script contents named log later left rows same are tell 
 
 pub there_same : (slots : ℕ) (log later : SwitchLog) → SamePosts log later → AreThere slots log → AreThere slots later
 there_same slots log later same there = subst (λ (routed : List (ℕ × Message)). All (λ (sent : ℕ × Message). sent.0 < slots) routed) (sym same.routed) there
-
--- ---- a run that begins
-
--- A switch that was just made, over objects of which nothing is logged, serves.
-pub serves_first : {D W : Type 0} (moment_of : D → ℕ) (left_since : D → ℕ → List ℕ → Type 0) (told : D → Option (List ℕ)) (image : D → List ℕ → Type 0) (faults_of : D → ℕ)
-    (limit : ℕ) (script : Script) (contents : ℕ → Option (List ℕ)) (named : Slots) (switch : Switch W) (objects : Objects D)
-    → state_of switch ≡ opened named → log_of switch ≡ no_log → fault_of switch ≡ None → length named ≡ length objects.cores.items
-    → AreGoing moment_of left_since told image faults_of limit script contents named no_log objects
-    → IsServing moment_of left_since told image faults_of limit script contents named switch objects
-serves_first moment_of left_since told image faults_of limit script contents named switch objects state log goes many going = record {
-  run = subst (λ (s : timeline.Switch). IsSwitchRun script (opened named) (log_of switch) s) (sym state)
-      (subst (λ (l : SwitchLog). IsSwitchRun script (opened named) l (opened named)) (sym log) begins);
-  slots = subst (λ (l : SwitchLog). AreGoing moment_of left_since told image faults_of limit script contents named l objects) (sym log) going;
-  there = subst (λ (l : SwitchLog). AreThere (length objects.cores.items) l) (sym log) (All-nil (λ (sent : ℕ × Message). sent.0 < length objects.cores.items));
-  many = ap (λ (s : timeline.Switch). length s.objects) state ∙ many;
-  goes = goes;
-  fit = λ tells. subst (λ (s : timeline.Switch). IsFitRun script (opened named) (log_of switch) s) (sym state)
-      (subst (λ (l : SwitchLog). IsFitRun script (opened named) l (opened named)) (sym log) fit_begins);
-}
 
 -- ---- what is written
 
@@ -299,12 +262,12 @@ module _ {W : Type 0} (taken : W → Option (List ℕ)) (faults : W → ℕ) (ol
         → (is_served (so_ends served) ≡ true → is_served end ≡ true → AreSettledUnless told limit script contents named (log_of mid) left report.slots.items)
         → (is_served (so_ends served) ≡ true → is_served end ≡ true → AreLeftIn (length report.slots.items) left)
         → (is_served (so_ends served) ≡ true → AreInOrder (log_of mid).accepted)
-        → (RowsTell told report.slots.items → ObjectsTell told objects)
+        → (is_served (so_ends served) ≡ true → RowsTell told report.slots.items → ObjectsTell told objects)
         → seen_log report.switch ≡ log_of new
         → AreRows moment_of left_since told faults_of limit script contents named (log_of mid) report.slots.items
-        → length report.slots.items ≡ length objects.cores.items → length named ≡ length objects.cores.items → IsOneEach named → is_late end → SwitchLaws
+        → length report.slots.items ≡ length named → IsOneEach named → is_late end → SwitchLaws
         → IsReport moment_of left_since told faults_of limit script contents (length named) end report
-    reports has serving quiet unless left_in order tells log rows count many one_each late laws =
+    reports has serving quiet unless left_in order tells log rows count one_each late laws =
         let are : AreRows moment_of left_since told faults_of limit script contents named (seen_log report.switch) report.slots.items =
         subst (λ (l : SwitchLog). AreRows moment_of left_since told faults_of limit script contents named l report.slots.items) (sym log)
         (rows_same moment_of left_since told faults_of limit script contents named (log_of mid) (log_of new) report.slots.items same_posts rows) in
@@ -322,7 +285,7 @@ module _ {W : Type 0} (taken : W → Option (List ℕ)) (faults : W → ℕ) (ol
           many = refl;
           one_each = one_each;
           rows = are;
-          within = omega (arith, count, many);
+          within = omega (arith, count);
           run = so_far;
           there = in_rows;
           drops = are_drops_only moment_of left_since told faults_of limit script contents named report.switch report.slots.items laws.fit laws.moments so_far are asked.posted
@@ -335,8 +298,7 @@ module _ {W : Type 0} (taken : W → Option (List ℕ)) (faults : W → ℕ) (ol
               let run : IsSwitchRun script (opened named) (log_of mid) (state_of mid) = (serving sure).run in
               let ticks : AreTicksInRange (log_of mid).accepted =
               subst AreTicksInRange (ap (λ (l : SwitchLog). l.accepted) log ∙ same_posts.accepted) (ticks_read report.switch.accepted.items) in
-              let each : length report.slots.items ≡ length named = count ∙ sym many in
-              let fits : RowsTell told report.slots.items → IsFitRun script (opened named) (log_of mid) (state_of mid) = λ tell. (serving sure).fit (tells tell) in
+              let fits : RowsTell told report.slots.items → IsFitRun script (opened named) (log_of mid) (state_of mid) = λ tell. (serving sure).fit (tells sure tell) in
               let logged : seen_log report.switch ≡ gave (log_of mid) (finished_by (state_of mid) left) = log ∙ ((ended.finishes sure).whole is).1 in
               record {
                 before = log_of mid;
@@ -346,13 +308,13 @@ module _ {W : Type 0} (taken : W → Option (List ℕ)) (faults : W → ℕ) (ol
                 finished = logged;
                 settled = subst (λ (l : SwitchLog). AreSettled told limit script contents named l left report.slots.items) (sym log)
                     (settled_same told limit script contents named (log_of mid) (log_of new) left report.slots.items same_posts
-                    (settled moment_of left_since told faults_of limit script contents named (log_of mid) (state_of mid) report.slots.items left laws run rows mid_there each
+                    (settled moment_of left_since told faults_of limit script contents named (log_of mid) (state_of mid) report.slots.items left laws run rows mid_there count
                     (left_in sure is) (order sure) ticks fits (unless sure is)));
                 left_in = left_in sure is;
-                calls = in_order moment_of left_since told faults_of limit script contents named (log_of mid) (state_of mid) report.slots.items left laws run rows mid_there each
+                calls = in_order moment_of left_since told faults_of limit script contents named (log_of mid) (state_of mid) report.slots.items left laws run rows mid_there count
                     (left_in sure is) (order sure) ticks fits (unless sure is);
                 once = subst (λ (l : SwitchLog). AreCallsAnswered told (log_of mid) l (state_of mid) left report.slots.items) (sym logged)
-                    (answered moment_of left_since told faults_of limit script contents named (log_of mid) (state_of mid) report.slots.items left laws run rows mid_there each
+                    (answered moment_of left_since told faults_of limit script contents named (log_of mid) (state_of mid) report.slots.items left laws run rows mid_there count
                     (left_in sure is) (order sure) ticks fits (unless sure is));
               })
               (λ other. absurd (true_is_not (sym is ∙ ap is_served (ended.stops other).0 ∙ other)));
@@ -366,10 +328,11 @@ module _ {W : Type 0} (taken : W → Option (List ℕ)) (faults : W → ℕ) (ol
 -- ---- a run that ends before it serves
 
 -- Nothing was accepted of a source that wasn't read.
-pub accepts_nothing : (input : Option (List ℕ)) (most : ℕ) → IfTold input (λ (bytes : List ℕ). Accepts bytes input most [] 0)
-accepts_nothing input most bytes is = let on = goes_from bytes input is in record {
+pub accepts_nothing : (input : Option (List ℕ)) → IfTold input (λ (bytes : List ℕ). Accepts bytes input [] 0)
+accepts_nothing input bytes is = let on = goes_from bytes input is in record {
   first = has_given_now bytes [] 0 [] input on;
-  looked_at = looked_none bytes [] most 0 input refl refl is;
+  most = 0;
+  looked_at = looked_none bytes [] 0 0 input refl refl is;
 }
 
 no_log_in : {S : Type 0} (report : Report S) → seen_log report.switch ≡ no_log → report.switch.lines.items ≡ []
@@ -393,7 +356,8 @@ prints_nothing taken end report log =
 abbrev none_of : (X : Type 0) → ℕ → Option X
 none_of X slot = slice_get [] slot
 
-none_there : {X : Type 0} (slot : ℕ) (x : X) (P : Type 0) → none_of X slot ≡ Some x → P
+-- No list without items has one there.
+pub none_there : {X : Type 0} (slot : ℕ) (x : X) (P : Type 0) → none_of X slot ≡ Some x → P
 none_there slot x P is = cc
 
 never_served : (end : OpenEnd) → is_served (opening_end end) ≡ false
@@ -472,22 +436,12 @@ reports_opened moment_of left_since told faults_of limit script contents named s
 }
 
 -- The same lines, by another account.
-pub accepts_later : (bytes : List ℕ) (left after : Option (List ℕ)) (most more : ℕ) (accepted later : List Line) (count counted : ℕ) → after ≡ left → later ≡ accepted → counted ≡ count
-    → most ≤ more → Accepts bytes left most accepted count → Accepts bytes after more later counted
-accepts_later bytes left after most more accepted later count counted same_left same_lines same_count le accepts =
-    subst (λ (l : Option (List ℕ)). Accepts bytes l more later counted) (sym same_left)
-    (subst (λ (ls : List Line). Accepts bytes left more ls counted) (sym same_lines)
-    (subst (λ (n : ℕ). Accepts bytes left more accepted n) (sym same_count) (record {
-      first = accepts.first;
-      looked_at = let looked = accepts.looked_at in record {
-        read = looked.read;
-        source = looked.source;
-        reached = looked.reached;
-        more = looked.more;
-        few = omega (arith, le, looked.few);
-        all = looked.all;
-      };
-    })))
+pub accepts_later : (bytes : List ℕ) (left after : Option (List ℕ)) (accepted later : List Line) (count counted : ℕ) → after ≡ left → later ≡ accepted → counted ≡ count
+    → Accepts bytes left accepted count → Accepts bytes after later counted
+accepts_later bytes left after accepted later count counted same_left same_lines same_count accepts =
+    subst (λ (l : Option (List ℕ)). Accepts bytes l later counted) (sym same_left)
+    (subst (λ (ls : List Line). Accepts bytes left ls counted) (sym same_lines)
+    (subst (λ (n : ℕ). Accepts bytes left accepted n) (sym same_count) accepts))
 
 pub all_later : (bytes : List ℕ) (accepted later : List Line) (count counted : ℕ) → later ≡ accepted → counted ≡ count → AcceptsAll bytes accepted count → AcceptsAll bytes later counted
 all_later bytes accepted later count counted same_lines same_count all =

@@ -1,5 +1,5 @@
 -- What is posted to the slots and taken from them, and what holds of them then.
-use Rattle.std.proofs.Common.{◌≡◌, ◌<◌, ◌∙◌, ap, sym, subst, inl, inr, ℕ, List, [], ◌∷◌, ◌++◌, map, length, set, get_or, cond, append-nil, Option, Some}
+use Rattle.std.proofs.Common.{◌≡◌, ◌<◌, ◌∙◌, ap, sym, subst, inl, inr, ℕ, List, [], ◌∷◌, ◌++◌, map, length, set, get_or, cond, append-nil, append_assoc, Option, Some}
 use Rattle.std.proofs.Common.{arith}
 use Rattle.std.specs.Prelude.{Bool, true, false, ◌==◌, slice_get}
 use Rattle.std.specs.List.{All}
@@ -79,6 +79,10 @@ going_more : {X : Type 0} (slot : ℕ) (old new : List X) (log later since : Lis
 going_more {X} slot old new log later since more was is =
     more ∙ ap (λ (xs : List X). xs ++ of_slot slot since) was ∙ sym (of_slot-append slot log since) ∙ ap (of_slot slot) (sym is)
 
+-- It is more also behind what was there before.
+behind_more : {X : Type 0} (before old new more : List X) → new ≡ old ++ more → before ++ new ≡ (before ++ old) ++ more
+behind_more {X} before old new more is = ap (λ (xs : List X). before ++ xs) is ∙ sym (append_assoc before old more)
+
 module _ {D : Type 0} (before after : SwitchLog) (old new : Objects D) (moves : Moves before after old new) where
   cores_many : length new.cores.items ≡ length old.cores.items
   cores_many = ap length moves.cores
@@ -121,10 +125,14 @@ module _ {D : Type 0} (before after : SwitchLog) (old new : Objects D) (moves : 
       origin = going.origin;
       begun = going.begun;
       one = going.one;
-      posted = going_more slot (sent_on inbox) (sent_on later) before.posts after.posts moves.posts sent going.posted moves.posted;
-      gives = going.gives ∙ sym left;
-      routed_first = going_more slot out.got then.got before.routed after.routed moves.routed got going.routed_first moves.taken;
-      hands = going.hands ∙ sym same;
+      given_before = going.given_before;
+      taken_before = going.taken_before;
+      posted = going_more slot (going.given_before ++ sent_on inbox) (going.given_before ++ sent_on later) before.posts after.posts moves.posts
+          (behind_more going.given_before (sent_on inbox) (sent_on later) (of_slot slot moves.posts) sent) going.posted moves.posted;
+      gives = going.gives ∙ ap (λ (xs : List Event). going.given_before ++ xs) (sym left);
+      routed_first = going_more slot (going.taken_before ++ out.got) (going.taken_before ++ then.got) before.routed after.routed moves.routed
+          (behind_more going.taken_before out.got then.got (of_slot slot moves.routed) got) going.routed_first moves.taken;
+      hands = going.hands ∙ ap (λ (xs : List Message). going.taken_before ++ xs) (sym same);
     })
 
 -- ---- the slots at an end

@@ -145,7 +145,8 @@ module _ {D : Type 0} (moment_of : D → ℕ) (left_since : D → ℕ → List �
     routes_in =
         let rest = out.waiting ++ slot.handed.0 in (
           rest,
-          ap (λ (ms : List Message). ms ++ rest) (sym slot.routed_first) ∙ sym (append_assoc out.got out.waiting slot.handed.0) ∙ sym slot.handed.1
+          ap (λ (ms : List Message). ms ++ rest) (sym slot.routed_first) ∙ sym (append_assoc (slot.taken_before ++ out.got) out.waiting slot.handed.0)
+              ∙ ap (λ (ms : List Message). ms ++ slot.handed.0) (append_assoc slot.taken_before out.got out.waiting) ∙ sym slot.handed.1
               ∙ ap (λ (ms : List Message). ms ++ sent_on core.out) (sym slot.begun.left) ∙ sym (left script slot.origin slot.one)
               ∙ ap (λ (log : Backed). messages log.released) (sym back_is),
         )

@@ -7,7 +7,8 @@ use Rattle.do_tree.specs.Tree.{Script}
 use Rattle.lane.specs.Lanes.{Both, nowhere, sent_on}
 use Rattle.line_server.specs.declared.line.Line.{Line}
 use Rattle.placement.specs.Slots.{Slots}
-use Rattle.switch_history.specs.Fit.{IsFit, IsFitRun, accepted as fit_accepted, routed as fit_routed}
+use Rattle.mailbox.specs.Fit.{IsFit}
+use Rattle.switch_history.specs.Fit.{IsFitRun, accepted as fit_accepted, routed as fit_routed}
 use Rattle.switch_history.specs.Placed.{PostsArePlaced}
 use Rattle.timeline.specs.Switch as timeline
 use Rattle.timeline.specs.Switch.{SwitchLog, opened}
@@ -109,6 +110,7 @@ module _ {D W : Type 0} (moment_of : D → ℕ) (left_since : D → ℕ → List
     slots = going_moved (log_of before) (log_of after) old new moves moment_of left_since told image faults_of limit script contents named serving.slots;
     there = there_moved (log_of before) (log_of after) old new moves serving.there are;
     many = many ∙ serving.many ∙ sym (ap length moves.cores);
+    all = serving.all ∙ sym (ap length moves.cores);
     goes = goes;
     fit = λ tells. fits serving (still_tell moves.cores tells);
   }
@@ -119,7 +121,8 @@ module _ {D W : Type 0} (moment_of : D → ℕ) (left_since : D → ℕ → List
     run = run;
     slots = all_stand moment_of left_since told image faults_of limit script contents named (log_of after) new
         (going_moved (log_of before) (log_of after) old new moves moment_of left_since told image faults_of limit script contents named serving.slots);
-    there = there_moved (log_of before) (log_of after) old new moves serving.there are;
+    there = subst (λ (n : ℕ). AreThere n (log_of after)) (ap length moves.cores ∙ sym serving.all)
+        (there_moved (log_of before) (log_of after) old new moves serving.there are);
   }
 
   one_of : (sent : ℕ × Message) → sent.0 < length old.outs.items → Serves before old → AreOf (sent ∷ [])
@@ -246,6 +249,7 @@ module _ {D W : Type 0} (moment_of : D → ℕ) (left_since : D → ℕ → List
     slots = slots;
     there = subst (λ (n : ℕ). AreThere n (log_of switch)) (sym many) serving.there;
     many = serving.many ∙ sym many;
+    all = serving.all ∙ sym many;
     goes = serving.goes;
     fit = λ told_now. serving.fit (tells told_now);
   }
@@ -255,7 +259,7 @@ module _ {D W : Type 0} (moment_of : D → ℕ) (left_since : D → ℕ → List
   served_ran slots serving = record {
     run = whole (state_of switch) serving.run;
     slots = slots;
-    there = subst (λ (n : ℕ). AreThere n (log_of switch)) (sym many) serving.there;
+    there = subst (λ (n : ℕ). AreThere n (log_of switch)) (sym serving.all) serving.there;
   }
 
 -- The objects can run on, whichever the end.

@@ -33,7 +33,7 @@ use Rattle.timeline.specs.declared.event.Event.{Event}
 use Rattle.timeline.specs.declared.message.Message.{Message}
 use Rattle.timeline.specs.declared.notice.Waits.{Waits}
 use Rattle.timeline.specs.declared.notice.Waits.TheVariants as waits
-use Rattle.host_core.proofs.Quiet.{all_routed, nothing_to_do, row_lets_go}
+use Rattle.host_core.proofs.Quiet.{all_given, all_routed, nothing_to_do, row_lets_go}
 use Rattle.host_core.proofs.Untouched.{row_untouched}
 use Rattle.host_core.specs.Closing.{IsLeftOf, IsSettledOf}
 use Rattle.host_core.specs.Quiet.{IsSettled, WaitsForRouted}
@@ -73,7 +73,7 @@ module _ {D : Type 0} (moment_of : D → ℕ) (left_since : D → ℕ → List �
 
     -- all that was posted went to the object
     posts_are : sent_on core.inbox ≡ posts
-    posts_are = going.gives ∙ sym (append-nil inbox.got) ∙ ap (λ (es : List Event). inbox.got ++ es) (sym resting.given) ∙ going.posted
+    posts_are = all_given moment_of left_since told image faults_of core limit script content named posts routed inbox out going resting
 
     -- ---- its front stands still
     row_unasked : IsGivenUnasked (fronted core.front.half.log) core.inbox.got → IsGivenUnasked (fronted row.front) posts

@@ -1,5 +1,5 @@
 -- The row of an object of no class of the script that rests, where nothing was posted to it.
-use Rattle.std.proofs.Common.{◌≡◌, ◌∙◌, ap, sym, subst, arith, ℕ, List, [], ◌++◌, length, length-append, append-nil, Option, None}
+use Rattle.std.proofs.Common.{◌≡◌, ◌∙◌, ap, sym, subst, arith, ℕ, List, [], ◌++◌, length, length-append, Option, None}
 use Rattle.std.specs.Prelude.{false}
 use Rattle.std.proofs.lemmas.List.{nil_from_length}
 use Rattle.batch_journal.specs.Moments.{IsTold}
@@ -21,7 +21,7 @@ use Rattle.timeline.specs.declared.caller.Caller.{Caller}
 use Rattle.timeline.specs.declared.event.Event.{Event}
 use Rattle.timeline.specs.declared.message.Message.{Message}
 use Rattle.timeline.specs.declared.notice.Waits.{Waits}
-use Rattle.host_core.proofs.Quiet.{all_routed, nothing_to_do}
+use Rattle.host_core.proofs.Quiet.{all_given, all_routed, nothing_to_do}
 use Rattle.host_core.specs.Closing.{IsLeftOf}
 use Rattle.host_core.specs.Quiet.{IsOfNoClass, IsUntouched}
 use Rattle.host_core.specs.Slots.{IsGoing, IsResting}
@@ -47,7 +47,7 @@ module _ {D : Type 0} (moment_of : D → ℕ) (left_since : D → ℕ → List �
 
     -- it got nothing
     posts_are : sent_on core.inbox ≡ posts
-    posts_are = going.gives ∙ sym (append-nil inbox.got) ∙ ap (λ (es : List Event). inbox.got ++ es) (sym resting.given) ∙ going.posted
+    posts_are = all_given moment_of left_since told image faults_of core limit script content named posts routed inbox out going resting
 
     got_none : core.inbox.got ≡ []
     got_none = none_first core.inbox.got core.inbox.waiting posts posts_are unposted

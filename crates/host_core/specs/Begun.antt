@@ -1,15 +1,17 @@
 -- What mounting one slot gives, and how its object begins.
-use Rattle.std.specs.Prelude.{◌≡◌, ◌≢◌, ◌<◌, ◌≤◌, ℕ, List, [], length, Option, Some, None, ⊤}
+use Rattle.std.specs.Prelude.{◌≡◌, ◌≢◌, ◌<◌, ◌≤◌, ℕ, List, [], length, slice_get, Option, Some, None, ⊤}
 use Rattle.batch_journal.specs.Mounting.{IsMountOf}
 use Rattle.batch_journal.specs.Rest.{IsStaged, limit_of}
 use Rattle.batch_journal.specs.declared.mount.Mounted.{Mounted}
 use Rattle.batch_journal.specs.declared.mount.MountFault.{MountFault}
 use Rattle.batch_journal.specs.declared.mount.MountFault.TheVariants as fault
 use Rattle.do_tree.specs.Tree.{Script}
-use Rattle.object_core.specs.One.{IsOne, Origin, unused}
-use Rattle.object_core.specs.declared.object.Core.{Core}
+use Rattle.host_workers.specs.declared.joining.Halves.{Halves}
+use Rattle.object_core.specs.One.{AreFresh, mounted_at}
+use Rattle.output_gate.specs.Serving.{IsBack}
 use Rattle.placement.specs.Slots.{Slots, IsOneEach, object_at}
 use Rattle.storage_map.specs.Limits.{Object}
+use Rattle.storage_map.specs.declared.op.Op.{Op}
 use Rattle.host_core.specs.Slots.{IsBegun}
 use Rattle.host_core.specs.declared.opening.OpenEnd.{OpenEnd}
 use Rattle.host_core.specs.declared.opening.OpenEnd.TheVariants.{Failed, BadSlot, NoMemory}
@@ -51,11 +53,17 @@ pub record IsMountedAt {D : Type 0} (moment_of : D → ℕ) (left_since : D → 
   pub staged : (any : Object) → IsStaged mounted.journal any []
   pub limited : limit_of mounted.journal ≡ limit
 
--- An object that was just made of a slot whose file had this content, and which names this object; its journal may have so many bytes.
+-- The halves of a slot that was just mounted, whose file had this content, and which names this object; its journal may have so many bytes.
 pub record HasBegun {D : Type 0} (moment_of : D → ℕ) (left_since : D → ℕ → List ℕ → Type 0) (told : D → Option (List ℕ)) (image : D → List ℕ → Type 0) (faults_of : D → ℕ)
-    (limit : ℕ) (script : Script) (content : Option (List ℕ)) (named : Option Object) (core : Core D) : Type 0 where
-  pub origin : Origin
-  pub begun : IsBegun limit content named origin
-  pub one : IsOne moment_of left_since told image faults_of script origin core
-  pub inbox : core.inbox ≡ unused
-  pub out : core.out ≡ unused
+    (limit : ℕ) (script : Script) (content : Option (List ℕ)) (named : Option Object) (halves : Halves D) : Type 0 where
+  pub start : List (List Op)
+  pub opening : ℕ
+  pub fresh : AreFresh script halves.front.half halves.back
+  pub stands : IsBack moment_of left_since told image faults_of start opening halves.back
+  pub begun : IsBegun limit content named (mounted_at start opening halves.back)
+
+-- Those of each slot from slot 0 on.
+abbrev pub AreBegun : {D : Type 0} → (D → ℕ) → (D → ℕ → List ℕ → Type 0) → (D → Option (List ℕ)) → (D → List ℕ → Type 0) → (D → ℕ) → (limit : ℕ) → Script
+    → (contents : ℕ → Option (List ℕ)) → (named : Slots) → List (Halves D) → Type 0
+AreBegun {D} moment_of left_since told image faults_of limit script contents named all = (slot : ℕ) (halves : Halves D) → slice_get all slot ≡ Some halves
+    → HasBegun moment_of left_since told image faults_of limit script (contents slot) (object_at named slot) halves

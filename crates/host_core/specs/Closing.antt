@@ -1,5 +1,5 @@
 -- The row of an object, and what the object has left.
-use Rattle.std.specs.Prelude.{◌≡◌, ◌⊎◌, ◌++◌, false, ℕ, List, [], map, slice_get, Option, Some, Result, Ok}
+use Rattle.std.specs.Prelude.{◌≡◌, ◌⊎◌, ◌+◌, ◌++◌, false, ℕ, List, [], map, slice_get, Option, Some, Result, Ok}
 use Rattle.batch_journal.specs.Moments.{IsTold}
 use Rattle.do_tree.specs.Tree.{Script}
 use Rattle.do_value.specs.declared.fault.NoMemory.{NoMemory}
@@ -21,6 +21,7 @@ use Rattle.timeline.specs.declared.message.Message.{Message}
 use Rattle.timeline.specs.declared.notice.Waits.{Waits}
 use Rattle.object_core.specs.One.{HasItsClass, IsGivenUnasked}
 use Rattle.object_core.specs.declared.object.Core.{Core}
+use Rattle.host_workers.specs.declared.joining.Halves.{Halves}
 use Rattle.host_core.specs.Quiet.{IsLetGo, IsOfNoClass, IsSettled, IsUntouched, remaining_of}
 use Rattle.host_core.specs.Rows.{IsRow}
 use Rattle.host_core.specs.Slots.{IsGoing, IsResting, IsSlot}
@@ -32,6 +33,14 @@ abbrev pub IsRowOf : {D : Type 0} (moment_of : D → ℕ) (left_since : D → �
 IsRowOf moment_of left_since told image faults_of core row = (limit : ℕ) (script : Script) (content : Option (List ℕ)) (named : Option Object)
     (posts : List Event) (routed : List Message) (inbox : Both Event) (out : Both Message) → IsSlot moment_of left_since told image faults_of limit script content named posts routed core inbox out
     → IsRow moment_of left_since told faults_of limit script content named posts routed row
+
+-- The halves of each slot from this one on are those of an object that stands by what was posted to the slot and routed from it.
+abbrev pub AreHalves : {D : Type 0} (moment_of : D → ℕ) (left_since : D → ℕ → List ℕ → Type 0) (told : D → Option (List ℕ)) (image : D → List ℕ → Type 0) (faults_of : D → ℕ)
+    → (limit : ℕ) → Script → (contents : ℕ → Option (List ℕ)) → (named : Slots) → SwitchLog → (from : ℕ) → List (Halves D) → Type 0
+AreHalves {D} moment_of left_since told image faults_of limit script contents named log from apart = (at : ℕ) (halves : Halves D) → slice_get apart at ≡ Some halves
+    → (core : Core D) × (inbox : Both Event) × (out : Both Message) × (core.front ≡ halves.front) × (core.back ≡ halves.back)
+    × IsSlot moment_of left_since told image faults_of limit script (contents (from + at)) (object_at named (from + at))
+    (of_slot (from + at) log.posts) (of_slot (from + at) log.routed) core inbox out
 
 -- Where the object goes on and rests, and none of its messages waits to be routed, the row tells that nothing of it is held back.
 abbrev pub IsLetGoOf : {D : Type 0} (moment_of : D → ℕ) (left_since : D → ℕ → List ℕ → Type 0) (told : D → Option (List ℕ)) (image : D → List ℕ → Type 0) (faults_of : D → ℕ)

@@ -1,5 +1,5 @@
 -- How a run ends.
-use Rattle.std.specs.Prelude.{ℕ, Bool, true, false, Result, Ok, Err, ⊤}
+use Rattle.std.specs.Prelude.{Bool, true, false, Result, Ok, Err, ⊤}
 use Rattle.mailbox.specs.declared.fault.SwitchFault.{SwitchFault}
 use Rattle.mailbox.specs.declared.fault.SwitchFault.TheVariants as switch
 use Rattle.line_server.specs.declared.fault.LineFault.{LineFault}
@@ -19,11 +19,6 @@ switch_stop switch.NoMemory = NoMemory
 abbrev pub line_stop : LineFault → Stop
 line_stop line.ReadFailed = ReadFailed
 line_stop line.NoMemory = NoMemory
-
--- How many lines may be looked at and not accepted: one where memory was wanting.
-abbrev pub most_waiting : {T : Type 0} → Result T Stop → ℕ
-most_waiting (Err NoMemory) = 1
-most_waiting result = 0
 
 -- The end of a run whose opening stopped so, and of one whose lines did.
 abbrev pub opening_end : OpenEnd → ServeEnd

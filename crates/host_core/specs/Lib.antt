@@ -15,3 +15,4 @@ pub mod Ends
 pub mod Finishing
 pub mod Complete
 pub mod Report
+pub mod Resuming

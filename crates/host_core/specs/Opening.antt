@@ -12,7 +12,7 @@ use Rattle.do_disk.specs.Asks.{Ask, for_slot}
 use Rattle.do_disk.specs.Disk.{IfTold, Rose, next_count}
 use Rattle.placement.specs.Slots.{Slots, object_at}
 use Rattle.timeline.specs.Headline.{IsPrefix}
-use Rattle.host_core.specs.declared.objects.Objects.{Objects}
+use Rattle.host_core.specs.declared.room.Queues.{Queues}
 use Rattle.host_core.specs.declared.opening.OpenEnd.{OpenEnd}
 use Rattle.host_core.specs.declared.opening.OpenEnd.TheVariants.{Failed, BadSlot}
 use Rattle.host_core.specs.declared.settings.Bad.{Bad}
@@ -73,8 +73,7 @@ pub record Asks (before after asks : List Ask) : Type 0 where
   pub added : after ≡ before ++ asked
   pub first : IsPrefix asked asks
 
--- So many objects more can be put without further memory.
-pub record HasRoom {D : Type 0} (more : ℕ) (objects : Objects D) : Type 0 where
-  pub cores : vec_len objects.cores + more ≤ vec_capacity objects.cores
-  pub inboxes : vec_len objects.inboxes + more ≤ vec_capacity objects.inboxes
-  pub outs : vec_len objects.outs + more ≤ vec_capacity objects.outs
+-- So many queues more can be put without further memory.
+pub record HasRoom (more : ℕ) (queues : Queues) : Type 0 where
+  pub inboxes : vec_len queues.inboxes + more ≤ vec_capacity queues.inboxes
+  pub outs : vec_len queues.outs + more ≤ vec_capacity queues.outs

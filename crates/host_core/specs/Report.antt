@@ -80,14 +80,9 @@ pub record IsReport {S : Type 0} (moment_of : S → ℕ) (left_since : S → ℕ
   -- why a slot is bad, which is the one behind those that were mounted
   pub bad : (bad : Bad) → end ≡ ends.BadSlot bad → IsBad contents named (length report.slots.items) bad
 
--- How many lines may have been looked at and not accepted: one where memory was wanting.
-abbrev pub most_unaccepted : ServeEnd → ℕ
-most_unaccepted ends.NoMemory = 1
-most_unaccepted other = 0
-
 -- The lines that were read and accepted, from what the source had left before and what it has after.
 pub record ReadsLines {S : Type 0} (before after : Option (List ℕ)) (end : ServeEnd) (report : Report S) : Type 0 where
-  pub accepted : IfTold before (λ whole. Accepts whole after (most_unaccepted end) (seen_log report.switch).accepted report.lines)
+  pub accepted : IfTold before (λ whole. Accepts whole after (seen_log report.switch).accepted report.lines)
   pub all : end ≡ ends.Finished → IfTold before (λ whole. AcceptsAll whole (seen_log report.switch).accepted report.lines)
   pub all_read : end ≡ ends.ReadFailed → IfTold before (λ whole. AcceptsAllRead whole after (seen_log report.switch).accepted report.lines)
   pub limit : report.lines ≤ most_lines

@@ -27,15 +27,16 @@ module _ {D W : Type 0} (moment_of : D → ℕ) (left_since : D → ℕ → List
     pub slots : AreGoing moment_of left_since told image faults_of limit script contents named (log_of switch) objects
     pub there : AreThere (length objects.cores.items) (log_of switch)
     pub many : slots_of switch ≡ length objects.cores.items
+    pub all : length named ≡ length objects.cores.items
     pub goes : fault_of switch ≡ None
     -- while all disks tell their content, each message that was routed was fit
     pub fit : ObjectsTell told objects → IsFitRun script (opened named) (log_of switch) (state_of switch)
 
-  -- At any end.
+  -- At any end. Where memory was wanting to join the halves of some slots, there are objects of the slots before these alone.
   pub record HasServed (contents : ℕ → Option (List ℕ)) (named : Slots) (switch : Switch W) (objects : Objects D) : Type 0 where
     pub run : IsRunSoFar script (opened named) (log_of switch)
     pub slots : AreSlots moment_of left_since told image faults_of limit script contents named (log_of switch) objects
-    pub there : AreThere (length objects.cores.items) (log_of switch)
+    pub there : AreThere (length named) (log_of switch)
 
 module _ {D W : Type 0} (moment_of : D → ℕ) (left_since : D → ℕ → List ℕ → Type 0) (told : D → Option (List ℕ)) (image : D → List ℕ → Type 0) (faults_of : D → ℕ)
     (script : Script) where

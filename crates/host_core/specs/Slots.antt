@@ -1,5 +1,5 @@
 -- One slot of a run.
-use Rattle.std.specs.Prelude.{◌≡◌, ℕ, List, [], Option}
+use Rattle.std.specs.Prelude.{◌≡◌, ℕ, List, [], ◌++◌, Option}
 use Rattle.do_disk.specs.Disk.{IfTold, next_count}
 use Rattle.do_tree.specs.Tree.{Script}
 use Rattle.lane.specs.Lanes.{Both, sent_on, StartsWith}
@@ -25,18 +25,20 @@ pub record IsBegun (limit : ℕ) (content : Option (List ℕ)) (named : Option O
   pub left : origin.left ≡ []
   pub limited : origin.limit ≡ limit
 
--- The object is one; what was posted to the slot went into its queue, and the first of it to the object; what was routed from the slot came out
--- of its queue, into which the first of what left went.
+-- The object is one; what was posted to the slot went to the object before it had this queue, or into its queue, and the first of it to the object;
+-- what was routed from the slot was taken of the object before, or came out of its queue, into which the first of what left went.
 pub record IsSlot {D : Type 0} (moment_of : D → ℕ) (left_since : D → ℕ → List ℕ → Type 0) (told : D → Option (List ℕ)) (image : D → List ℕ → Type 0) (faults_of : D → ℕ)
     (limit : ℕ) (script : Script) (content : Option (List ℕ)) (named : Option Object) (posts : List Event) (routed : List Message)
     (core : Core D) (inbox : Both Event) (out : Both Message) : Type 0 where
   pub origin : Origin
   pub begun : IsBegun limit content named origin
   pub one : IsOne moment_of left_since told image faults_of script origin core
-  pub posted : sent_on inbox ≡ posts
+  pub given_before : List Event
+  pub taken_before : List Message
+  pub posted : given_before ++ sent_on inbox ≡ posts
   pub given : StartsWith posts (sent_on core.inbox)
-  pub routed_first : out.got ≡ routed
-  pub handed : StartsWith (sent_on core.out) (sent_on out)
+  pub routed_first : taken_before ++ out.got ≡ routed
+  pub handed : StartsWith (sent_on core.out) (taken_before ++ sent_on out)
 
 -- As long as memory suffices, all that was taken out of either queue went on.
 pub record IsGoing {D : Type 0} (moment_of : D → ℕ) (left_since : D → ℕ → List ℕ → Type 0) (told : D → Option (List ℕ)) (image : D → List ℕ → Type 0) (faults_of : D → ℕ)
@@ -45,10 +47,12 @@ pub record IsGoing {D : Type 0} (moment_of : D → ℕ) (left_since : D → ℕ 
   pub origin : Origin
   pub begun : IsBegun limit content named origin
   pub one : IsOne moment_of left_since told image faults_of script origin core
-  pub posted : sent_on inbox ≡ posts
-  pub gives : sent_on core.inbox ≡ inbox.got
-  pub routed_first : out.got ≡ routed
-  pub hands : core.out.got ≡ sent_on out
+  pub given_before : List Event
+  pub taken_before : List Message
+  pub posted : given_before ++ sent_on inbox ≡ posts
+  pub gives : sent_on core.inbox ≡ given_before ++ inbox.got
+  pub routed_first : taken_before ++ out.got ≡ routed
+  pub hands : core.out.got ≡ taken_before ++ sent_on out
 
 -- Nothing is left to do for it, all that was posted to it was given, and all that it let go was handed on.
 pub record IsResting {D : Type 0} (script : Script) (core : Core D) (inbox : Both Event) : Type 0 where

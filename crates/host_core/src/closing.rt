@@ -1,5 +1,6 @@
 //! The rows of the report, and what the objects have left.
 ghost use Rattle.std.specs.Prelude.{◌≡◌, ◌≤◌, ◌+◌, ◌++◌, ◌∷◌, ℕ, List, OnOk, Option, [], length, vec_len};
+ghost use Rattle.std.specs.List.{All};
 ghost use Rattle.std.specs.Vec.{vec_capacity};
 ghost use Rattle.do_tree.specs.Tree.{Script};
 ghost use Rattle.timeline.specs.Switch.{SwitchLog};
@@ -11,7 +12,7 @@ ghost use Rattle.object_front.specs.Turning.{CanTurn};
 ghost use Rattle.output_gate.specs.Serving.{CanServe};
 ghost use Rattle.output_gate.specs.Storing.{IsDiskOf};
 ghost use Rattle.timeline.specs.Logs.{backed, fronted};
-ghost use Rattle.host_core.specs.Closing.{AddsLeft, AreSettledUnless, IsLetGoOf, IsRowOf, IsSettledOf, with_slot};
+ghost use Rattle.host_core.specs.Closing.{AddsLeft, AreHalves, AreSettledUnless, IsLetGoOf, IsRowOf, IsSettledOf, with_slot};
 ghost use Rattle.host_core.specs.Objects.{ObjectsTell, AreGoing, AreResting, AreRouted, AreSlots, CanAllRun};
 ghost use Rattle.host_core.specs.Quiet.{AreLeftIn, AreLetGo, RowsTell};
 ghost use Rattle.host_core.specs.Rows.{AreRows};
@@ -20,6 +21,7 @@ use crate::objects::Objects;
 use crate::report::SlotReport;
 use do_disk::Disk;
 use do_value::{Mem, NoMemory};
+use host_workers::Halves;
 use object_core::{Core, laws};
 use object_front::Front;
 use output_gate::{Back, BackParts};
@@ -50,6 +52,7 @@ pub(crate) fn close<D: Disk + Drop>(
         → AreRouted objects → AreSettledUnless D.told limit script contents named log left.new.items rows.new.items) }
     ensures left_in { OnOk result (AreLeftIn (length objects.cores.items) left.new.items) }
     ensures many { length rows.new.items ≡ length objects.cores.items }
+    ensures room { vec_capacity rows.old ≤ vec_capacity rows.new }
     ensures tells { RowsTell D.told rows.new.items → ObjectsTell D.told objects }
 {
     let mut asked = Ok(());
@@ -60,6 +63,24 @@ pub(crate) fn close<D: Disk + Drop>(
         push_row(rows, row);
     }
     asked
+}
+
+// Makes a row of the halves of each slot of which memory was wanting to make an object.
+pub(crate) fn close_apart<D: Disk + Drop>(apart: Vec<Halves<D>>, rows: &mut Vec<SlotReport<D>>)
+    requires room { vec_len rows.old + length apart.items ≤ vec_capacity rows.old }
+    requires can { All (λ halves. CanServe D.moment_of D.left_since D.told D.image D.faults_of halves.back) apart.items }
+    ensures rows { (limit : ℕ) (script : Script) (contents : ℕ → Option (List ℕ)) (named : Slots) (log : SwitchLog)
+        → AreHalves D.moment_of D.left_since D.told D.image D.faults_of limit script contents named log (length rows.old.items) apart.items
+        → AreRows D.moment_of D.left_since D.told D.faults_of limit script contents named log rows.old.items
+        → AreRows D.moment_of D.left_since D.told D.faults_of limit script contents named log rows.new.items }
+    ensures many { length rows.new.items ≡ length rows.old.items + length apart.items }
+    ensures same { apart.items ≡ [] → rows.new.items ≡ rows.old.items }
+{
+    laws::all_show::<D>();
+    for halves in apart {
+        let Halves { front, back } = halves;
+        push_row(rows, row_of(front, back));
+    }
 }
 
 // The row of an object, which is asked what it has left, unless memory was wanting before.

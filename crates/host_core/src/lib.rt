@@ -8,6 +8,7 @@ mod moving;
 mod objects;
 mod opening;
 mod report;
+mod room;
 mod serving;
 mod settings;
 mod settling;

@@ -51,7 +51,7 @@ fn hand_on<D: Disk>(core: &mut Core<D>, out: &mut Plain<Message>) -> Mem<()>
 }
 
 // Puts a message behind those of a queue.
-fn put(out: &mut Plain<Message>, message: Message) -> Mem<()>
+pub(crate) fn put(out: &mut Plain<Message>, message: Message) -> Mem<()>
     ensures got { out.new.got ≡ out.old.got }
     ensures sent { OnOk result (out.new.waiting ≡ out.old.waiting ++ message ∷ []) }
     ensures same { OnErr result (out.new ≡ out.old) }

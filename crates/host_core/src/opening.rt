@@ -1,6 +1,7 @@
 //! The slots are mounted, and each gets its object.
-ghost use Rattle.std.specs.Prelude.{◌≡◌, ◌≢◌, ◌<◌, ◌++◌, ◌∷◌, [], ℕ, List, Option, Ok, Err, IfOk, IfErr, OnOk, OnErr, Some, None, length, replicate, string_bytes};
+ghost use Rattle.std.specs.Prelude.{◌≡◌, ◌≢◌, ◌<◌, ◌≤◌, ◌+◌, ◌++◌, ◌∷◌, [], ℕ, List, Option, Ok, Err, IfOk, IfErr, OnOk, OnErr, Some, None, length, replicate, string_bytes, vec_len};
 ghost use Rattle.std.specs.Option.{option_copied};
+ghost use Rattle.std.specs.Vec.{vec_capacity};
 ghost use Rattle.batch_journal.specs.Mounting.{ImageOrHeader, IsMountOf, disk_left};
 ghost use Rattle.batch_journal.specs.Moments.{LeavesOnly};
 ghost use Rattle.batch_journal.specs.Rest.{IsStaged, disk_in, limit_of};
@@ -9,17 +10,15 @@ ghost use Rattle.do_tree.specs.Checked.{tree_of as script_in};
 ghost use Rattle.storage_map.specs.Limits.{Object};
 ghost use Rattle.object_core.specs.One.{class_in};
 ghost use Rattle.placement.specs.Slots.{IsOneEach, Slots, object_at};
-ghost use Rattle.timeline.specs.Switch.{no_log};
-ghost use Rattle.host_core.specs.Begun.{AreFreeFrom, HasBegun, IsMountedAt, IsNotTaken, OnlyAt, mounting_end};
-ghost use Rattle.host_core.specs.Objects.{AreGoing};
-ghost use Rattle.host_core.specs.Opening.{Asks, HasRoom, StopsOpening, slot_asks};
+ghost use Rattle.host_core.specs.Begun.{AreBegun, AreFreeFrom, HasBegun, IsMountedAt, IsNotTaken, OnlyAt, mounting_end};
+ghost use Rattle.host_core.specs.Opening.{Asks, StopsOpening, slot_asks};
 
-use crate::objects::Objects;
 use crate::settings::{Bad, Settings};
 use batch_journal::{Journal, MountFault, Mounted};
 use do_disk::{Depot, DepotFault, Disk};
 use do_tree::Checked;
-use object_core::{Core, laws};
+use host_workers::Halves;
+use object_core::laws;
 use object_front::Front;
 use output_gate::Back;
 use placement::{AdoptFault, Directory, laws as placement_laws};
@@ -37,44 +36,52 @@ pub enum OpenEnd {
     NoMemory,
 }
 
-// Mounts the slots of the folder from slot 0 on, and makes an object of each. At a stop those before it stand, and the disk of the slot
-// that isn't mounted, where there is one, is kept.
+// Mounts the slots of the folder from slot 0 on, and makes the halves of an object of each. At a stop those before it stand, and the disk of the
+// slot that isn't mounted, where there is one, is kept.
 pub(crate) fn open<P: Depot>(
     alloc: Global,
     checked: &Checked,
     settings: &Settings,
     depot: &mut P,
     directory: &mut Directory,
-    objects: &mut Objects<P::Store>,
+    slots: &mut Vec<Halves<P::Store>>,
     unopened: &mut Option<P::Store>,
 ) -> Result<(), OpenEnd>
-    requires none { objects.old.cores.items ≡ [] }
-    requires no_inbox { objects.old.inboxes.items ≡ [] }
-    requires no_out { objects.old.outs.items ≡ [] }
-    requires room { HasRoom settings.now.slots objects.old }
+    requires none { slots.old.items ≡ [] }
+    requires room { settings.now.slots ≤ vec_capacity slots.old }
     requires free { directory.old ≡ replicate settings.now.slots None }
     requires none_left { unopened.old ≡ None }
-    ensures all { OnOk result (length objects.new.cores.items ≡ settings.now.slots) }
-    ensures some { OnErr result (length objects.new.cores.items < settings.now.slots) }
-    ensures going { AreGoing P.Store.moment_of P.Store.left_since P.Store.told P.Store.image P.Store.faults_of settings.now.journal (script_in checked.now)
-        (P.slot_at depot.old (string_bytes settings.now.folder)) directory.new no_log objects.new }
+    ensures all { OnOk result (length slots.new.items ≡ settings.now.slots) }
+    ensures some { OnErr result (length slots.new.items < settings.now.slots) }
+    ensures begun { AreBegun P.Store.moment_of P.Store.left_since P.Store.told P.Store.image P.Store.faults_of settings.now.journal (script_in checked.now)
+        (P.slot_at depot.old (string_bytes settings.now.folder)) directory.new slots.new.items }
     ensures many { length directory.new ≡ settings.now.slots }
     ensures one_each { IsOneEach directory.new }
     ensures asked { Asks (P.asked depot.old) (P.asked depot.new) (slot_asks (string_bytes settings.now.folder) settings.now.slots) }
     ensures all_asked { OnOk result (P.asked depot.new ≡ P.asked depot.old ++ slot_asks (string_bytes settings.now.folder) settings.now.slots) }
     ensures none_left { OnOk result (unopened.new ≡ None) }
     ensures stop { IfErr result (StopsOpening P.Store.told P.Store.image P.Store.moment_of P.Store.left_since P.Store.faults_of
-        (P.slot_at depot.old (string_bytes settings.now.folder)) directory.new (length objects.new.cores.items)
+        (P.slot_at depot.old (string_bytes settings.now.folder)) directory.new (length slots.new.items)
         (P.faults_of depot.old) (P.faults_of depot.new) unopened.new) }
 {
     for slot in 0..settings.slots {
-        let core = open_slot(alloc, checked, settings, slot, depot, directory, unopened)?;
-        objects.put(alloc, core);
+        let halves = open_slot(alloc, checked, settings, slot, depot, directory, unopened)?;
+        push_halves(slots, halves);
     }
     Ok(())
 }
 
-// Mounts one slot and makes its object. Where that stops, its disk is kept, if it was handed out, and the slot has no object.
+// Puts the halves of a slot behind those of the slots before it.
+fn push_halves<D>(slots: &mut Vec<Halves<D>>, halves: Halves<D>)
+    requires { vec_len slots.old + 1 ≤ vec_capacity slots.old }
+    ensures items { slots.new.items ≡ slots.old.items ++ halves ∷ [] }
+    ensures len { vec_len slots.new ≡ vec_len slots.old + 1 }
+    ensures room { vec_capacity slots.old ≤ vec_capacity slots.new }
+{
+    slots.push(halves).unwrap();
+}
+
+// Mounts one slot and makes the halves of its object. Where that stops, its disk is kept, if it was handed out, and the slot has no object.
 fn open_slot<P: Depot>(
     alloc: Global,
     checked: &Checked,
@@ -83,7 +90,7 @@ fn open_slot<P: Depot>(
     depot: &mut P,
     directory: &mut Directory,
     unopened: &mut Option<P::Store>,
-) -> Result<Core<P::Store>, OpenEnd>
+) -> Result<Halves<P::Store>, OpenEnd>
     requires there { slot < length directory.old }
     requires free { AreFreeFrom slot directory.old }
     requires one_each { IsOneEach directory.old }
@@ -257,8 +264,8 @@ fn take_in(identity: Option<&Identity>, slot: u32, directory: &mut Directory) ->
     }
 }
 
-// The object of what was mounted.
-fn begin<D: Disk>(alloc: Global, checked: &Checked, mounted: Mounted<D>) -> Core<D>
+// The halves of what was mounted.
+fn begin<D: Disk>(alloc: Global, checked: &Checked, mounted: Mounted<D>) -> Halves<D>
     requires { (object : Object) → IsStaged mounted.journal object [] }
     ensures { (limit : ℕ) (content : Option (List ℕ)) (named : Option Object) → IsMountedAt D.moment_of D.left_since D.told D.image limit content named mounted
         → HasBegun D.moment_of D.left_since D.told D.image D.faults_of limit (script_in checked.now) content named result }
@@ -267,7 +274,7 @@ fn begin<D: Disk>(alloc: Global, checked: &Checked, mounted: Mounted<D>) -> Core
     let front = Front::new(alloc, checked, class, mounted.map.alarm());
     let back = Back::new(alloc, mounted);
     laws::halves_are_fresh(&back);
-    Core::new(alloc, front, back)
+    Halves { front, back }
 }
 
 // The number of the class of the slot's object, where it has an object of one.

@@ -146,3 +146,18 @@ pub(crate) fn tell_bytes(line: &mut String, bytes: &[u8]) -> Result<(), Fail> {
     }
     Ok(())
 }
+
+/// Adds the lines of a text to the line, sorted, each with a mark behind it.
+pub(crate) fn tell_sorted(alloc: Global, line: &mut String, bytes: &[u8]) -> Result<(), Fail> {
+    let text = String::from_utf8(bytes.to_vec(alloc)?).unwrap_or(String::new(alloc));
+    let mut lines = Vec::new(alloc);
+    for each in text.lines() {
+        lines.push(each)?;
+    }
+    lines.sort()?;
+    for each in lines {
+        line.push_str(each)?;
+        line.push('⏎')?;
+    }
+    Ok(())
+}

@@ -10,9 +10,15 @@ use serde_json::Value as Json;
 use std::alloc::Global;
 use std::sync::Wait;
 use std::test::Fail;
+use std::thread::Threads;
 use test_rows::{row_of, word};
 
-fn answer<T: Wait>(rt: &T, alloc: Global, runs: &mut Runs, row: &Json) -> Result<String, Fail> {
+fn answer<T: Threads + Wait + Copy + Send + Sync>(
+    rt: &T,
+    alloc: Global,
+    runs: &mut Runs,
+    row: &Json,
+) -> Result<String, Fail> {
     let mut line = String::new(alloc);
     match word(row, 0) {
         "lines" => requests::answer(alloc, row, &mut line)?,
@@ -23,7 +29,7 @@ fn answer<T: Wait>(rt: &T, alloc: Global, runs: &mut Runs, row: &Json) -> Result
 }
 
 // The answer to a line's case, or the heading that it is.
-fn answer_line<T: Wait>(
+fn answer_line<T: Threads + Wait + Copy + Send + Sync>(
     rt: &T,
     alloc: Global,
     runs: &mut Runs,

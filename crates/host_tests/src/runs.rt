@@ -1,15 +1,19 @@
 //! Runs over the disks of some slots, one after the other, with crashes between them.
-use crate::given::{depot_of, sink_of, source_of, tell_bytes};
-use do_disk::{FreeGate, MemDisk, MemSink, MemSource, Pick};
+use crate::given::{depot_of, sink_of, source_of, tell_bytes, tell_sorted};
+use do_disk::{HoldGate, MemDisk, MemSink, MemSource, Pick};
 use do_host::{Ran, Report, run};
 use serde_json::Value as Json;
 use std::alloc::Global;
 use std::sync::Wait;
 use std::test::Fail;
+use std::thread::Threads;
 use test_rows::{count, word};
 
 /// How many slots there may be.
 const SLOTS: usize = 256;
+
+// The number of no slot.
+const NOBODY: u32 = 0xffff_ffff;
 
 /// The file that the next run's disk of each slot holds, and the disks that the last run left, from slot 0 on.
 #[derive(Drop)]
@@ -38,7 +42,7 @@ fn no_files(alloc: Global) -> Result<Vec<Vec<u8>>, Fail> {
 
 /// `file HEX SLOT` makes the slot's file, `empty` makes all empty, `run WORDS GIVEN` runs over them, and `crash PICK` or `keep PICK`
 /// makes them what a crash after that run leaves. Slot 0's file is told in hexadecimal behind `crash`.
-pub(crate) fn answer<T: Wait>(
+pub(crate) fn answer<T: Threads + Wait + Copy + Send + Sync>(
     rt: &T,
     alloc: Global,
     runs: &mut Runs,
@@ -103,8 +107,17 @@ fn words_of(alloc: Global, row: &Json) -> Result<Vec<String>, Fail> {
     Ok(words)
 }
 
-// Runs the words over the files, and tells the status, how many slots were mounted, and the output.
-fn tell_run<T: Wait>(
+// Where the case says `hold`, the turns of slot 0 are held until one of slot 1 begins, for so many looks.
+fn gate_of(given: &Json) -> HoldGate {
+    match given.get("hold").and_then(Json::as_u64) {
+        Some(looks) => HoldGate::new(0, 1, looks),
+        None => HoldGate::new(NOBODY, NOBODY, 0),
+    }
+}
+
+// Runs the words over the files, and tells the status, how many slots were mounted, and the output. Where turns were held, it tells the lines sorted,
+// and whether the turns of both slots met.
+fn tell_run<T: Threads + Wait + Copy + Send + Sync>(
     rt: &T,
     alloc: Global,
     runs: &mut Runs,
@@ -117,6 +130,7 @@ fn tell_run<T: Wait>(
     let mut depot = depot_of(alloc, given, &runs.files)?;
     let source = source_of(alloc, given)?;
     let sink = sink_of(alloc, given);
+    let gate = gate_of(given);
     let mut report = Report::new(alloc);
     let ran = run(
         rt,
@@ -125,10 +139,15 @@ fn tell_run<T: Wait>(
         &mut depot,
         source,
         sink,
-        &FreeGate,
+        &gate,
         &mut report,
     );
-    tell_end(alloc, &ran, &report, line)?;
+    if given.get("hold").is_some() {
+        tell_sorted(alloc, line, ran.out.taken())?;
+        line.push_str(if gate.met() { "met" } else { "not met" })?;
+    } else {
+        tell_end(alloc, &ran, &report, line)?;
+    }
     runs.disks = disks_of(alloc, report)?;
     Ok(())
 }

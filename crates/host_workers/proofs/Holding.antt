@@ -7,7 +7,7 @@ use Rattle.timeline.specs.declared.message.Message.{Message}
 use Rattle.host_workers.specs.Backs.{CanStep, IsBackCell, KeepsBackCell, KeepsCellAlone, SameLanes as SameBackLanes}
 use Rattle.host_workers.specs.Board.{AreNamed, IsBackOf, IsFrontOf, IsLinesOf, IsSwitchOf}
 use Rattle.host_workers.specs.Fronts.{IsFrontCell, KeepsFrontCell, SameLanes as SameFrontLanes}
-use Rattle.host_workers.specs.Lines.{HasCounted, IsLinesCell}
+use Rattle.host_workers.specs.Lines.{HasCounted, IsLinesCell, IsNumbered}
 use Rattle.host_workers.specs.Names.{Run}
 use Rattle.host_workers.specs.Switches.{HasPrinted, IsSwitchCell, KeepsPrinted, KeepsSwitchCell, SameLanes as SameSwitchLanes}
 use Rattle.host_workers.specs.declared.back_cell.BackCell.{BackCell}
@@ -68,8 +68,9 @@ module _ {D T : Type 0} (moment_of : D → ℕ) (left_since : D → ℕ → List
     line = lanes.line.0 ∙ is.line;
     notices = lanes.notices ∙ is.notices;
     out = lanes.out ∙ is.out;
-    back = keeps (run.starts slot) (run.openings slot) is.back;
-    alone = alone (run.starts slot) (run.openings slot) (run.objects slot) (run.limits slot) (run.alarms slot) is.alone;
+    some = is.some;
+    back = λ start opening begun. keeps start opening (is.back start opening begun);
+    alone = λ start opening begun. alone start opening (run.objects slot) (run.limits slot) (run.alarms slot) (is.alone start opening begun);
   }
 
 -- names of lanes that stay the same
@@ -106,9 +107,10 @@ module _ {R T : Type 0} where
   -- lines that were read on are those of the run
   pub lines_stay : (left : R → Option (List ℕ)) (faults : R → ℕ) (run : Run) (old new : LinesCell R T) → IsLinesOf left faults run old
       → new.send.lane ≡ old.send.lane → ((whole : List ℕ) → IsLinesCell left whole old → IsLinesCell left whole new)
-      → ((from : ℕ) → HasCounted faults from old.lines → HasCounted faults from new.lines) → IsLinesOf left faults run new
-  lines_stay left faults run old new is lane keeps counts = record {
+      → ((from : ℕ) → HasCounted faults from old.lines → HasCounted faults from new.lines) → (IsNumbered old → IsNumbered new) → IsLinesOf left faults run new
+  lines_stay left faults run old new is lane keeps counts numbers = record {
     lane = lane ∙ is.lane;
     lines = λ whole input. keeps whole (is.lines whole input);
     counted = counts run.read_faults is.counted;
+    numbered = numbers is.numbered;
   }

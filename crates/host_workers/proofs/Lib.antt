@@ -1,11 +1,12 @@
 mod Places
 mod Holding
-mod Reading
+pub mod Reading
+pub mod Numbering
 mod Stepping
 mod Opening
 mod Backing
 mod Turning
-mod Printing
+pub mod Printing
 mod Switching
 mod Sent
 mod SentLines
@@ -14,5 +15,6 @@ mod SentTree
 mod SentFront
 mod SentSwitch
 mod Alone
-mod Halves
-mod SentBoard
+mod RanApart
+mod Closing
+pub mod SentBoard

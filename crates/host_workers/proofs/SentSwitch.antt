@@ -39,14 +39,17 @@ pub switch_cell_send : (s : NamedLft) (W T : RattleType) → IsSend W → IsSend
 switch_cell_send s W T w t = declared_send (SwitchCell.the_type s W T) (
   search (parts, switch_send, w) depth 20 fits 4000,
   (
-    search (parts, checked_sync) depth 20 fits 4000,
+    search (parts, message_send) depth 20 fits 4000,
     (
-      takes_sent Line.the_row T line_send t,
+      search (parts, checked_sync) depth 20 fits 4000,
       (
-        search (parts, takes_sent Message.the_row T message_send t) depth 20 fits 4000,
+        takes_sent Line.the_row T line_send t,
         (
-          search (parts, sends_sent Event.the_row T event_send t) depth 20 fits 4000,
-          tt,
+          search (parts, takes_sent Message.the_row T message_send t) depth 20 fits 4000,
+          (
+            search (parts, sends_sent Event.the_row T event_send t) depth 20 fits 4000,
+            tt,
+          ),
         ),
       ),
     ),

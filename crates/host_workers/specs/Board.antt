@@ -2,11 +2,12 @@
 use Rattle.std.specs.Prelude.{◌≡◌, ◌≤◌, ◌<◌, ◌+◌, ℕ, Bool, true, false, List, [], ◌∷◌, length, map, slice_get, Option, Some, None, is_some, ⊤}
 use Rattle.do_tree.specs.Tree.{Script}
 use Rattle.lane.specs.Lanes.{LaneId, Sending, Taking}
+use Rattle.storage_map.specs.declared.op.Op.{Op}
 use Rattle.timeline.specs.declared.event.Event.{Event}
 use Rattle.timeline.specs.declared.message.Message.{Message}
 use Rattle.host_workers.specs.Backs.{IsBackCell, IsCellAlone}
 use Rattle.host_workers.specs.Fronts.{IsFrontCell, script_of as script_of_front}
-use Rattle.host_workers.specs.Lines.{HasCounted, IsLinesCell}
+use Rattle.host_workers.specs.Lines.{HasCounted, IsLinesCell, IsNumbered}
 use Rattle.host_workers.specs.Names.{Run}
 use Rattle.host_workers.specs.Switches.{HasPrinted, IsSwitchCell, script_of as script_of_switch}
 use Rattle.host_workers.specs.declared.back_cell.BackCell.{BackCell}
@@ -72,14 +73,16 @@ pub record IsFrontOf {T : Type 0} (run : Run) (slot : ℕ) (cell : FrontCell T) 
   pub line : cell.line.lane ≡ run.entries slot
   pub front : IsFrontCell (run.classes slot) (run.alarms slot) cell
 
--- The back of this slot, so too.
+-- The back of this slot, so too: whichever batches and whichever moment its mounting is said to have, and some are.
 pub record IsBackOf {D T : Type 0} (moment_of : D → ℕ) (left_since : D → ℕ → List ℕ → Type 0) (told : D → Option (List ℕ))
     (image : D → List ℕ → Type 0) (faults_of : D → ℕ) (run : Run) (slot : ℕ) (cell : BackCell D T) : Type 0 where
   pub line : cell.line.lane ≡ run.entries slot
   pub notices : cell.notices.lane ≡ run.notices slot
   pub out : cell.out.lane ≡ run.outs slot
-  pub back : IsBackCell moment_of left_since told image faults_of (run.starts slot) (run.openings slot) cell
-  pub alone : IsCellAlone moment_of left_since told image faults_of (run.starts slot) (run.openings slot) (run.objects slot) (run.limits slot) (run.alarms slot) cell
+  pub some : (start : List (List Op)) × (opening : ℕ) × run.begun slot start opening
+  pub back : (start : List (List Op)) (opening : ℕ) → run.begun slot start opening → IsBackCell moment_of left_since told image faults_of start opening cell
+  pub alone : (start : List (List Op)) (opening : ℕ) → run.begun slot start opening
+      → IsCellAlone moment_of left_since told image faults_of start opening (run.objects slot) (run.limits slot) (run.alarms slot) cell
 
 -- The switch of the run. The sink's count of faults is the one named as long as no write has failed, and rose where one did.
 pub record IsSwitchOf {W T : Type 0} (taken : W → Option (List ℕ)) (faults : W → ℕ) (run : Run) (cell : SwitchCell W T) : Type 0 where
@@ -94,8 +97,9 @@ pub record IsSwitchOf {W T : Type 0} (taken : W → Option (List ℕ)) (faults :
 -- The lines of the run. The source's count of faults is the one named as long as no read has failed, and rose where one did.
 pub record IsLinesOf {R T : Type 0} (left : R → Option (List ℕ)) (faults : R → ℕ) (run : Run) (cell : LinesCell R T) : Type 0 where
   pub lane : cell.send.lane ≡ run.lines
-  pub lines : (whole : List ℕ) → run.input ≡ Some whole → IsLinesCell left whole cell
+  pub lines : (whole : List ℕ) → run.input whole → IsLinesCell left whole cell
   pub counted : HasCounted faults run.read_faults cell.lines
+  pub numbered : IsNumbered cell
 
 module _ {D R W T : Type 0} where
   abbrev pub places_of : Cells D R W T → Places

@@ -1,5 +1,6 @@
 -- What the cell of the lines has read and sent.
 use Rattle.std.specs.Prelude.{◌≡◌, ◌≤◌, ℕ, true, false, List, [], ◌∷◌, ◌++◌, length, map, min, Option, Some, None, Result, Ok, Err, OnOk, OnErr}
+use Rattle.std.specs.List.{AllByRecursion}
 use Rattle.do_disk.specs.Disk.{Rose}
 use Rattle.line_server.specs.Cut.{lines as all_lines}
 use Rattle.line_server.specs.Limits.{most_lines}
@@ -12,7 +13,14 @@ use Rattle.line_server.specs.declared.line.Line.{Line}
 use Rattle.line_server.specs.declared.lines.Lines.{Lines}
 use Rattle.timeline.specs.declared.notice.Stepped.{Stepped}
 use Rattle.timeline.specs.declared.notice.Stepped.TheVariants.{Did}
+use Rattle.timeline.specs.Lines as timeline
+use Rattle.mailbox.specs.Seen.{seen_line}
+use Rattle.switch_history.specs.Answering.{AreInOrder}
 use Rattle.host_workers.specs.declared.lines_cell.LinesCell.{LinesCell}
+
+-- Each line's number is at most this.
+abbrev pub AreUpTo : ℕ → List timeline.Line → Type 0
+AreUpTo most lines = AllByRecursion (λ (l : timeline.Line). l.number ≤ most) lines
 
 -- How many lines a reader that stands at this fault may have looked at and not given: one where memory was wanting.
 abbrev pub most_at : Option LineFault → ℕ
@@ -36,6 +44,11 @@ pub record IsLinesCell {R T : Type 0} (left : R → Option (List ℕ)) (whole : 
   pub first : IsFirstOf left whole (sent_of cell ++ lost) cell.lines
   pub looked : LooksAt left whole (sent_of cell ++ lost) (most_at (fault_of cell.lines)) cell.lines
   pub exact : fault_of cell.lines ≡ Some ReadFailed → IsAllRead left whole (sent_of cell ++ lost) cell.lines
+
+-- The lines that were sent stand in the order of their numbers, and none has one above the number of those that were read.
+pub record IsNumbered {R T : Type 0} (cell : LinesCell R T) : Type 0 where
+  pub order : AreInOrder (map seen_line cell.send.sent)
+  pub below : AreUpTo (count_of cell.lines) (map seen_line cell.send.sent)
 
 -- All lines of the input were sent, or through the last that counts.
 pub record HasRead {R T : Type 0} (whole : List ℕ) (cell : LinesCell R T) : Type 0 where

@@ -7,10 +7,11 @@ use Rattle.storage_map.specs.declared.op.Op.{Op}
 use Rattle.timeline.specs.Switch.{Switch, opened}
 
 -- The script; how many slots there are, and for each, by its number: its four lanes (to the front events and notices, from it its entries, and
--- what its back lets go), the class and the alarm with which its front begins, the batches with which its back was mounted, the moment of
--- that, its object then, and how many bytes its journal may have; the lane of the lines; the switch from which the run begins; what the input has left and what the sink holds, where they tell it; and
+-- what its back lets go), the class and the alarm with which its front begins, with which batches and at which moment its back was
+-- mounted, its object then, and how many bytes its journal may have; the lane of the lines; the switch from which the run begins; what the input was
+-- said to be as a whole; what the sink holds, where it tells it; and
 -- how many reads and writes of them have failed before.
-pub record Run : Type 0 where
+pub record Run : Type 1 where
   pub script : Script
   pub slots : ℕ
   pub inboxes : ℕ → LaneId
@@ -19,13 +20,12 @@ pub record Run : Type 0 where
   pub outs : ℕ → LaneId
   pub classes : ℕ → Option ℕ
   pub alarms : ℕ → Option (ℤ × ℕ)
-  pub starts : ℕ → List (List Op)
-  pub openings : ℕ → ℕ
+  pub begun : ℕ → List (List Op) → ℕ → Type 0
   pub objects : ℕ → Option Object
   pub limits : ℕ → ℕ
   pub lines : LaneId
   pub switch : Switch
-  pub input : Option (List ℕ)
+  pub input : List ℕ → Type 0
   pub held : Option (List ℕ)
   pub read_faults : ℕ
   pub write_faults : ℕ
@@ -41,13 +41,12 @@ nobody = record {
   outs = λ slot. nowhere;
   classes = λ slot. None;
   alarms = λ slot. None;
-  starts = λ slot. [];
-  openings = λ slot. 0;
+  begun = λ slot start opening. Unit {0};
   objects = λ slot. None;
   limits = λ slot. 0;
   lines = nowhere;
   switch = opened [];
-  input = None;
+  input = λ whole. Unit {0};
   held = None;
   read_faults = 0;
   write_faults = 0;

@@ -6,7 +6,6 @@ use Rattle.lane.specs.Lanes.{Sending, Taking}
 use Rattle.line_server.specs.declared.line.Line as read
 use Rattle.timeline.specs.Lines.{Line}
 use Rattle.timeline.specs.Switch as switch
-use Rattle.timeline.specs.Switch.{IsSwitchRun}
 use Rattle.timeline.specs.declared.event.Event.{Event}
 use Rattle.timeline.specs.declared.message.Message.{Message}
 use Rattle.mailbox.specs.Posting.{at_slot, of_slot}
@@ -17,6 +16,7 @@ use Rattle.mailbox.specs.SoFar.{IsRunSoFar}
 use Rattle.mailbox.specs.Written.{Writes, WritesInPart}
 use Rattle.mailbox.specs.declared.fault.SwitchFault.TheVariants.{WriteFailed}
 use Rattle.mailbox.specs.declared.switch.Switch.{Switch}
+use Rattle.switch_history.specs.Fit.{IsFitRun}
 use Rattle.host_workers.specs.declared.switch_cell.SwitchCell.{SwitchCell}
 
 abbrev pub sent_on : Sending Event → List Event
@@ -32,21 +32,26 @@ told_of end = end.told
 abbrev pub AreUnused : List (Taking Message) → List (Sending Event) → Type 0
 AreUnused outs inboxes = (slot : ℕ) → (at_slot got_of outs slot ≡ []) × (at_slot sent_on inboxes slot ≡ [])
 
+-- The message that was taken and isn't routed, if there is one.
+abbrev pub kept_in : Option (ℕ × Message) → List (ℕ × Message)
+kept_in None = []
+kept_in (Some sent) = sent ∷ []
+
 -- Each slot has its two lanes, by its number: the posts to a slot that a switch has logged are those that were sent on the slot's inbox, and
--- the messages that it has logged as routed from it are those that its lane out gave. The lines that are logged as accepted are those that
--- the end of the lines gave, but for the last, where memory was wanting for it. The log is that of a run from this switch, as far as it
--- came; and of a whole one as long as nothing has failed.
-pub record IsSwitchOver {W : Type 0} (script : Script) (first : switch.Switch) (s : Switch W) (outs : List (Taking Message))
+-- the messages that it has logged as routed from it are those that its lane out gave, but for the one that is kept. The lines that are logged as
+-- accepted are those that the end of the lines gave, but for the last, where memory was wanting for it. The log is that of a run from this
+-- switch, as far as it came; and of a whole one, whose messages were fit, as long as nothing has failed.
+pub record IsSwitchOver {W : Type 0} (script : Script) (first : switch.Switch) (s : Switch W) (kept : Option (ℕ × Message)) (outs : List (Taking Message))
     (inboxes : List (Sending Event)) (got : List read.Line) : Type 0 where
   pub each_out : length outs ≡ slots_of s
   pub each_inbox : length inboxes ≡ slots_of s
   pub posted : (slot : ℕ) → at_slot sent_on inboxes slot ≡ of_slot slot (log_of s).posts
-  pub routed : (slot : ℕ) → at_slot got_of outs slot ≡ of_slot slot (log_of s).routed
+  pub routed : (slot : ℕ) → at_slot got_of outs slot ≡ of_slot slot ((log_of s).routed ++ kept_in kept)
   pub lost : List Line
   pub few : length lost ≤ 1
   pub none_lost : fault_of s ≡ None → lost ≡ []
   pub accepted : map seen_line got ≡ (log_of s).accepted ++ lost
-  pub run : fault_of s ≡ None → IsSwitchRun script first (log_of s) (state_of s)
+  pub run : fault_of s ≡ None → IsFitRun script first (log_of s) (state_of s)
   pub so_far : IsRunSoFar script first (log_of s)
 
 -- The script that a cell runs.
@@ -55,7 +60,7 @@ script_of cell = tree_of cell.checked.now
 
 -- So is the switch of a cell, over what went through the cell's own ends.
 abbrev pub IsSwitchCell : {W T : Type 0} → switch.Switch → SwitchCell W T → Type 0
-IsSwitchCell first cell = IsSwitchOver (script_of cell) first cell.switch cell.outs.items cell.inboxes.items cell.lines.got
+IsSwitchCell first cell = IsSwitchOver (script_of cell) first cell.switch cell.kept cell.outs.items cell.inboxes.items cell.lines.got
 
 abbrev pub KeepsSwitchCell : {W T : Type 0} → (old new : SwitchCell W T) → Type 0
 KeepsSwitchCell old new = (first : switch.Switch) → IsSwitchCell first old → IsSwitchCell first new
@@ -69,8 +74,8 @@ pub record SameLanes {W T : Type 0} (old new : SwitchCell W T) : Type 0 where
 
 -- A line that was taken was accepted, or is lost: the cell is one over what it got with this line.
 abbrev pub AcceptsLine : {W T : Type 0} → (old new : SwitchCell W T) → read.Line → Type 0
-AcceptsLine old new line = (first : switch.Switch) (got : List read.Line) → IsSwitchOver (script_of old) first old.switch old.outs.items old.inboxes.items got
-    → IsSwitchOver (script_of new) first new.switch new.outs.items new.inboxes.items (got ++ line ∷ [])
+AcceptsLine old new line = (first : switch.Switch) (got : List read.Line) → IsSwitchOver (script_of old) first old.switch old.kept old.outs.items old.inboxes.items got
+    → IsSwitchOver (script_of new) first new.switch new.kept new.outs.items new.inboxes.items (got ++ line ∷ [])
 
 -- The lines that a switch has logged were written behind what its sink held, as far as the sink tells it; after a write that failed their
 -- first bytes. The sink's count of faults rose there, and else is what it was.

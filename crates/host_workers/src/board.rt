@@ -11,7 +11,7 @@ use crate::jobs::{Found, Job, WorkEnd};
 use crate::lines_cell::LinesCell;
 use crate::marks::Marks;
 use crate::names::Names;
-use crate::switch_cell::SwitchCell;
+use crate::switch_cell::{SwitchCell, SwitchParts};
 use do_disk::{Disk, Sink, Source};
 use lane::no_two;
 use std::marker::Model;
@@ -486,7 +486,7 @@ fn no_two_switches<'s, W: Sink + Drop, T: Wait + Copy>(
     requires { one.lines.lane ≡ other.lines.lane }
     ensures { ⊥ }
 {
-    let (_switch, lines, _outs, _inboxes) = one.into_parts();
-    let (_other, second, _others, _more) = other.into_parts();
+    let SwitchParts { lines, .. } = one.into_parts();
+    let SwitchParts { lines: second, .. } = other.into_parts();
     no_two(lines, second);
 }

@@ -4,7 +4,7 @@ ghost use Rattle.timeline.specs.Switch.{Switch as SeenSwitch};
 ghost use Rattle.host_workers.specs.Backs.{CanStep, KeepsBackCell, KeepsCellAlone, SameLanes as SameBackLanes};
 ghost use Rattle.host_workers.specs.Board.{IsHeld, held_count};
 ghost use Rattle.host_workers.specs.Fronts.{IsFrontCell, KeepsFrontCell, SameLanes as SameFrontLanes};
-ghost use Rattle.host_workers.specs.Lines.{HasCounted, IsLinesCell};
+ghost use Rattle.host_workers.specs.Lines.{IsNumbered, HasCounted, IsLinesCell};
 ghost use Rattle.host_workers.specs.Switches.{IsSwitchCell, KeepsPrinted, KeepsSwitchCell, SameLanes as SameSwitchLanes};
 
 use crate::back_cell::BackCell;
@@ -293,6 +293,7 @@ fn read_line<R: Source, T: Wait + Copy>(cell: &mut LinesCell<R, T>) -> Found
     ensures cell { (whole : List ℕ) → IsLinesCell R.left whole cell.old → IsLinesCell R.left whole cell.new }
     ensures counts { (from : ℕ) → HasCounted R.faults_of from cell.old.lines → HasCounted R.faults_of from cell.new.lines }
     ensures lane { cell.new.send.lane ≡ cell.old.send.lane }
+    ensures numbers { IsNumbered cell.old → IsNumbered cell.new }
 {
     match cell.read() {
         Ok(Stepped::Did) => Found::Made,

@@ -3,7 +3,7 @@ ghost use Rattle.std.specs.Prelude.{◌≡◌, ◌++◌, [], ◌∷◌, ℕ, Lis
 ghost use Rattle.line_server.specs.Lines.{IsReading, fault_of};
 ghost use Rattle.line_server.specs.declared.line.Line.{Line as SeenLine};
 ghost use Rattle.timeline.specs.declared.notice.Stepped.TheVariants.{Did, Nothing};
-ghost use Rattle.host_workers.specs.Lines.{HasCounted, HasRead, IsLinesCell, PassesOn};
+ghost use Rattle.host_workers.specs.Lines.{IsNumbered, HasCounted, HasRead, IsLinesCell, PassesOn};
 
 use do_disk::Source;
 use do_value::{Mem, NoMemory};
@@ -39,6 +39,7 @@ impl<R: Source, T: Wait + Copy> LinesCell<R, T> {
         requires { send.sent ≡ [] }
         ensures parts { (result.lines ≡ lines) × (result.send ≡ send) }
         ensures cell { (whole : List ℕ) → IsReading R.left whole [] lines → IsLinesCell R.left whole result }
+        ensures numbered { IsNumbered result }
     {
         LinesCell {
             lines,
@@ -58,6 +59,7 @@ impl<R: Source, T: Wait + Copy> LinesCell<R, T> {
         ensures counts { (from : ℕ) → HasCounted R.faults_of from self.old.lines → HasCounted R.faults_of from self.new.lines }
         ensures failed { result ≡ Err LineFault.ReadFailed → fault_of self.new.lines ≡ Some LineFault.ReadFailed }
         ensures lane { self.new.send.lane ≡ self.old.send.lane }
+        ensures numbers { IsNumbered self.old → IsNumbered self.new }
     {
         if self.stopped {
             return Err(LineFault::NoMemory);
@@ -81,6 +83,13 @@ impl<R: Source, T: Wait + Copy> LinesCell<R, T> {
                 Err(LineFault::NoMemory)
             }
         }
+    }
+
+    /// Whether a line that was read is lost, since memory was wanting to send it: then nothing is read any more.
+    pub fn is_stopped(&self) -> bool
+        ensures { result ≡ self.now.stopped }
+    {
+        self.stopped
     }
 
     /// The lines, and the end of their lane. It takes no memory.

@@ -13,7 +13,7 @@ use do_disk::Sink;
 use do_tree::Checked;
 use lane::{Inlet, SendEnd, TakeEnd};
 use line_server::Line;
-use mailbox::{Switch, SwitchFault};
+use mailbox::{Routed, Switch, SwitchFault};
 use std::sync::Wait;
 use timeline::{Event, Message, Stepped};
 
@@ -21,10 +21,22 @@ use timeline::{Event, Message, Stepped};
 /// what the slot's object lets go and the one on which it posts to it.
 pub struct SwitchCell<'s, W, T: Wait> {
     pub(crate) switch: Switch<W>,
+    // a message that was taken from the lane of this slot and wasn't fit to be routed: from then on none is taken
+    pub(crate) kept: Option<(u32, Message)>,
     pub(crate) checked: &'s Checked,
     pub(crate) lines: TakeEnd<Line, T>,
     pub(crate) outs: Vec<TakeEnd<Message, T>>,
     pub(crate) inboxes: Vec<SendEnd<Event, T>>,
+}
+
+/// The parts of the switch's cell: the switch, the message that it keeps, with the slot that it comes from, and the ends of the lanes.
+#[derive(Drop)]
+pub struct SwitchParts<W, T: Wait> {
+    pub switch: Switch<W>,
+    pub kept: Option<(u32, Message)>,
+    pub lines: TakeEnd<Line, T>,
+    pub outs: Vec<TakeEnd<Message, T>>,
+    pub inboxes: Vec<SendEnd<Event, T>>,
 }
 
 // Written out, so that letting a cell go is proved once.
@@ -32,12 +44,14 @@ impl<'s, W: Drop, T: Wait + Drop> Drop for SwitchCell<'s, W, T> {
     fn drop(self) {
         let SwitchCell {
             switch,
+            kept,
             checked: _,
             lines,
             outs,
             inboxes,
         } = self;
         drop(switch);
+        drop(kept);
         drop(lines);
         drop(outs);
         drop(inboxes);
@@ -56,13 +70,14 @@ impl<'s, W: Sink, T: Wait + Copy> SwitchCell<'s, W, T> {
         requires fresh { (log_of switch ≡ no_log) × (fault_of switch ≡ None) }
         requires slots { (length outs.items ≡ slots_of switch) × (length inboxes.items ≡ slots_of switch) }
         requires unused { (lines.got ≡ []) × AreUnused outs.items inboxes.items }
-        ensures half { (result.switch ≡ switch) × (script_of result ≡ script_in checked.now) }
+        ensures half { (result.switch ≡ switch) × (result.kept ≡ None) × (script_of result ≡ script_in checked.now) }
         ensures ends { (result.lines ≡ lines) × (result.outs ≡ outs) × (result.inboxes ≡ inboxes) }
         ensures cell { IsSwitchCell (state_of switch) result }
         ensures printed { HasPrinted W.taken W.faults_of (W.taken (out_of switch)) (W.faults_of (out_of switch)) switch }
     {
         SwitchCell {
             switch,
+            kept: None,
             checked,
             lines,
             outs,
@@ -107,40 +122,70 @@ impl<'s, W: Sink, T: Wait + Copy> SwitchCell<'s, W, T> {
         }
     }
 
-    /// Routes one message of the lanes out, of another slot each time where several have one. `Nothing` comes exactly where each was empty.
+    /// Routes one message of the lanes out, of another slot each time where several have one. `Nothing` comes exactly where each was empty,
+    /// or where a message is kept that wasn't fit: no object of a run sends one.
     pub fn route(&mut self) -> Result<Stepped, SwitchFault>
         requires { (first : SeenSwitch) × IsSwitchCell first self.old }
-        ensures again { (fault : SeenFault) → fault_of self.old.switch ≡ Some fault → (result ≡ Err fault) × (self.new.switch ≡ self.old.switch) }
-        ensures nothing { result ≡ Ok Nothing → AreEmpty got_of told_of 0 (slots_of self.old.switch) self.old.outs.items
-            × IsStill self.old.switch self.new.switch }
+        ensures again { (fault : SwitchFault) → fault_of self.old.switch ≡ Some fault → (result ≡ Err fault) × (self.new.switch ≡ self.old.switch) }
+        ensures nothing { result ≡ Ok Nothing → IsStill self.old.switch self.new.switch
+            × (self.new.kept ≡ None → AreEmpty got_of told_of 0 (slots_of self.old.switch) self.old.outs.items) }
         ensures lanes { SameLanes self.old self.new }
         ensures cell { KeepsSwitchCell self.old self.new }
         ensures printed { KeepsPrinted W.taken W.faults_of self.old.switch self.new.switch }
         ensures fault { fault_of self.new.switch ≡ fault_in result }
     {
-        self.switch
-            .route(self.checked, &mut self.outs, &mut self.inboxes)
+        match self.switch.fault() {
+            Some(fault) => Err(fault),
+            None if self.kept.is_some() => Ok(Stepped::Nothing),
+            None => self.route_next(),
+        }
     }
 
-    /// The switch, and its ends of the lanes. It takes no memory.
-    pub fn into_parts(
-        self,
-    ) -> (
-        Switch<W>,
-        TakeEnd<Line, T>,
-        Vec<TakeEnd<Message, T>>,
-        Vec<SendEnd<Event, T>>,
-    )
-        ensures half { result.0 ≡ self.entry.switch }
-        ensures ends { (result.1 ≡ self.entry.lines) × (result.2 ≡ self.entry.outs) × (result.3 ≡ self.entry.inboxes) }
+    // Routes the next message, or keeps it where it isn't fit.
+    fn route_next(&mut self) -> Result<Stepped, SwitchFault>
+        requires cell { (first : SeenSwitch) × IsSwitchCell first self.old }
+        requires goes { fault_of self.old.switch ≡ None }
+        requires none { self.old.kept ≡ None }
+        ensures nothing { result ≡ Ok Nothing → IsStill self.old.switch self.new.switch
+            × (self.new.kept ≡ None → AreEmpty got_of told_of 0 (slots_of self.old.switch) self.old.outs.items) }
+        ensures lanes { SameLanes self.old self.new }
+        ensures cell { KeepsSwitchCell self.old self.new }
+        ensures printed { KeepsPrinted W.taken W.faults_of self.old.switch self.new.switch }
+        ensures fault { fault_of self.new.switch ≡ fault_in result }
+    {
+        match self
+            .switch
+            .route_fit(self.checked, &mut self.outs, &mut self.inboxes)
+        {
+            Ok(Routed::Did) => Ok(Stepped::Did),
+            Ok(Routed::Nothing) => Ok(Stepped::Nothing),
+            Ok(Routed::Unfit { slot, message }) => {
+                self.kept = Some((slot, message));
+                Ok(Stepped::Nothing)
+            }
+            Err(fault) => Err(fault),
+        }
+    }
+
+    /// Its parts. It takes no memory.
+    pub fn into_parts(self) -> SwitchParts<W, T>
+        ensures half { (result.switch ≡ self.entry.switch) × (result.kept ≡ self.entry.kept) }
+        ensures ends { (result.lines ≡ self.entry.lines) × (result.outs ≡ self.entry.outs) × (result.inboxes ≡ self.entry.inboxes) }
     {
         let SwitchCell {
             switch,
+            kept,
             checked: _,
             lines,
             outs,
             inboxes,
         } = self;
-        (switch, lines, outs, inboxes)
+        SwitchParts {
+            switch,
+            kept,
+            lines,
+            outs,
+            inboxes,
+        }
     }
 }

@@ -9,5 +9,6 @@ pub mod Takings
 pub mod Writings
 pub mod Keeping
 pub mod Serving
+pub mod Fits
 pub mod Acting
 pub mod Orders

@@ -1,6 +1,7 @@
 -- What is given is logged, whole or in part.
 use Rattle.std.proofs.Common.{◌≡◌, ◌⊎◌, inl, inr, ℕ, List, [], ◌∷◌, ◌++◌, length, map, Option, None, Some, refl, sym, ap, subst, ◌∙◌}
 use Rattle.std.specs.Prelude.{Result, Ok, Err, OnOk, OnErr}
+use Rattle.std.proofs.Math.Path.{transport}
 use Rattle.std.proofs.lemmas.List.{map-append}
 use Rattle.do_tree.specs.Tree.{Script}
 use Rattle.line_server.specs.declared.line.Line.{Line}
@@ -22,7 +23,6 @@ use Rattle.mailbox.specs.Posting.{GoesOn}
 use Rattle.mailbox.specs.Runs.{Accepts, Begins, BeginsLine, BeginsMessage, Gives, Routes, log_of, state_of, given_by, with_line, with_message}
 use Rattle.mailbox.specs.Seen.{seen_line, seen_out, seen_log}
 use Rattle.mailbox.proofs.Sendings.{goes_none, goes_all}
-use Rattle.mailbox.proofs.Writings.{faulty}
 
 -- ---- lists that go on
 -- what goes on does so in what is seen of it
@@ -185,12 +185,25 @@ module _ {W T : Type 0} where
           (subst (λ (log : switch.SwitchLog). Begins log (log_of served) (given_line script old line)) same gives.begun) pushed)
 
     module _ (sent : ℕ × Message) (pushed : log_of new ≡ with_message (log_of served) sent) where
-      pub routes_so : (x : T) → Gives begun served (given_message script old sent) (Ok x) → Routes script old new sent
-      routes_so x gives = record {
+      pub routes_so : (r : Result T SwitchFault) → Gives begun served (given_message script old sent) r → OnOk r (Routes script old new sent)
+      routes_so (Ok x) gives = record {
         log = message_gave (log_of old) (log_of served) (log_of new) (given_message script old sent) sent (gives.log ∙ ap (λ (log : switch.SwitchLog). gave log (given_message script old sent)) same) pushed;
         state = still ∙ gives.state;
       }
+      routes_so (Err fault) gives = tt
 
-      pub begins_message_so : (fault : SwitchFault) → Gives begun served (given_message script old sent) (faulty T fault) → BeginsMessage script old new sent
-      begins_message_so fault gives = message_begun (log_of old) (log_of served) (log_of new) (given_message script old sent) sent
+      pub begins_message_so : (r : Result T SwitchFault) → Gives begun served (given_message script old sent) r → OnErr r (BeginsMessage script old new sent)
+      begins_message_so (Ok x) gives = tt
+      begins_message_so (Err fault) gives = message_begun (log_of old) (log_of served) (log_of new) (given_message script old sent) sent
           (subst (λ (log : switch.SwitchLog). Begins log (log_of served) (given_message script old sent)) same gives.begun) pushed
+
+-- ---- a message before whose step nothing was done but to make room
+module _ {W : Type 0} (script : Script) (old begun new : Switch W) (same : log_of begun ≡ log_of old) (still : state_of begun ≡ state_of old) (sent : ℕ × Message) where
+  pub routes_from : Routes script begun new sent → Routes script old new sent
+  routes_from did = record {
+    log = did.log ∙ (λ i. gave (with_message (same i) sent) (routes script (still i) sent));
+    state = did.state ∙ ap (λ (s : switch.Switch). (routes script s sent).after) still;
+  }
+
+  pub begins_message_from : BeginsMessage script begun new sent → BeginsMessage script old new sent
+  begins_message_from begins = transport (λ i. Begins (with_message (same i) sent) (log_of new) (routes script (still i) sent)) begins

@@ -7,3 +7,4 @@ pub mod Written
 pub mod Left
 pub mod Runs
 pub mod SoFar
+pub mod Fit

@@ -23,3 +23,8 @@ pub record IsTakenOf {S : Type 0} (got : S → List Message) (old new : List S) 
 pub record SameInlets {S : Type 0} (inlet : S → LaneId) (told : S → List Message) (old new : List S) : Type 0 where
   pub lanes : map inlet new ≡ map inlet old
   pub known : map told new ≡ map told old
+
+-- This message was taken from the lane of this slot, which is there, and handed back.
+pub record HandsBack {S : Type 0} (got : S → List Message) (old new : List S) (slot : ℕ) (message : Message) : Type 0 where
+  pub there : slot < length old
+  pub taken : map got new ≡ got_more slot message (map got old)

@@ -5,6 +5,7 @@
 mod accepting;
 mod calling;
 mod fault;
+mod fitting;
 mod given;
 mod posting;
 mod printing;
@@ -17,5 +18,6 @@ mod ticking;
 mod waiting;
 
 pub use fault::SwitchFault;
+pub use fitting::Routed;
 pub use switch::Switch;
 pub use switch_log::SwitchLog;

@@ -4,6 +4,7 @@ ghost use Rattle.do_tree.specs.Checked.{tree_of};
 ghost use Rattle.timeline.specs.Lines.{Identity};
 ghost use Rattle.timeline.specs.Switch.{routes, fetches_from, object_at};
 ghost use Rattle.timeline.specs.Switch as switch;
+ghost use Rattle.mailbox.specs.Fit.{fits};
 ghost use Rattle.mailbox.specs.Givens.{IsGiven, replies};
 
 use crate::given::Given;
@@ -53,6 +54,17 @@ impl State {
                 value,
             } => self.fetch(alloc, slot, *incarnation, *number, value),
         }
+    }
+
+    // Whether the slot that a message comes from has an object, and the one to whose object it replies.
+    pub(crate) fn fits(&self, slot: u32, message: &Message) -> bool
+        ensures { result ≡ fits self.now (slot, message.now) }
+    {
+        let there = match message {
+            Message::Reply { to, result: _ } => self.is_fit(*to),
+            _ => true,
+        };
+        self.has_object(slot) && there
     }
 
     fn has_object(&self, slot: u32) -> bool

@@ -1,16 +1,19 @@
 //! The switch.
-ghost use Rattle.std.specs.Prelude.{◌≡◌, ◌⊎◌, Ok, Err, Some, None, OnOk, OnErr, length, map};
+ghost use Rattle.std.specs.Prelude.{◌≡◌, ◌≤◌, ◌+◌, ◌⊎◌, ℕ, Ok, Err, Some, None, OnOk, OnErr, length, map, vec_len};
+ghost use Rattle.std.specs.Vec.{vec_capacity};
 ghost use Rattle.do_tree.specs.Checked.{tree_of};
 ghost use Rattle.timeline.specs.Switch.{opened, no_log, accepts, routes, gave};
 ghost use Rattle.timeline.specs.declared.notice.Stepped.TheVariants.{Did, Nothing};
 ghost use Rattle.mailbox.specs.Seen.{seen_line};
 ghost use Rattle.mailbox.specs.Givens.{AreWithin};
-ghost use Rattle.mailbox.specs.Taken.{AreEmpty, SameInlets, IsTakenOf};
+ghost use Rattle.mailbox.specs.Taken.{AreEmpty, HandsBack, SameInlets, IsTakenOf};
 ghost use Rattle.mailbox.specs.Runs.{state_of, log_of, out_of, fault_of, fault_in, slots_of, given_by};
 ghost use Rattle.mailbox.specs.Runs.{Accepts, Routes, Gives, Acts, Prints, IsStill, KeepsRun, Begins, BeginsLine, BeginsMessage};
 ghost use Rattle.mailbox.specs.Left.{finished_by};
+ghost use Rattle.mailbox.specs.Fit.{IsFit};
 
 use crate::fault::SwitchFault;
+use crate::fitting::Routed;
 use crate::given::Given;
 use crate::posting::post_all;
 use crate::printing::{write_all, write_line};
@@ -221,12 +224,99 @@ impl<W: Sink> Switch<W> {
             return Ok(Stepped::Nothing);
         };
         self.next = slot + 1;
-        let served = self.serve_message(checked, slot, &message, inboxes);
-        self.log.log_message(slot, message);
-        match served {
-            Ok(()) => Ok(Stepped::Did),
-            Err(fault) => Err(fault),
+        self.route_taken(checked, slot, message, inboxes)?;
+        Ok(Stepped::Did)
+    }
+
+    /// Like `route`, of messages that are fit: one that isn't fit now is taken and handed back, and nothing else is done. A message is fit
+    /// where the slot that it comes from has an object, and the slot to whose object it replies has one.
+    pub fn route_fit<O: Inlet<Message>, S: Outlet<Event>>(
+        &mut self,
+        checked: &Checked,
+        outs: &mut [O],
+        inboxes: &mut [S],
+    ) -> Result<Routed, SwitchFault>
+        requires outs { length outs.old ≡ slots_of self.old }
+        requires inboxes { length inboxes.old ≡ slots_of self.old }
+        ensures routed { result ≡ Ok Routed.Did
+            → IsTakenOf O.got outs.old outs.new (λ sent. IsFit (state_of self.old) sent × Routes (tree_of checked.now) self.old self.new sent) }
+        ensures unfit { (slot : ℕ) (message : Message) → result ≡ Ok (Routed.Unfit slot message) → HandsBack O.got outs.old outs.new slot message
+            × IsStill self.old self.new }
+        ensures nothing { result ≡ Ok Routed.Nothing → AreEmpty O.got O.told 0 (slots_of self.old) outs.old
+            × IsStill self.old self.new × (map O.got outs.new ≡ map O.got outs.old) }
+        ensures begun { fault_of self.old ≡ None → OnErr result (IsTakenOf O.got outs.old outs.new (BeginsMessage (tree_of checked.now) self.old self.new)
+            ⊎ IsStill self.old self.new × (map O.got outs.new ≡ map O.got outs.old) × (result ≡ Err SwitchFault.NoMemory)) }
+        ensures acts { Acts S.sent S.outlet S.left W.taken W.faults_of self.old self.new inboxes.old inboxes.new result }
+        ensures lanes { SameInlets O.inlet O.told outs.old outs.new }
+        ensures again { (fault : SwitchFault) → fault_of self.old ≡ Some fault
+            → (result ≡ Err fault) × (self.new ≡ self.old) × (map O.got outs.new ≡ map O.got outs.old) }
+        ensures fault { fault_of self.new ≡ fault_in result }
+    {
+        if let Some(fault) = self.fault {
+            return Err(fault);
         }
+        match self.route_fit_next(checked, outs, inboxes) {
+            Ok(routed) => Ok(routed),
+            Err(fault) => {
+                self.fault = Some(fault);
+                Err(fault)
+            }
+        }
+    }
+
+    fn route_fit_next<O: Inlet<Message>, S: Outlet<Event>>(
+        &mut self,
+        checked: &Checked,
+        outs: &mut [O],
+        inboxes: &mut [S],
+    ) -> Result<Routed, SwitchFault>
+        requires outs { length outs.old ≡ slots_of self.old }
+        requires inboxes { length inboxes.old ≡ slots_of self.old }
+        ensures routed { result ≡ Ok Routed.Did
+            → IsTakenOf O.got outs.old outs.new (λ sent. IsFit (state_of self.old) sent × Routes (tree_of checked.now) self.old self.new sent) }
+        ensures unfit { (slot : ℕ) (message : Message) → result ≡ Ok (Routed.Unfit slot message) → HandsBack O.got outs.old outs.new slot message
+            × IsStill self.old self.new }
+        ensures nothing { result ≡ Ok Routed.Nothing → AreEmpty O.got O.told 0 (slots_of self.old) outs.old
+            × IsStill self.old self.new × (map O.got outs.new ≡ map O.got outs.old) }
+        ensures begun { OnErr result (IsTakenOf O.got outs.old outs.new (BeginsMessage (tree_of checked.now) self.old self.new)
+            ⊎ IsStill self.old self.new × (map O.got outs.new ≡ map O.got outs.old) × (result ≡ Err SwitchFault.NoMemory)) }
+        ensures acts { Acts S.sent S.outlet S.left W.taken W.faults_of self.old self.new inboxes.old inboxes.new result }
+        ensures lanes { SameInlets O.inlet O.told outs.old outs.new }
+        ensures fault { fault_of self.new ≡ fault_of self.old }
+    {
+        let Ok(()) = self.log.make_message_room() else {
+            return Err(SwitchFault::NoMemory);
+        };
+        let slots = self.state.slots();
+        let Some((slot, message)) = take_in_turn(outs, self.next.min(slots), slots) else {
+            return Ok(Routed::Nothing);
+        };
+        self.next = slot + 1;
+        if !self.state.fits(slot, &message) {
+            return Ok(Routed::Unfit { slot, message });
+        }
+        self.route_taken(checked, slot, message, inboxes)?;
+        Ok(Routed::Did)
+    }
+
+    // Routes a message that was taken, and logs it: there is room for it.
+    fn route_taken<S: Outlet<Event>>(
+        &mut self,
+        checked: &Checked,
+        slot: u32,
+        message: Message,
+        inboxes: &mut [S],
+    ) -> Result<(), SwitchFault>
+        requires slots { length inboxes.old ≡ slots_of self.old }
+        requires room { vec_len self.old.log.routed + 1 ≤ vec_capacity self.old.log.routed }
+        ensures routed { OnOk result (Routes (tree_of checked.now) self.old self.new (slot, message)) }
+        ensures begun { OnErr result (BeginsMessage (tree_of checked.now) self.old self.new (slot, message)) }
+        ensures acts { Acts S.sent S.outlet S.left W.taken W.faults_of self.old self.new inboxes.old inboxes.new result }
+        ensures fault { fault_of self.new ≡ fault_of self.old }
+    {
+        let routed = self.serve_message(checked, slot, &message, inboxes);
+        self.log.log_message(slot, message);
+        routed
     }
 
     fn serve_message<S: Outlet<Event>>(

@@ -35,7 +35,7 @@ mod Joining
 mod Meeting
 mod Joined
 mod Unheard
-mod Alone
+pub mod Alone
 mod Choosing
 mod Turns
 mod Collects

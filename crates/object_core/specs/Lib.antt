@@ -18,3 +18,4 @@ pub mod Once
 pub mod Unmoved
 pub mod Classless
 pub mod Fetches
+pub mod Shown

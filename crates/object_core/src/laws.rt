@@ -5,6 +5,7 @@ ghost use Rattle.object_core.specs.Fetches.{OneWaitsForFetches};
 ghost use Rattle.object_core.specs.Leaving.{OneLeaves, OneRests};
 ghost use Rattle.object_core.specs.Once.{OneServesOnce};
 ghost use Rattle.object_core.specs.Owing.{OneIsOwed, OneSticks};
+ghost use Rattle.object_core.specs.Shown.{AllShow, FreshAreOne};
 ghost use Rattle.object_core.specs.Unended.{OneTellsNoEnd};
 ghost use Rattle.object_core.specs.Laws.{HalvesAreFresh, OneIsHistory, OneHasClass, OneHasGot, OneHasIntake, OneHasLeft, OneHasLetGo, OneHasTold, OneIsLimited, OneIsQuiet, OneIsWhole};
 ghost use Rattle.object_core.specs.Unmoved.{AllAreOwed, AllSayNothing};
@@ -12,6 +13,7 @@ ghost use Rattle.object_core.specs.Unmoved.{AllAreOwed, AllSayNothing};
 use crate::object::Core;
 use do_disk::Disk;
 use front_history::laws;
+use object_front::laws as front_laws;
 use object_messages::laws as names;
 use output_gate::Back;
 
@@ -162,6 +164,25 @@ pub fn all_are_owed<D: Disk>()
     names::passed_is_taken();
     names::unmoved_says_nothing();
     laws::halves_are_said();
+}
+
+/// What the logs of every object show, also of one whose lanes are gone.
+pub fn all_show<D: Disk>()
+    ensures { AllShow D.moment_of D.left_since D.told D.image D.faults_of }
+{
+    names::ends_are_needed();
+    names::unended_pass_as_taken();
+    names::replies_are_owed();
+    names::passed_is_taken();
+    laws::halves_are_said();
+}
+
+/// Halves that were just mounted are those of an object through whose lanes nothing went.
+pub fn fresh_are_one<D: Disk>()
+    ensures { FreshAreOne D.moment_of D.left_since D.told D.image D.faults_of }
+{
+    laws::front_begins();
+    front_laws::events_come();
 }
 
 /// What an object says and leaves whose class its script hasn't.

@@ -15,7 +15,8 @@ use Rattle.timeline.specs.declared.event.Event.{Event}
 use Rattle.timeline.specs.declared.event.Event.TheVariants as event
 use Rattle.timeline.specs.declared.message.Message.{Message}
 use Rattle.timeline.specs.declared.message.Message.TheVariants as message
-use Rattle.switch_history.specs.Fit.{IsFit, IsFitRun, begins, accepted, routed, replies_fit}
+use Rattle.mailbox.specs.Fit.{IsFit, replies_fit}
+use Rattle.switch_history.specs.Fit.{IsFitRun, begins, accepted, routed}
 use Rattle.switch_history.proofs.Cases.{OfCall, by_call, by_line}
 use Rattle.switch_history.proofs.Slots.{all_append, all_filter, is_own}
 

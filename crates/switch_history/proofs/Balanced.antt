@@ -18,7 +18,8 @@ use Rattle.timeline.specs.declared.message.Message.{Message}
 use Rattle.timeline.specs.declared.message.Message.TheVariants as message
 use Rattle.object_messages.specs.Naming.{replied_by}
 use Rattle.switch_history.specs.Answering.{answer_in, call_in}
-use Rattle.switch_history.specs.Fit.{IsFit, IsFitRun, begins, accepted, routed, replies_fit}
+use Rattle.mailbox.specs.Fit.{IsFit, replies_fit}
+use Rattle.switch_history.specs.Fit.{IsFitRun, begins, accepted, routed}
 use Rattle.switch_history.proofs.Cases.{OfCall, IsNoCall, by_call, by_line}
 
 -- What each caller of a list weighs, together: what a post is a call of, and what a message replies to.

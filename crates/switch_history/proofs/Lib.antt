@@ -8,6 +8,7 @@ mod Ordered
 mod Fitted
 mod Fitting
 pub mod Ending
+pub mod Fits
 mod Moments
 mod Balanced
 mod Keyed

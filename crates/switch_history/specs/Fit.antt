@@ -1,20 +1,11 @@
 -- A run of the switch whose routed messages are all fit: each came from a slot that had an object then, and one that replies to an object
 -- names a slot that had one.
-use Rattle.std.specs.Prelude.{◌≡◌, ℕ, Bool, true, [], ◌∷◌, ◌++◌, is_some}
+use Rattle.std.specs.Prelude.{ℕ, [], ◌∷◌, ◌++◌}
 use Rattle.do_tree.specs.Tree.{Script}
 use Rattle.timeline.specs.Lines.{Line}
-use Rattle.timeline.specs.Switch.{Switch, SwitchLog, accepts, gave, is_fit, no_log, object_at, routes}
+use Rattle.timeline.specs.Switch.{Switch, SwitchLog, accepts, gave, no_log, routes}
 use Rattle.timeline.specs.declared.message.Message.{Message}
-use Rattle.timeline.specs.declared.message.Message.TheVariants as message
-
--- Whom a message replies to is there.
-abbrev pub replies_fit : Switch → Message → Bool
-replies_fit s (message.Reply to result) = is_fit s to
-replies_fit s other = true
-
-pub record IsFit (s : Switch) (sent : ℕ × Message) : Type 0 where
-  pub comes : is_some (object_at s sent.0) ≡ true
-  pub replies : replies_fit s sent.1 ≡ true
+use Rattle.mailbox.specs.Fit.{IsFit}
 
 pub data IsFitRun (script : Script) (first : Switch) : SwitchLog → Switch → Type 0 where
   begins : IsFitRun script first no_log first

@@ -16,6 +16,7 @@ loop-core-init g c =
       rows = no_rows g.D.Disk.moment_of g.D.Disk.left_since g.D.Disk.told g.D.Disk.image g.D.Disk.faults_of c.args.rows.now.items c.requires.none;
       left = none_left c.args.left.now.items c.requires.none_left;
       many = ap length c.requires.none;
+      capacity = omega arith;
       room = omega (arith, c.requires.room, ap length all);
     }
 
@@ -44,6 +45,7 @@ loop-core-preserved g c =
           c.close_slot-row.result.1 (omega (arith, c.len-slot.ensures, c.loop-core.rows.ok, i.many)) i.left
           c.close_slot-row.ensures.left;
       many = omega (arith, pushed, i.many, length-append c.loop-core.yielded (c.in-Some.core ∷ []));
+      capacity = omega (arith, i.capacity, c.push_row.ensures.room);
       room = omega (arith, i.room, ap length c.in-Some.ensures.steps.0, c.push_row.ensures.len, c.push_row.ensures.room);
     }
 
@@ -94,6 +96,9 @@ returns-clause-many g c =
     let rest = c.loop-core.core-iterator.rest in
     let none : rest.items ≡ [] = nil_from_length rest.items (sym rest.ok.0 ∙ c.in-None.ensures.steps.0) in
     i.many ∙ ap length (sym (i.all ∙ ap (λ (xs : List (Core g.row.D.Denot)). c.loop-core.yielded ++ xs) none ∙ append-nil c.loop-core.yielded))
+
+pub returns-clause-room : goal.returns-clause-room
+returns-clause-room g c = c.loop-core.invariant.capacity
 
 pub returns-clause-tells : goal.returns-clause-tells
 returns-clause-tells g c =

@@ -11,5 +11,6 @@ invariant-loop-core g l = record {
   rows : AreRowsOf g.D.Disk.moment_of g.D.Disk.left_since g.D.Disk.told g.D.Disk.image g.D.Disk.faults_of l.yielded l.rows.items;
   left : OnOk l.asked (AreLeftBy l.yielded l.left.items);
   many : length l.rows.items ≡ length l.yielded;
+  capacity : vec_capacity l.fn.rows ≤ vec_capacity l.rows;
   room : vec_len l.rows + length l.core-iterator.rest.items ≤ vec_capacity l.rows;
 }

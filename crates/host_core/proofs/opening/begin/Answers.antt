@@ -20,7 +20,6 @@ returns g c limit content named at =
     c.class_of-class.ensures ∙ ap (λ (o : Option Object). class_in script o) c.as_ref.ensures.value in
     let stands : IsHalf seen script front (fresh (class_in script c.args.mounted.identity) c.args.mounted.map.alarm) =
     subst (λ (x : Option ℕ × Option (ℤ × ℕ)). IsHalf seen script front (fresh x.0 x.1)) (λ i. (class i, c.alarm.ensures i)) c.new-front.ensures.stands in
-    has_begun g.D.Disk.moment_of g.D.Disk.left_since g.D.Disk.told g.D.Disk.image g.D.Disk.faults_of limit script content named c.args.mounted front c.new-back.result c.new.result
-    at c.new-back.ensures.fresh c.new-back.ensures.back
+    has_begun g.D.Disk.moment_of g.D.Disk.left_since g.D.Disk.told g.D.Disk.image g.D.Disk.faults_of limit script content named c.args.mounted
+    (record { front = c.new-front.result; back = c.new-back.result }) at c.new-back.ensures.fresh c.new-back.ensures.back
     (c.halves_are_fresh.ensures script c.args.mounted front c.new-back.ensures.fresh stands c.new-front.ensures.log)
-    (c.new.ensures.one script) c.new.ensures.lanes.0 c.new.ensures.lanes.3

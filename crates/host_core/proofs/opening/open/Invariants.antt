@@ -1,19 +1,19 @@
-use Rattle.std.specs.Prelude.{◌≡◌, ◌≤◌, ◌+◌, ◌++◌, ℕ, None, length, string_bytes}
+use Rattle.std.specs.Prelude.{◌≡◌, ◌≤◌, ◌++◌, ℕ, None, length, string_bytes, vec_len}
+use Rattle.std.specs.Vec.{vec_capacity}
 use Rattle.do_tree.specs.Checked.{tree_of}
 use Rattle.placement.specs.Slots.{IsOneEach}
-use Rattle.timeline.specs.Switch.{no_log}
-use Rattle.host_core.specs.Begun.{AreFreeFrom}
-use Rattle.host_core.specs.Objects.{AreGoing}
-use Rattle.host_core.specs.Opening.{HasRoom, slot_asks}
+use Rattle.host_core.specs.Begun.{AreBegun, AreFreeFrom}
+use Rattle.host_core.specs.Opening.{slot_asks}
 use Rattle.host_core.proofs.opening.open.Given as goal
 
 -- the slots below are mounted, and those from this one on are as they were
 abbrev pub invariant-loop-slot : goal.invariant-loop-slot
 invariant-loop-slot g l = record {
-  many : length l.objects.cores.items ≡ l.slot;
-  going : AreGoing g.P.Store.Disk.moment_of g.P.Store.Disk.left_since g.P.Store.Disk.told g.P.Store.Disk.image g.P.Store.Disk.faults_of l.settings.journal (tree_of l.checked)
-      (g.P.Depot.slot_at l.fn.depot (string_bytes l.settings.folder)) l.directory no_log l.objects;
-  room : (more : ℕ) → l.slot + more ≡ l.settings.slots → HasRoom more l.objects;
+  many : length l.slots.items ≡ l.slot;
+  begun : AreBegun g.P.Store.Disk.moment_of g.P.Store.Disk.left_since g.P.Store.Disk.told g.P.Store.Disk.image g.P.Store.Disk.faults_of l.settings.journal (tree_of l.checked)
+      (g.P.Depot.slot_at l.fn.depot (string_bytes l.settings.folder)) l.directory l.slots.items;
+  len : vec_len l.slots ≡ l.slot;
+  room : l.settings.slots ≤ vec_capacity l.slots;
   slots : length l.directory ≡ l.settings.slots;
   one_each : IsOneEach l.directory;
   free : AreFreeFrom l.slot l.directory;

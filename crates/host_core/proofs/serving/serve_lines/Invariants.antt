@@ -1,14 +1,14 @@
-use Rattle.std.proofs.Common.{◌≡◌, ◌-◌, ℕ, List, [], length, Option, None}
+use Rattle.std.proofs.Common.{◌≡◌, ◌-◌, ℕ, List, length, Option}
 use Rattle.std.specs.Prelude.{Ok}
 use Rattle.do_tree.specs.Checked.{tree_of}
-use Rattle.line_server.specs.Lines.{IsReading, source_of, count_of, fault_of as line_fault}
+use Rattle.line_server.specs.Lines.{count_of}
 use Rattle.line_server.specs.declared.TheConstants.{MOST_LINES}
 use Rattle.placement.specs.Slots.{Slots}
 use Rattle.mailbox.specs.Runs.{log_of}
 use Rattle.switch_history.specs.Answering.{AreInOrder}
-use Rattle.host_core.proofs.Once.{AreUpTo}
+use Rattle.host_workers.specs.Lines.{AreUpTo, HasCounted}
 use Rattle.host_core.specs.Objects.{CanAllRun}
-use Rattle.host_core.specs.Reading.{read_lines}
+use Rattle.host_core.specs.Reading.{HasRead, read_lines, with_rest}
 use Rattle.host_core.specs.Running.{IsAtRest, IsServing, KeepsServing, Prints}
 use Rattle.host_core.proofs.serving.serve_lines.Given as goal
 
@@ -21,11 +21,11 @@ invariant-loop-line g l = record {
   again : CanAllRun g.D.Disk.moment_of g.D.Disk.left_since g.D.Disk.told g.D.Disk.image g.D.Disk.faults_of (tree_of l.checked) l.objects;
   rests : IsAtRest (tree_of l.checked) l.objects;
   many : length l.objects.cores.items ≡ length l.fn.objects.cores.items;
-  reading : (whole : List ℕ) → IsReading g.R.Source.left whole [] l.fn.lines → IsReading g.R.Source.left whole (read_lines (log_of l.switch).accepted) l.lines;
+  reading : (whole : List ℕ) → HasRead g.R.Source.left whole (read_lines (with_rest (log_of l.fn.switch).accepted l.fn.rest)) l.fn.lines
+      → HasRead g.R.Source.left whole (read_lines (log_of l.switch).accepted) l.lines;
   order : AreInOrder (log_of l.switch).accepted;
   below : AreUpTo (count_of l.lines) (log_of l.switch).accepted;
-  good : line_fault l.lines ≡ None;
-  source : g.R.Source.faults_of (source_of l.lines) ≡ g.R.Source.faults_of (source_of l.fn.lines);
+  counts : (from : ℕ) → HasCounted g.R.Source.faults_of from l.fn.lines → HasCounted g.R.Source.faults_of from l.lines;
   prints : Prints {T = Unit {0}} g.W.Sink.taken g.W.Sink.faults_of l.fn.switch l.switch (Ok tt);
 }
 

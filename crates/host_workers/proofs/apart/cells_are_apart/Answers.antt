@@ -1,4 +1,4 @@
-use Rattle.host_workers.proofs.Halves.{cells_apart}
+use Rattle.host_workers.proofs.RanApart.{cells_apart}
 use Rattle.host_workers.proofs.apart.cells_are_apart.Goals as goal
 
 pub returns : goal.returns

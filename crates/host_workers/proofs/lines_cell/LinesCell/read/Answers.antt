@@ -1,3 +1,4 @@
+use Rattle.host_workers.proofs.Numbering.{numbered_on, numbered_still}
 use Rattle.host_workers.proofs.Reading.{counts_on, good_answer, reads_one, went}
 use Rattle.std.proofs.Common.{refl, subst, sym}
 use Rattle.line_server.specs.Lines.{fault_of}
@@ -28,3 +29,16 @@ pub returns-in-Err-clause-counts : goal.returns-in-Err-clause-counts
 returns-in-Err-clause-counts g c from was =
     let e = c.next.ensures in
     (counts_on g.R.Source.faults_of from c.args.self.now.lines c.next.new.self c.next.result (fault_of c.args.self.now.lines) refl e.again e.reads e.fault was)
+
+pub returns-in-Ok-Some-clause-numbers : goal.returns-in-Ok-Some-clause-numbers
+returns-in-Ok-Some-clause-numbers g c was =
+    let e = c.in-Ok-Some.ensures in
+    let number = rw c.in-Ok-Some.field-0-is at e.number in
+    let further = rw c.in-Ok-Some.field-0-is at e.further in
+    numbered_on c.args.self.now c.next.new.self c.in-Ok-Some.line c.pass_on.new.self c.pass_on.result number further c.pass_on.ensures was
+
+pub returns-in-Ok-None-clause-numbers : goal.returns-in-Ok-None-clause-numbers
+returns-in-Ok-None-clause-numbers g c was = numbered_still c.args.self.now _ refl c.next.ensures.count.0 was
+
+pub returns-in-Err-clause-numbers : goal.returns-in-Err-clause-numbers
+returns-in-Err-clause-numbers g c was = numbered_still c.args.self.now _ refl c.next.ensures.count.0 was

@@ -1,5 +1,4 @@
 use Rattle.std.proofs.Common.{ap, arith, length, refl, subst, sym, List, [], ◌∷◌, ◌++◌}
-use Rattle.std.specs.Vec.{with_items}
 use Rattle.std.proofs.lemmas.List.{with_items_is}
 use Rattle.do_tree.specs.Checked.{tree_of}
 use Rattle.lane.specs.Lanes.{Sending}
@@ -14,20 +13,20 @@ returns-in-Ok-clause-accepts g c first got one =
     let e = c.accept.ensures in
     let s = c.args.self.now in
     let are = with_items_is s.inboxes c.accept.new.inboxes (omega (arith, c.accept.auto.inboxes, ap length c.deref_mut.ensures.value, s.inboxes.ok.0)) in
-    subst (λ (l : List (Sending Event)). IsSwitchOver (tree_of s.checked.now) first c.accept.new.self s.outs.items l (got ++ c.args.line ∷ [])) (sym are)
-    (accept_keeps g.W.Sink.taken g.W.Sink.faults_of (tree_of s.checked.now) first s.switch c.accept.new.self s.outs.items s.outs.items c.deref_mut.result.now c.accept.new.inboxes
-    got (subst (λ (l : List (Sending Event)). IsSwitchOver (tree_of s.checked.now) first s.switch s.outs.items l got) (sym c.deref_mut.ensures.value) one)
-    c.args.line c.requires.goes refl c.accept.result e.acts e.accepted e.run (e.begun c.requires.goes) e.fault)
+    subst (λ (l : List (Sending Event)). IsSwitchOver (tree_of s.checked.now) first c.accept.new.self s.kept s.outs.items l (got ++ c.args.line ∷ [])) (sym are)
+    (accept_keeps g.W.Sink.taken g.W.Sink.faults_of (tree_of s.checked.now) first s.switch c.accept.new.self s.kept s.kept s.outs.items s.outs.items c.deref_mut.result.now c.accept.new.inboxes
+    got (subst (λ (l : List (Sending Event)). IsSwitchOver (tree_of s.checked.now) first s.switch s.kept s.outs.items l got) (sym c.deref_mut.ensures.value) one)
+    c.args.line c.requires.goes refl refl c.accept.result e.acts e.accepted (e.begun c.requires.goes) e.fault)
 
 pub returns-in-Err-clause-accepts : goal.returns-in-Err-clause-accepts
 returns-in-Err-clause-accepts g c first got one =
     let e = c.accept.ensures in
     let s = c.args.self.now in
     let are = with_items_is s.inboxes c.accept.new.inboxes (omega (arith, c.accept.auto.inboxes, ap length c.deref_mut.ensures.value, s.inboxes.ok.0)) in
-    subst (λ (l : List (Sending Event)). IsSwitchOver (tree_of s.checked.now) first c.accept.new.self s.outs.items l (got ++ c.args.line ∷ [])) (sym are)
-    (accept_keeps g.W.Sink.taken g.W.Sink.faults_of (tree_of s.checked.now) first s.switch c.accept.new.self s.outs.items s.outs.items c.deref_mut.result.now c.accept.new.inboxes
-    got (subst (λ (l : List (Sending Event)). IsSwitchOver (tree_of s.checked.now) first s.switch s.outs.items l got) (sym c.deref_mut.ensures.value) one)
-    c.args.line c.requires.goes refl c.accept.result e.acts e.accepted e.run (e.begun c.requires.goes) e.fault)
+    subst (λ (l : List (Sending Event)). IsSwitchOver (tree_of s.checked.now) first c.accept.new.self s.kept s.outs.items l (got ++ c.args.line ∷ [])) (sym are)
+    (accept_keeps g.W.Sink.taken g.W.Sink.faults_of (tree_of s.checked.now) first s.switch c.accept.new.self s.kept s.kept s.outs.items s.outs.items c.deref_mut.result.now c.accept.new.inboxes
+    got (subst (λ (l : List (Sending Event)). IsSwitchOver (tree_of s.checked.now) first s.switch s.kept s.outs.items l got) (sym c.deref_mut.ensures.value) one)
+    c.args.line c.requires.goes refl refl c.accept.result e.acts e.accepted (e.begun c.requires.goes) e.fault)
 
 pub returns-in-Ok-clause-printed : goal.returns-in-Ok-clause-printed
 returns-in-Ok-clause-printed g c held from was =

@@ -1,0 +1,6 @@
+pub mod Fresh
+pub mod Making
+pub mod Worked
+pub mod Ended
+pub mod Named
+pub mod Joined
