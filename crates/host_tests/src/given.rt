@@ -3,10 +3,10 @@ ghost use Rattle.std.specs.Prelude.{◌≡◌, IfOk};
 ghost use Rattle.std.specs.List.{All};
 
 use do_disk::{Fails, MemDepot, MemDisk, MemSink, MemSource};
-use sample_scripts::{PUT_AND_READ, named};
 use serde_json::Value as Json;
 use std::alloc::Global;
 use std::test::Fail;
+use test_rows::{PUT_AND_READ, named};
 
 // The number of a call that doesn't come.
 const NEVER: u64 = 0xffff_ffff_ffff_ffff;

@@ -1,9 +1,11 @@
-//! Cases of the host as a whole, over disks and streams in memory. A case is a line of JSON, and a line answers it.
+//! Cases of the host as a whole, over disks and streams in memory, and runs of its workers. A case is a line of JSON, and a line answers
+//! it, but for those of the workers.
 #![tactic(auto)]
 
 mod given;
 mod requests;
 mod runs;
+mod workers;
 
 use runs::Runs;
 use serde_json::Value as Json;
@@ -13,7 +15,31 @@ use std::test::Fail;
 use std::thread::Threads;
 use test_rows::{row_of, word};
 
-fn answer<T: Threads + Wait + Copy + Send + Sync>(
+// What answers the cases behind it.
+#[derive(Drop)]
+enum Part {
+    Host,
+    Workers,
+}
+
+// What the cases go on with.
+#[derive(Drop)]
+struct State {
+    part: Part,
+    runs: Runs,
+}
+
+// `part NAME`
+fn choose(alloc: Global, state: &mut State, name: &str) -> Result<String, Fail> {
+    state.part = match name {
+        "host" => Part::Host,
+        "workers" => Part::Workers,
+        _ => Err("no part")?,
+    };
+    Ok(format!(in alloc; "part {name}")?)
+}
+
+fn answer_host<T: Threads + Wait + Copy + Send + Sync>(
     rt: &T,
     alloc: Global,
     runs: &mut Runs,
@@ -28,25 +54,43 @@ fn answer<T: Threads + Wait + Copy + Send + Sync>(
     Ok(line)
 }
 
+fn answer<T: Threads + Wait + Copy + Send + Sync>(
+    rt: &T,
+    alloc: Global,
+    state: &mut State,
+    row: &Json,
+) -> Result<String, Fail> {
+    if word(row, 0) == "part" {
+        return choose(alloc, state, word(row, 1));
+    }
+    match state.part {
+        Part::Host => answer_host(rt, alloc, &mut state.runs, row),
+        Part::Workers => workers::answer(rt, alloc),
+    }
+}
+
 // The answer to a line's case, or the heading that it is.
 fn answer_line<T: Threads + Wait + Copy + Send + Sync>(
     rt: &T,
     alloc: Global,
-    runs: &mut Runs,
+    state: &mut State,
     text: &str,
 ) -> Result<String, Fail> {
     match row_of(alloc, text) {
-        Some(row) => answer(rt, alloc, runs, &row),
+        Some(row) => answer(rt, alloc, state, &row),
         None => Ok(String::from_str(alloc, text)?),
     }
 }
 
 fn main(rt: HostRuntime) -> Result<(), Fail> {
     let alloc = rt.alloc();
-    let mut runs = Runs::new(alloc)?;
+    let mut state = State {
+        part: Part::Host,
+        runs: Runs::new(alloc)?,
+    };
     for line in rt.lines(alloc) {
         let line = line?;
-        let told = answer_line(&rt, alloc, &mut runs, line.as_str())?;
+        let told = answer_line(&rt, alloc, &mut state, line.as_str())?;
         println!(rt; "{told}")?;
     }
     Ok(())

@@ -1,11 +1,10 @@
 //! Texts that are parsed, checked and printed.
 use do_check::check;
 use do_parse::parse;
-use sample_scripts::named;
 use serde_json::Value as Json;
 use std::alloc::Global;
 use std::test::Fail;
-use test_rows::word;
+use test_rows::{named, word};
 
 /// The text of a case: the script of that name, the bytes of a record `{"hex": ..}`, or the text as it stands.
 pub(crate) fn text_of(alloc: Global, row: &Json) -> Result<Vec<u8>, Fail> {

@@ -1,6 +1,7 @@
-//! Cases of values and of the storage of one object. A case is a line of JSON, and a line answers it.
+//! Cases of values, of the storage of one object and of journals. A case is a line of JSON, and a line answers it.
 #![tactic(auto)]
 
+mod journals;
 mod limits;
 mod stores;
 mod tell;
@@ -13,15 +14,33 @@ use std::test::Fail;
 use test_rows::{row_of, word};
 use write_batcher::Batcher;
 
+// What answers the cases behind it.
+#[derive(Drop)]
+enum Part {
+    Storage,
+    Journals,
+}
+
 // What the cases go on with.
 #[derive(Drop)]
 struct State {
+    part: Part,
     values: Vec<Value>,
     stores: stores::Stores,
     batcher: Batcher,
 }
 
-fn answer(alloc: Global, state: &mut State, row: &Json) -> Result<String, Fail> {
+// `part NAME`
+fn choose(alloc: Global, state: &mut State, name: &str) -> Result<String, Fail> {
+    state.part = match name {
+        "storage" => Part::Storage,
+        "journals" => Part::Journals,
+        _ => Err("no part")?,
+    };
+    Ok(format!(in alloc; "part {name}")?)
+}
+
+fn answer_storage(alloc: Global, state: &mut State, row: &Json) -> Result<String, Fail> {
     let mut line = String::new(alloc);
     match word(row, 0) {
         "value" => values::answer(alloc, &mut state.values, row, &mut line)?,
@@ -30,6 +49,16 @@ fn answer(alloc: Global, state: &mut State, row: &Json) -> Result<String, Fail> 
         _ => limits::answer(alloc, row, &mut line)?,
     }
     Ok(line)
+}
+
+fn answer(alloc: Global, state: &mut State, row: &Json) -> Result<String, Fail> {
+    if word(row, 0) == "part" {
+        return choose(alloc, state, word(row, 1));
+    }
+    match state.part {
+        Part::Storage => answer_storage(alloc, state, row),
+        Part::Journals => journals::answer(alloc, row),
+    }
 }
 
 // The answer to a line's case, or the heading that it is.
@@ -43,6 +72,7 @@ fn answer_line(alloc: Global, state: &mut State, text: &str) -> Result<String, F
 fn main(rt: HostRuntime) -> Result<(), Fail> {
     let alloc = rt.alloc();
     let mut state = State {
+        part: Part::Storage,
         values: Vec::new(alloc),
         stores: stores::Stores::new(alloc),
         batcher: Batcher::new(alloc),

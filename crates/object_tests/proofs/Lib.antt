@@ -1,0 +1,2 @@
+-- What opens a front.
+pub mod Classes

@@ -1,0 +1,4 @@
+use Rattle.object_tests.proofs.backs.drive.take.Goals as goal
+
+pub returns : goal.returns
+returns g c = let r = c.requires in (r.0, r.1, c.take.ensures.back r.0 r.1 r.2)

@@ -1,0 +1,250 @@
+//! A back, step by step.
+ghost use Rattle.output_gate.specs.Serving.{CanServe};
+
+use crate::backs::given::entry_of;
+use crate::backs::tell::{tell_log, tell_map, tell_message, tell_notice, tell_step};
+use batch_journal::Journal;
+use do_disk::{Disk, Fails, MemDisk, Pick};
+use do_value::Mem;
+use lane::{Inlet, Outlet, Plain};
+use output_gate::Back;
+use serde_json::Value as Json;
+use std::alloc::Global;
+use std::test::Fail;
+use test_rows::{count, word};
+use timeline::{Entry, Message, Notice, Stepped};
+
+/// The lanes of a back.
+#[derive(Drop)]
+struct Lanes {
+    line: Plain<Entry>,
+    notices: Plain<Notice>,
+    out: Plain<Message>,
+}
+
+impl Lanes {
+    // The object says this next.
+    fn say(&mut self, alloc: Global, step: &Json) -> Result<(), Fail> {
+        let entry = entry_of(alloc, step)?;
+        match self.line.send(entry) {
+            Ok(()) => Ok(()),
+            Err(_) => Err("no memory")?,
+        }
+    }
+
+    // What a step has told the front.
+    fn tell_noticed(&mut self, alloc: Global, line: &mut String) -> Result<(), Fail> {
+        match self.notices.take() {
+            Some(notice) => tell_notice(alloc, line, &notice),
+            None => Ok(()),
+        }
+    }
+
+    // What a step has let leave.
+    fn tell_sent(&mut self, alloc: Global, line: &mut String) -> Result<(), Fail> {
+        match self.out.take() {
+            Some(message) => tell_message(alloc, line, &message),
+            None => Ok(()),
+        }
+    }
+}
+
+fn take<D: Disk>(back: &mut Back<D>, lanes: &mut Lanes) -> Mem<Stepped>
+    requires { CanServe D.moment_of D.left_since D.told D.image D.faults_of back.old }
+    ensures { CanServe D.moment_of D.left_since D.told D.image D.faults_of back.new }
+{
+    back.take(&mut lanes.line, &mut lanes.notices)
+}
+
+fn flush<D: Disk>(back: &mut Back<D>) -> Mem<Stepped>
+    requires { CanServe D.moment_of D.left_since D.told D.image D.faults_of back.old }
+    ensures { CanServe D.moment_of D.left_since D.told D.image D.faults_of back.new }
+{
+    Ok(back.flush())
+}
+
+fn release<D: Disk>(back: &mut Back<D>, lanes: &mut Lanes) -> Mem<Stepped>
+    requires { CanServe D.moment_of D.left_since D.told D.image D.faults_of back.old }
+    ensures { CanServe D.moment_of D.left_since D.told D.image D.faults_of back.new }
+{
+    back.release(&mut lanes.notices, &mut lanes.out)
+}
+
+fn mend<D: Disk>(alloc: Global, back: &mut Back<D>, lanes: &mut Lanes) -> Mem<Stepped>
+    requires { CanServe D.moment_of D.left_since D.told D.image D.faults_of back.old }
+    ensures { CanServe D.moment_of D.left_since D.told D.image D.faults_of back.new }
+{
+    back.mend(alloc, &mut lanes.notices)
+}
+
+// The step that the word names.
+fn step<D: Disk>(alloc: Global, back: &mut Back<D>, lanes: &mut Lanes, name: &str) -> Mem<Stepped>
+    requires { CanServe D.moment_of D.left_since D.told D.image D.faults_of back.old }
+    ensures { CanServe D.moment_of D.left_since D.told D.image D.faults_of back.new }
+{
+    match name {
+        "take" => take(back, lanes),
+        "flush" => flush(back),
+        "release" => release(back, lanes),
+        _ => mend(alloc, back, lanes),
+    }
+}
+
+// What the step that was named has done.
+fn tell_done(
+    alloc: Global,
+    lanes: &mut Lanes,
+    name: &str,
+    stepped: Mem<Stepped>,
+    line: &mut String,
+) -> Result<(), Fail> {
+    let Ok(stepped) = stepped else {
+        return Err("no memory")?;
+    };
+    line.push_str(name)?;
+    line.push_str(" ")?;
+    tell_step(line, stepped)?;
+    lanes.tell_noticed(alloc, line)?;
+    lanes.tell_sent(alloc, line)?;
+    line.push_str("; ")?;
+    Ok(())
+}
+
+// A step of the case: what the object says next, or a step of the back.
+fn go<D: Disk>(
+    alloc: Global,
+    back: &mut Back<D>,
+    lanes: &mut Lanes,
+    case_step: &Json,
+    line: &mut String,
+) -> Result<(), Fail>
+    requires { CanServe D.moment_of D.left_since D.told D.image D.faults_of back.old }
+    ensures { CanServe D.moment_of D.left_since D.told D.image D.faults_of back.new }
+{
+    match case_step.as_str() {
+        None => lanes.say(alloc, case_step),
+        Some(name) => {
+            let stepped = step(alloc, back, lanes, name);
+            tell_done(alloc, lanes, name, stepped, line)
+        }
+    }
+}
+
+// The step at this place of the case, where there is one.
+fn go_at<D: Disk>(
+    alloc: Global,
+    back: &mut Back<D>,
+    lanes: &mut Lanes,
+    row: &Json,
+    at: usize,
+    line: &mut String,
+) -> Result<(), Fail>
+    requires { CanServe D.moment_of D.left_since D.told D.image D.faults_of back.old }
+    ensures { CanServe D.moment_of D.left_since D.told D.image D.faults_of back.new }
+{
+    match row.get(at) {
+        Some(case_step) => go(alloc, back, lanes, case_step, line),
+        None => Ok(()),
+    }
+}
+
+// The steps of the case, which are at most 61.
+fn go_through<D: Disk>(
+    alloc: Global,
+    back: &mut Back<D>,
+    lanes: &mut Lanes,
+    row: &Json,
+    line: &mut String,
+) -> Result<(), Fail>
+    requires { CanServe D.moment_of D.left_since D.told D.image D.faults_of back.old }
+    ensures { CanServe D.moment_of D.left_since D.told D.image D.faults_of back.new }
+{
+    for at in 3..64 {
+        go_at(alloc, back, lanes, row, at, line)?;
+    }
+    Ok(())
+}
+
+// The same, over lanes of its own.
+fn go_alone<D: Disk>(
+    alloc: Global,
+    back: &mut Back<D>,
+    row: &Json,
+    line: &mut String,
+) -> Result<(), Fail>
+    requires { CanServe D.moment_of D.left_since D.told D.image D.faults_of back.old }
+    ensures { CanServe D.moment_of D.left_since D.told D.image D.faults_of back.new }
+{
+    let mut lanes = Lanes {
+        line: Plain::new(alloc),
+        notices: Plain::new(alloc),
+        out: Plain::new(alloc),
+    };
+    go_through(alloc, back, &mut lanes, row, line)
+}
+
+// The same, and then the log.
+fn go_and_tell<D: Disk>(
+    alloc: Global,
+    back: &mut Back<D>,
+    row: &Json,
+    line: &mut String,
+) -> Result<(), Fail>
+    requires { CanServe D.moment_of D.left_since D.told D.image D.faults_of back.old }
+    ensures { CanServe D.moment_of D.left_since D.told D.image D.faults_of back.new }
+{
+    go_alone(alloc, back, row, line)?;
+    tell_log(alloc, line, back.log())
+}
+
+// Mounts this disk, drives a back over it through the steps of the case, tells the log, and gives the disk.
+fn drive<D: Disk + Drop>(alloc: Global, disk: D, row: &Json, line: &mut String) -> Result<D, Fail> {
+    let Ok(mounted) = Journal::mount(alloc, disk, 4096) else {
+        return Err("not mounted")?;
+    };
+    let mut back = Back::new(alloc, mounted);
+    let went = go_and_tell(alloc, &mut back, row, line);
+    let disk = back.into_parts().disk;
+    went?;
+    Ok(disk)
+}
+
+fn pick_of(row: &Json) -> Pick {
+    match word(row, 2) {
+        "read" => Pick::AsRead,
+        "synced" => Pick::AsSynced,
+        _ => Pick::Torn(u8::try_from(count(row, 2)).unwrap_or(0)),
+    }
+}
+
+// The calls that fail: those that are listed, or all from one on.
+fn fails_of(alloc: Global, row: &Json) -> Result<Fails, Fail> {
+    let Some(fails) = row.get(1).and_then(Json::as_array) else {
+        return Ok(Fails::From(count(row, 1)));
+    };
+    let mut calls = Vec::new(alloc);
+    for call in fails {
+        calls.push(call.as_u64().unwrap_or(0))?;
+    }
+    Ok(Fails::Listed(calls))
+}
+
+// What a crash leaves, as a mounting finds it.
+fn tell_left(alloc: Global, disk: MemDisk, row: &Json, line: &mut String) -> Result<(), Fail> {
+    let left = disk.crash(pick_of(row))?;
+    match Journal::mount(alloc, left, 4096) {
+        Ok(mounted) => tell_map(line, &mounted.map),
+        Err(_) => Err("not mounted")?,
+    }
+}
+
+/// `[FAILS, PICK, STEP..]` behind a word: a back over an empty disk whose calls fail so, what each step does, the log, and what a
+/// crash then leaves.
+pub(crate) fn answer(alloc: Global, row: &Json) -> Result<String, Fail> {
+    let mut line = String::new(alloc);
+    let disk = MemDisk::new(Vec::new(alloc), fails_of(alloc, row)?);
+    let disk = drive(alloc, disk, row, &mut line)?;
+    line.push_str("; left")?;
+    tell_left(alloc, disk, row, &mut line)?;
+    Ok(line)
+}

@@ -1,0 +1,2 @@
+-- What the drivers of tasks keep.
+pub mod Waits

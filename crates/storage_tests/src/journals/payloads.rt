@@ -1,0 +1,94 @@
+//! The payloads of frames.
+use crate::journals::given::{bytes_at, delete, object, one, put, tell_bytes};
+use batch_codec::{BadFrame, FrameView, OpView, encode};
+use do_value::Mem;
+use serde_json::Value as Json;
+use std::alloc::Global;
+use std::test::Fail;
+use storage_map::{Batch, Identity};
+use test_rows::count;
+
+fn read(bytes: &[u8]) -> Result<FrameView<'_>, BadFrame> {
+    if bytes.len() > 2_000_000 {
+        return Err(BadFrame);
+    }
+    FrameView::read(bytes)
+}
+
+// An operation as it is lent, with the place of a value's first byte.
+fn tell_op(alloc: Global, line: &mut String, op: &OpView) -> Result<(), Fail> {
+    match op {
+        OpView::Put { key, value, at } => {
+            let told = format!(in alloc; "put {key} of {} bytes at {at}", value.len())?;
+            line.push_str(told.as_str())?;
+        }
+        OpView::Delete { key } => {
+            line.push_str("delete ")?;
+            line.push_str(*key)?;
+        }
+        OpView::DeleteAll => line.push_str("delete all")?,
+        OpView::SetAlarm { time, retry } => {
+            let told = format!(in alloc; "alarm {time} retry {retry}")?;
+            line.push_str(told.as_str())?;
+        }
+        OpView::ClearAlarm => line.push_str("no alarm")?,
+    }
+    Ok(())
+}
+
+fn tell(alloc: Global, bytes: &[u8], line: &mut String) -> Result<(), Fail> {
+    let Ok(frame) = read(bytes) else {
+        line.push_str("bad")?;
+        return Ok(());
+    };
+    let (class, name) = frame.identity();
+    line.push_str(class)?;
+    line.push_str(" ")?;
+    line.push_str(name)?;
+    for batch in frame.batches() {
+        line.push_str(":")?;
+        for op in batch.ops() {
+            line.push_str(" ")?;
+            tell_op(alloc, line, &op)?;
+        }
+    }
+    Ok(())
+}
+
+/// `payload HEX`
+pub(crate) fn answer(alloc: Global, row: &Json, line: &mut String) -> Result<(), Fail> {
+    tell(alloc, &bytes_at(alloc, row, 1)?, line)
+}
+
+/// `large HEAD PUT PUTS LETTERS`: the payload of one batch that has so many puts of a text of so many letters, whether it is read.
+pub(crate) fn answer_large(alloc: Global, row: &Json, line: &mut String) -> Result<(), Fail> {
+    let puts = u32::try_from(count(row, 3)).unwrap_or(0);
+    let letters = u32::try_from(count(row, 4)).unwrap_or(0);
+    let mut bytes = bytes_at(alloc, row, 1)?;
+    let head = bytes_at(alloc, row, 2)?;
+    bytes.extend_from_slice(&puts.to_be_bytes())?;
+    for _ in 0..puts {
+        bytes.extend_from_slice(&head)?;
+        bytes.extend_from_slice(&letters.to_be_bytes())?;
+        for _ in 0..letters {
+            bytes.push(b'a')?;
+        }
+    }
+    line.push_str(if read(&bytes).is_ok() { "read" } else { "bad" })?;
+    Ok(())
+}
+
+fn encode_both(alloc: Global, first: Batch, second: Batch, identity: &Identity) -> Mem<Vec<u8>> {
+    let _ = identity.size();
+    let _ = first.as_slice();
+    let _ = second.as_slice();
+    encode(alloc, &[first, second], identity)
+}
+
+/// `encode`: a put of 5 and then a delete, as two batches.
+pub(crate) fn answer_encode(alloc: Global, line: &mut String) -> Result<(), Fail> {
+    let put = one(alloc, put(alloc, 0)?)?;
+    let delete = one(alloc, delete(alloc)?)?;
+    let bytes = encode_both(alloc, put, delete, &object(alloc)?)?;
+    tell_bytes(alloc, line, &bytes)
+}
