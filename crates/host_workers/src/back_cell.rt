@@ -18,7 +18,7 @@ use lane::{SendEnd, TakeEnd};
 use output_gate::Back;
 use std::alloc::Global;
 use std::sync::Wait;
-use timeline::{Entry, Message, Notice, Stepped};
+use timeline::{Body, Entry, Message, Notice, Stepped};
 
 /// The back of an object, with the end from which it takes what the front says, the one on which it tells the front, and the one on
 /// which its messages leave.
@@ -126,6 +126,24 @@ impl<D: Disk, T: Wait + Copy> BackCell<D, T> {
         self.back.mend(alloc, &mut self.notices)
     }
 
+    // How many entries it has taken.
+    pub(crate) fn count_taken(&self) -> usize {
+        self.back.log().taken.len()
+    }
+
+    // Whether it has answered one of the entries behind so many.
+    pub(crate) fn has_answered(&self, first: usize) -> bool {
+        let taken = self.back.log().taken.as_slice();
+        for at in first..taken.len() {
+            if let Some(entry) = taken.get(at)
+                && is_answered(&entry.body)
+            {
+                return true;
+            }
+        }
+        false
+    }
+
     /// The back, and the ends of its lanes. It takes no memory.
     pub fn into_parts(
         self,
@@ -145,5 +163,14 @@ impl<D: Disk, T: Wait + Copy> BackCell<D, T> {
             out,
         } = self;
         (back, line, notices, out)
+    }
+}
+
+// Whether a back answers this as soon as it takes it: a read, or a write that is awaited.
+fn is_answered(body: &Body) -> bool {
+    match body {
+        Body::Ask(_) => true,
+        Body::Batch { batch: _, tail } => tail.is_some(),
+        _ => false,
     }
 }

@@ -7,7 +7,7 @@ ghost use Rattle.host_workers.specs.declared.jobs.Job.TheVariants.{Front, Back, 
 use crate::back_cell::BackCell;
 use crate::cells::{Cells, Held};
 use crate::front_cell::FrontCell;
-use crate::jobs::{Found, Job, WorkEnd};
+use crate::jobs::{Found, Job, Waited, WorkEnd};
 use crate::lines_cell::LinesCell;
 use crate::marks::Marks;
 use crate::names::Names;
@@ -61,6 +61,8 @@ pub struct Board<'s, L: Names, D: Disk, R: Source, W: Sink, T: Wait> {
     reading: Reading,
     // What a worker has met that ends the work.
     halted: Option<WorkEnd>,
+    // How many workers sleep, or fewer: one that was called counts no more.
+    asleep: u32,
     book: Book<L>,
 }
 
@@ -107,6 +109,7 @@ impl<'s, L: Names, D: Disk + Drop, R: Source + Drop, W: Sink + Drop, T: Wait + C
             next: 0,
             reading: Reading::Goes,
             halted: None,
+            asleep: 0,
             book,
         }
     }
@@ -154,17 +157,28 @@ impl<'s, L: Names, D: Disk + Drop, R: Source + Drop, W: Sink + Drop, T: Wait + C
         }
     }
 
-    // A half that is there and marked, of these slots.
+    // A half that is there and marked, of these slots: from the next slot on, and then from the first on.
     fn find(&self, whose: Whose) -> Option<Job>
         ensures { IfSome result (λ job. IsThere self.now job) }
     {
-        for k in 0..self.slots {
-            let slot = slot_behind(self.next, k, self.slots);
+        match self.find_from(self.next, whose) {
+            Some(job) => Some(job),
+            None => self.find_from(0, whose),
+        }
+    }
+
+    fn find_from(&self, first: u32, whose: Whose) -> Option<Job>
+        ensures { IfSome result (λ job. IsThere self.now job) }
+    {
+        let mut at = first;
+        for _ in 0..self.slots {
+            let slot = self.marks.first_from(at)?;
             if suits(slot, self.workers, whose)
                 && let Some(job) = self.job_at(slot)
             {
                 return Some(job);
             }
+            at = slot.wrapping_add(1);
         }
         None
     }
@@ -185,9 +199,6 @@ impl<'s, L: Names, D: Disk + Drop, R: Source + Drop, W: Sink + Drop, T: Wait + C
     fn look_on(&self) -> Look
         ensures { IsLook self.now result }
     {
-        if self.marks.any() {
-            return Look::Wait;
-        }
         match self.reading {
             Reading::Goes => self.look_at_lines(),
             Reading::Ended => self.end_by(WorkEnd::Ended),
@@ -251,6 +262,39 @@ impl<'s, L: Names, D: Disk + Drop, R: Source + Drop, W: Sink + Drop, T: Wait + C
         ensures { result ≡ true → IsThere self.now Lines }
     {
         self.cells.lines.is_some()
+    }
+
+    // Counts a worker that is about to sleep.
+    pub(crate) fn sleep(&mut self)
+        ensures { self.new ≡ self.old }
+    {
+        self.asleep = self.asleep.saturating_add(1);
+    }
+
+    // Whether a worker is to be called, since one sleeps and something is left to do; it counts as called then.
+    pub(crate) fn call_one(&mut self, me: u32) -> bool
+        ensures { self.new ≡ self.old }
+    {
+        if self.asleep == 0 {
+            return false;
+        }
+        match self.look(me) {
+            Look::Do(_) => {
+                self.asleep -= 1;
+                true
+            }
+            _ => false,
+        }
+    }
+
+    // How often in a row a back has left its flight to the next look.
+    pub(crate) fn waited(&self, job: Job) -> Waited {
+        match job {
+            Job::Back(slot) => Waited {
+                times: self.marks.waits(slot),
+            },
+            _ => Waited { times: 0 },
+        }
     }
 
     // Takes a cell that is there out of its place.
@@ -355,19 +399,20 @@ impl<'s, L: Names, D: Disk + Drop, R: Source + Drop, W: Sink + Drop, T: Wait + C
         self.stop_at(found);
         match held {
             Held::Front { slot, cell } => {
-                self.marks.note(self.slots, Job::Front(slot), found);
+                self.marks.note(Job::Front(slot), found);
                 self.put_front(share, slot, cell);
             }
             Held::Back { slot, cell } => {
-                self.marks.note(self.slots, Job::Back(slot), found);
+                self.marks.note(Job::Back(slot), found);
                 self.put_back_half(share, slot, cell);
             }
             Held::Switch { cell } => {
-                self.marks.note(self.slots, Job::Switch, found);
+                self.marks.note(Job::Switch, found);
+                self.marks.follow_posts(cell.posts());
                 self.put_switch(share, cell);
             }
             Held::Lines { cell } => {
-                self.marks.note(self.slots, Job::Lines, found);
+                self.marks.note(Job::Lines, found);
                 self.put_lines(share, cell);
             }
         }
@@ -437,15 +482,6 @@ impl<'s, L: Names, D: Disk + Drop, R: Source + Drop, W: Sink + Drop, T: Wait + C
         self.book.sub(share, LINES_COUNT);
         let _none = self.cells.lines.replace(cell);
     }
-}
-
-// The k-th slot from the one at which a look begins.
-fn slot_behind(next: u32, k: u32, slots: u32) -> u32
-    requires { k < slots }
-{
-    let first = next % slots;
-    let left = slots - first;
-    if k < left { first + k } else { k - left }
 }
 
 // Whether a slot is one of these: a worker's own are those whose number, divided by that of the workers, leaves its own.

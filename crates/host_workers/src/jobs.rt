@@ -11,6 +11,7 @@ use crate::back_cell::BackCell;
 use crate::cells::Held;
 use crate::front_cell::FrontCell;
 use crate::lines_cell::LinesCell;
+use crate::marks::MOST_WAITS;
 use crate::names::Names;
 use crate::switch_cell::SwitchCell;
 use do_disk::{Disk, Sink, Source, TurnGate};
@@ -52,6 +53,10 @@ pub(crate) enum Job {
 pub(crate) enum Found {
     // There was nothing to do.
     Nothing,
+    // A back has answered its front, and left its flight for what the front writes next: so often in a row.
+    Waits(u8),
+    // It did all that there was to do, and what it made, if anything, is for the cell next to it: a back let no message go.
+    Told,
     // It did all that there was to do.
     Made,
     // It did something, and there may be more to do.
@@ -60,14 +65,29 @@ pub(crate) enum Found {
     Stopped(WorkEnd),
 }
 
+// How often in a row a back has left its flight for what its front writes next.
+#[derive(Clone, Copy, Debug, Drop)]
+pub(crate) struct Waited {
+    pub(crate) times: u8,
+}
+
 impl Found {
     // How much it says: a cell that stopped says most.
     fn rank(&self) -> u8 {
         match self {
             Found::Nothing => 0,
-            Found::Made => 1,
-            Found::More => 2,
-            Found::Stopped(_) => 3,
+            Found::Waits(_) => 1,
+            Found::Told => 2,
+            Found::Made => 3,
+            Found::More => 4,
+            Found::Stopped(_) => 5,
+        }
+    }
+
+    fn is_told(&self) -> bool {
+        match self {
+            Found::Told => true,
+            _ => false,
         }
     }
 
@@ -86,6 +106,7 @@ pub(crate) fn work_on<'s, L: Names, D: Disk, R: Source, W: Sink, T: Wait + Copy,
     alloc: Global,
     gate: &G,
     held: Held<'s, D, R, W, T>,
+    waited: Waited,
 ) -> (Held<'s, D, R, W, T>, Found)
     requires held { IsHeld L.names D.moment_of D.left_since D.told D.image D.faults_of R.left R.faults_of W.taken W.faults_of held }
     ensures held { IsHeld L.names D.moment_of D.left_since D.told D.image D.faults_of R.left R.faults_of W.taken W.faults_of result.0 }
@@ -99,7 +120,7 @@ pub(crate) fn work_on<'s, L: Names, D: Disk, R: Source, W: Sink, T: Wait + Copy,
         }
         Held::Back { slot, cell } => {
             let mut cell = cell;
-            let found = step_back(alloc, &mut cell);
+            let found = step_back(alloc, &mut cell, waited);
             (Held::Back { slot, cell }, found)
         }
         Held::Switch { cell } => {
@@ -148,25 +169,36 @@ fn make_turns<'s, T: Wait + Copy>(alloc: Global, cell: &mut FrontCell<'s, T>) ->
     Found::More
 }
 
-// Takes all that has come, appends it as one flight, and lets go what may go. What that makes room for is taken by the next worker.
-fn step_back<D: Disk, T: Wait + Copy>(alloc: Global, cell: &mut BackCell<D, T>) -> Found
+// Takes all that has come, appends it as one flight, and lets go what may go. What that makes room for is taken by the next worker. Where
+// its front waits for what it was answered now, the flight may be left to the next look: so what the front writes next goes along.
+fn step_back<D: Disk, T: Wait + Copy>(
+    alloc: Global,
+    cell: &mut BackCell<D, T>,
+    waited: Waited,
+) -> Found
     requires { CanStep D.moment_of D.left_since D.told D.image D.faults_of cell.old }
     ensures lanes { SameBackLanes cell.old cell.new }
     ensures cell { KeepsBackCell D.moment_of D.left_since D.told D.image D.faults_of cell.old cell.new }
     ensures alone { KeepsCellAlone D.moment_of D.left_since D.told D.image D.faults_of cell.old cell.new }
 {
+    let first = cell.count_taken();
     let took = take_all(cell);
+    if waited.times < MOST_WAITS && took.is_told() && cell.has_answered(first) {
+        return Found::Waits(waited.times + 1);
+    }
     let flushed = flush(cell);
     let released = release_all(cell);
     let mended = mend(alloc, cell);
-    again(took.and(flushed).and(released).and(mended))
+    let again = take_all(cell);
+    took.and(flushed).and(released).and(mended).and(more(again))
 }
 
-// Whether a back that did something has more to do only another look tells.
-fn again(found: Found) -> Found {
+// What was taken behind the flight is for another look, and so is what a mounting brought: what is let go meanwhile doesn't wait for it.
+fn more(found: Found) -> Found {
     match found {
-        Found::Made => Found::More,
-        found => found,
+        Found::Nothing => Found::Nothing,
+        Found::Stopped(end) => Found::Stopped(end),
+        _ => Found::More,
     }
 }
 
@@ -187,7 +219,7 @@ fn take_all<D: Disk, T: Wait + Copy>(cell: &mut BackCell<D, T>) -> Found
     let mut found = Found::Nothing;
     for _ in 0..MOST_STEPS {
         match cell.take() {
-            Ok(Stepped::Did) => found = Found::Made,
+            Ok(Stepped::Did) => found = Found::Told,
             Ok(Stepped::Nothing) => return found,
             Err(NoMemory) => return Found::Stopped(WorkEnd::NoMemory),
         }
@@ -201,7 +233,10 @@ fn flush<D: Disk, T: Wait + Copy>(cell: &mut BackCell<D, T>) -> Found
     ensures cell { KeepsBackCell D.moment_of D.left_since D.told D.image D.faults_of cell.old cell.new }
     ensures alone { KeepsCellAlone D.moment_of D.left_since D.told D.image D.faults_of cell.old cell.new }
 {
-    found_of(cell.flush())
+    match cell.flush() {
+        Stepped::Did => Found::Told,
+        Stepped::Nothing => Found::Nothing,
+    }
 }
 
 fn release_all<D: Disk, T: Wait + Copy>(cell: &mut BackCell<D, T>) -> Found
@@ -229,7 +264,7 @@ fn mend<D: Disk, T: Wait + Copy>(alloc: Global, cell: &mut BackCell<D, T>) -> Fo
     ensures alone { KeepsCellAlone D.moment_of D.left_since D.told D.image D.faults_of cell.old cell.new }
 {
     match cell.mend(alloc) {
-        Ok(stepped) => found_of(stepped),
+        Ok(stepped) => more(found_of(stepped)),
         Err(NoMemory) => Found::Stopped(WorkEnd::NoMemory),
     }
 }

@@ -4,7 +4,7 @@ ghost use Rattle.host_workers.specs.Board.{IsHeld, empty_places, held_count};
 
 use crate::board::{Board, Look};
 use crate::cells::Held;
-use crate::jobs::{Found, WorkEnd, work_on};
+use crate::jobs::{Found, Waited, WorkEnd, work_on};
 use crate::names::Names;
 use do_disk::{Disk, Sink, Source, TurnGate};
 use std::alloc::Global;
@@ -15,7 +15,7 @@ use std::sync::{Condvar, Mutex, Wait};
 #[derive(Drop)]
 pub struct Shared<'s, L: Names, D: Disk, R: Source, W: Sink, T: Wait> {
     lock: Mutex<Board<'s, L, D, R, W, T>>,
-    // Told at each change of the board. Who waits for it sleeps.
+    // Who finds nothing to do sleeps on it. It is told where a worker that takes a cell leaves something to do, and at the end.
     changed: Condvar,
 }
 
@@ -53,30 +53,48 @@ impl<'s, L: Names, D: Disk + Drop, R: Source + Drop, W: Sink + Drop, T: Wait + C
         board
     }
 
-    // Takes the next cell with something to do out of its place. It waits where another worker may still make some.
-    fn next(&self, rt: &T, share: &mut Share<L>, me: u32) -> Result<Held<'s, D, R, W, T>, WorkEnd>
+    // Takes the next cell with something to do out of its place, and wakes one worker where more is left to do. It waits where another
+    // worker may still make some: as long as a cell that is there is marked, or a line may be read, one worker is awake and looks.
+    fn next(
+        &self,
+        rt: &T,
+        share: &mut Share<L>,
+        me: u32,
+    ) -> Result<(Held<'s, D, R, W, T>, Waited), WorkEnd>
         requires { 0 < share.old.parts }
         ensures parts { share.new.parts ≡ share.old.parts }
-        ensures held { IfOk result (λ held.
-            IsHeld L.names D.moment_of D.left_since D.told D.image D.faults_of R.left R.faults_of W.taken W.faults_of held) }
-        ensures amount { IfOk result (λ held. share.new.amount ≡ share.old.amount + held_count held) }
+        ensures held { IfOk result (λ taken.
+            IsHeld L.names D.moment_of D.left_since D.told D.image D.faults_of R.left R.faults_of W.taken W.faults_of taken.0) }
+        ensures amount { IfOk result (λ taken. share.new.amount ≡ share.old.amount + held_count taken.0) }
         ensures ended { OnErr result (share.new.amount ≡ share.old.amount) }
     {
         let mut board = self.lock.lock(rt);
         for _ in rt.forever() {
             match board.look(me) {
-                Look::Do(job) => return Ok(board.take(share, job)),
+                Look::Do(job) => {
+                    let waited = board.waited(job);
+                    let held = board.take(share, job);
+                    let calls = board.call_one(me);
+                    drop(board);
+                    if calls {
+                        self.changed.notify_one();
+                    }
+                    return Ok((held, waited));
+                }
                 Look::End(end) => {
                     self.changed.notify_all();
                     return Err(end);
                 }
-                Look::Wait => board = self.changed.wait(rt, board),
+                Look::Wait => {
+                    board.sleep();
+                    board = self.changed.wait(rt, board);
+                }
             }
         }
         unreachable!()
     }
 
-    // Puts a cell back at its place, and tells those who wait.
+    // Puts a cell back at its place. Who puts it back looks on, and so wakes another where more is left to do.
     fn put_back(&self, rt: &T, share: &mut Share<L>, held: Held<'s, D, R, W, T>, found: Found)
         requires held { IsHeld L.names D.moment_of D.left_since D.told D.image D.faults_of R.left R.faults_of W.taken W.faults_of held }
         requires out { held_count held ≤ share.old.amount }
@@ -85,7 +103,6 @@ impl<'s, L: Names, D: Disk + Drop, R: Source + Drop, W: Sink + Drop, T: Wait + C
     {
         let mut board = self.lock.lock(rt);
         board.put_back(share, held, found);
-        self.changed.notify_all();
     }
 }
 
@@ -114,8 +131,8 @@ pub fn work<
     let mut share = share;
     for _ in rt.forever() {
         match shared.next(rt, &mut share, me) {
-            Ok(held) => {
-                let (held, found) = work_on::<L, D, R, W, T, G>(alloc, gate, held);
+            Ok((held, waited)) => {
+                let (held, found) = work_on::<L, D, R, W, T, G>(alloc, gate, held, waited);
                 shared.put_back(rt, &mut share, held, found);
             }
             Err(end) => return Worked { end, share },

@@ -167,6 +167,11 @@ impl<'s, W: Sink, T: Wait + Copy> SwitchCell<'s, W, T> {
         }
     }
 
+    // All posts that the switch has made, in order, each with the slot that it went to.
+    pub(crate) fn posts(&self) -> &[(u32, Event)] {
+        self.switch.log().posts.as_slice()
+    }
+
     /// Its parts. It takes no memory.
     pub fn into_parts(self) -> SwitchParts<W, T>
         ensures half { (result.switch ≡ self.entry.switch) × (result.kept ≡ self.entry.kept) }

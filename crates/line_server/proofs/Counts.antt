@@ -1,6 +1,6 @@
 -- Counts of faults, carried on.
-use Rattle.std.proofs.Common.{◌≡◌, ◌≤◌, ℕ, Result, Ok, Err, subst, arith}
-use Rattle.do_disk.specs.Disk.{CountsFaults, Rose}
+use Rattle.std.proofs.Common.{◌≡◌, ◌≤◌, ℕ, Result, Ok, Err, ap, subst, arith}
+use Rattle.do_disk.specs.Disk.{Rose}
 use Rattle.line_server.specs.Given.{CountsReads}
 use Rattle.line_server.specs.declared.fault.LineFault.{LineFault}
 use Rattle.line_server.specs.declared.fault.LineFault.TheVariants.{ReadFailed, NoMemory}
@@ -9,12 +9,12 @@ use Rattle.line_server.specs.declared.fault.LineFault.TheVariants.{ReadFailed, N
 pub reads_ok : {T : Type 0} (before now : ℕ) (answer : T) → now ≡ before → CountsReads before now (Ok answer)
 reads_ok before now answer same = record { later = omega arith; steady = same; rose = λ is. cc }
 
--- a read that failed, after good ones
-pub reads_failed : {T X E : Type 0} (first before now : ℕ) (failed : E) (given : Result X E) → given ≡ Err failed → before ≡ first → CountsFaults before now given → let answer : Result T LineFault = Err ReadFailed in CountsReads first now answer
-reads_failed first before now failed given is same counts = record {
+-- a read that gave a fault, after good ones
+pub reads_stopped : {T X : Type 0} (first before now : ℕ) (fault : LineFault) (given : Result X LineFault) → given ≡ Err fault → before ≡ first → CountsReads before now given → let answer : Result T LineFault = Err fault in CountsReads first now answer
+reads_stopped first before now fault given is same counts = record {
   later = let le : before ≤ now = counts.later in omega arith;
   steady = tt;
-  rose = λ _. let rose : Rose before now = rw is at counts.rose in subst (λ n. Rose n now) same rose;
+  rose = λ failed. let which : fault ≡ ReadFailed = cc in let rose : Rose before now = (rw is at counts.rose) (ap Err which) in subst (λ n. Rose n now) same rose;
 }
 
 -- want of memory

@@ -1,38 +1,43 @@
 // A piece of the input, given byte by byte.
-ghost use Rattle.std.specs.Prelude.{◌≡◌, ◌++◌, [], List, ℕ, None, OnOk, OnErr};
-ghost use Rattle.do_disk.specs.Disk.{IfTold, CountsFaults};
+ghost use Rattle.std.specs.Prelude.{◌≡◌, ◌<◌, ◌++◌, [], List, ℕ, None, OnOk, OnErr, length};
+ghost use Rattle.do_disk.specs.Disk.{IfTold};
+ghost use Rattle.line_server.specs.Given.{CountsReads};
 ghost use Rattle.line_server.specs.Reader.{bytes_of, StartsWith};
 
+use crate::fault::LineFault;
 use do_disk::{Failed, Source};
+use do_value::{Mem, NoMemory};
+use std::alloc::Global;
 use std::marker::Model;
 
 const BUFFER_BYTES: usize = 4096;
 
-// Bytes that were read and not given yet, seen by contracts as their list.
+// Bytes that were read and not given yet, seen by contracts as their list. It has its memory from the first read on, and not in itself: who
+// moves a reader moves few bytes.
 #[derive(Drop)]
 pub(crate) struct Buffer {
-    bytes: [u8; BUFFER_BYTES],
+    bytes: Vec<u8>,
     at: usize,
     end: usize,
 }
 
 impl Model for Buffer {
-    ghost use Rattle.std.specs.Prelude.{List, ℕ, ◌≤◌, take, drop};
-    ghost use Rattle.line_server.specs.declared.buffer.TheConstants.{BUFFER_BYTES};
+    ghost use Rattle.std.specs.Prelude.{List, ℕ, ◌≤◌, take, drop, length};
 
     ghost Value = { List ℕ };
 
-    ghost view = { λ b. drop b.at (take b.end b.bytes) };
+    ghost view = { λ b. drop b.at (take b.end b.bytes.items) };
 
-    ghost invariant = { λ b. (b.at ≤ b.end) × (b.end ≤ BUFFER_BYTES) };
+    ghost invariant = { λ b. (b.at ≤ b.end) × (b.end ≤ length b.bytes.items) };
 }
 
 impl Buffer {
-    pub(crate) fn new() -> Buffer
+    // It takes no memory.
+    pub(crate) fn new(alloc: Global) -> Buffer
         ensures { result ≡ [] }
     {
         Buffer {
-            bytes: [0; BUFFER_BYTES],
+            bytes: Vec::new(alloc),
             at: 0,
             end: 0,
         }
@@ -52,15 +57,39 @@ impl Buffer {
     }
 
     // Reads the next piece; none is the input's end.
-    pub(crate) fn fill<R: Source>(&mut self, source: &mut R) -> Result<(), Failed>
+    pub(crate) fn fill<R: Source>(&mut self, source: &mut R) -> Result<(), LineFault>
         ensures read { OnOk result (IfTold (R.left source.old) (λ before. StartsWith before self.new (R.left source.new))) }
         ensures end { OnOk result (self.new ≡ [] → IfTold (R.left source.new) (λ rest. rest ≡ [])) }
         ensures err { OnErr result ((self.new ≡ []) × (R.left source.new ≡ R.left source.old)) }
-        ensures faults { CountsFaults (R.faults_of source.old) (R.faults_of source.new) result }
+        ensures faults { CountsReads (R.faults_of source.old) (R.faults_of source.new) result }
     {
         self.at = 0;
         self.end = 0;
-        self.end = source.read(&mut self.bytes)?;
-        Ok(())
+        let Ok(()) = make_room(&mut self.bytes) else {
+            return Err(LineFault::NoMemory);
+        };
+        match source.read(&mut self.bytes) {
+            Ok(count) => {
+                self.end = count;
+                Ok(())
+            }
+            Err(Failed) => Err(LineFault::ReadFailed),
+        }
+    }
+}
+
+// Gets the memory of a buffer, where it has none yet.
+fn make_room(bytes: &mut Vec<u8>) -> Mem<()>
+    ensures { OnOk result (0 < length bytes.new.items) }
+{
+    if !bytes.is_empty() {
+        return Ok(());
+    }
+    match vec![in *bytes.allocator(); 0u8; BUFFER_BYTES] {
+        Ok(room) => {
+            *bytes = room;
+            Ok(())
+        }
+        Err(_) => Err(NoMemory),
     }
 }

@@ -36,7 +36,7 @@ impl<R: Source> Lines<R> {
     {
         Lines {
             alloc,
-            bytes: Bytes::new(source),
+            bytes: Bytes::new(alloc, source),
             count: 0,
             fault: None,
         }
@@ -92,10 +92,11 @@ impl<R: Source> Lines<R> {
     {
         let Lines {
             alloc: _,
-            bytes: Bytes { source, buffer: _ },
+            bytes: Bytes { source, buffer },
             count: _,
             fault: _,
         } = self;
+        drop(buffer);
         source
     }
 

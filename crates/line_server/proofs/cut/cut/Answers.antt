@@ -1,7 +1,7 @@
-use Rattle.std.proofs.Common.{[], Ok, ap, ◌∙◌, arith}
+use Rattle.std.proofs.Common.{Ok, ap, ◌∙◌, arith}
 use Rattle.std.proofs.lemmas.Result.{err_from_is_err_and}
 use Rattle.line_server.proofs.Taking.{stops_failed, stops_wanting, takes_at_end, takes_last, takes_none, takes_room, taking_on}
-use Rattle.line_server.proofs.Counts.{reads_failed, reads_refused}
+use Rattle.line_server.proofs.Counts.{reads_refused, reads_stopped}
 use Rattle.line_server.proofs.cut.cut.Goals as goal
 
 pub returns-in_err-next-clause-line : goal.returns-in_err-next-clause-line
@@ -12,7 +12,7 @@ returns-in_err-next-clause-line g c =
 pub returns-in_err-next-clause-reads : goal.returns-in_err-next-clause-reads
 returns-in_err-next-clause-reads g c =
     let p = err_from_is_err_and c.from_residual.result c.from_residual.ensures.1 in
-    rw (p.1, p.2) (reads_failed _ _ _ _ _ c.in_err-next.was c.loop-line.invariant.steady c.next.ensures.faults)
+    rw (p.1, p.2) (reads_stopped _ _ _ _ _ c.in_err-next.was c.loop-line.invariant.steady c.next.ensures.faults)
 
 pub returns-in-Some-eq10-clause-line : goal.returns-in-Some-eq10-clause-line
 returns-in-Some-eq10-clause-line g c =

@@ -1,8 +1,0 @@
-use Rattle.batch_journal.specs.Frames.{batches_in}
-use Rattle.do_disk.specs.Disk.{next_count}
-use Rattle.back_tests.proofs.drive.drive.Goals as goal
-
-pub go_and_tell-went-requires : goal.go_and_tell-went-requires
-go_and_tell-went-requires g c =
-    let m = c.in-Ok.ensures.mounted in
-    (batches_in m.frames, next_count (g.D.Disk.moment_of c.args.disk), c.new-back.ensures.back c.args.disk m)

@@ -1,2 +1,0 @@
--- What opens a front.
-pub mod Classes

@@ -1,8 +1,0 @@
-use Rattle.do_tree.specs.Checked.{tree_of}
-use Rattle.object_front.specs.Evaluated.{seen}
-use Rattle.object_front.specs.Turning.{CanTurn}
-use Rattle.front_tests.proofs.drive.answer_often.Given as goal
-
--- a turn may be asked for
-abbrev pub invariant-loop-number : goal.invariant-loop-number
-invariant-loop-number l = CanTurn seen (tree_of l.fn.checked) l.front.half

@@ -1,8 +1,0 @@
-use Rattle.do_tree.specs.Checked.{tree_of}
-use Rattle.object_front.specs.Evaluated.{seen}
-use Rattle.object_front.specs.Turning.{CanTurn}
-use Rattle.front_tests.proofs.drive.go_through.Given as goal
-
--- a turn may be asked for
-abbrev pub invariant-loop-at : goal.invariant-loop-at
-invariant-loop-at l = CanTurn seen (tree_of l.fn.checked) l.front.half

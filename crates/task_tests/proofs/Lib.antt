@@ -1,2 +1,0 @@
--- What the drivers of tasks need.
-pub mod Found

@@ -1,2 +1,0 @@
--- What the drivers of tasks keep.
-pub mod Waits
