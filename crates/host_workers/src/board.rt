@@ -61,7 +61,7 @@ pub struct Board<'s, L: Names, D: Disk, R: Source, W: Sink, T: Wait> {
     reading: Reading,
     // What a worker has met that ends the work.
     halted: Option<WorkEnd>,
-    // How many workers sleep, or fewer: one that was called counts no more.
+    // How many workers sleep and weren't called, or more: one that woke by chance counts on.
     asleep: u32,
     book: Book<L>,
 }
