@@ -7,7 +7,7 @@ ghost use Rattle.host_workers.specs.declared.jobs.Job.TheVariants.{Front, Back, 
 use crate::back_cell::BackCell;
 use crate::cells::{Cells, Held};
 use crate::front_cell::FrontCell;
-use crate::jobs::{Found, Job, Waited, WorkEnd};
+use crate::jobs::{Bounds, Found, Job, MOST_STEPS, WorkEnd};
 use crate::lines_cell::LinesCell;
 use crate::marks::Marks;
 use crate::names::Names;
@@ -287,13 +287,15 @@ impl<'s, L: Names, D: Disk + Drop, R: Source + Drop, W: Sink + Drop, T: Wait + C
         }
     }
 
-    // How often in a row a back has left its flight to the next look.
-    pub(crate) fn waited(&self, job: Job) -> Waited {
-        match job {
-            Job::Back(slot) => Waited {
-                times: self.marks.waits(slot),
+    // How far the work on the cell of a place goes. A worker that is alone reads one line at a time: each is answered as far as it can be
+    // before the next is read.
+    pub(crate) fn bounds(&self, job: Job) -> Bounds {
+        Bounds {
+            waits: match job {
+                Job::Back(slot) => self.marks.waits(slot),
+                _ => 0,
             },
-            _ => Waited { times: 0 },
+            lines: if self.workers == 1 { 1 } else { MOST_STEPS },
         }
     }
 

@@ -65,10 +65,13 @@ pub(crate) enum Found {
     Stopped(WorkEnd),
 }
 
-// How often in a row a back has left its flight for what its front writes next.
+// How far the work on a cell goes.
 #[derive(Clone, Copy, Debug, Drop)]
-pub(crate) struct Waited {
-    pub(crate) times: u8,
+pub(crate) struct Bounds {
+    // How often in a row the back has left its flight for what its front writes next.
+    pub(crate) waits: u8,
+    // How many lines are read at most.
+    pub(crate) lines: u32,
 }
 
 impl Found {
@@ -106,7 +109,7 @@ pub(crate) fn work_on<'s, L: Names, D: Disk, R: Source, W: Sink, T: Wait + Copy,
     alloc: Global,
     gate: &G,
     held: Held<'s, D, R, W, T>,
-    waited: Waited,
+    bounds: Bounds,
 ) -> (Held<'s, D, R, W, T>, Found)
     requires held { IsHeld L.names D.moment_of D.left_since D.told D.image D.faults_of R.left R.faults_of W.taken W.faults_of held }
     ensures held { IsHeld L.names D.moment_of D.left_since D.told D.image D.faults_of R.left R.faults_of W.taken W.faults_of result.0 }
@@ -120,7 +123,7 @@ pub(crate) fn work_on<'s, L: Names, D: Disk, R: Source, W: Sink, T: Wait + Copy,
         }
         Held::Back { slot, cell } => {
             let mut cell = cell;
-            let found = step_back(alloc, &mut cell, waited);
+            let found = step_back(alloc, &mut cell, bounds.waits);
             (Held::Back { slot, cell }, found)
         }
         Held::Switch { cell } => {
@@ -130,7 +133,7 @@ pub(crate) fn work_on<'s, L: Names, D: Disk, R: Source, W: Sink, T: Wait + Copy,
         }
         Held::Lines { cell } => {
             let mut cell = cell;
-            let found = read_line(&mut cell);
+            let found = read_lines(&mut cell, bounds.lines);
             (Held::Lines { cell }, found)
         }
     }
@@ -171,11 +174,7 @@ fn make_turns<'s, T: Wait + Copy>(alloc: Global, cell: &mut FrontCell<'s, T>) ->
 
 // Takes all that has come, appends it as one flight, and lets go what may go. What that makes room for is taken by the next worker. Where
 // its front waits for what it was answered now, the flight may be left to the next look: so what the front writes next goes along.
-fn step_back<D: Disk, T: Wait + Copy>(
-    alloc: Global,
-    cell: &mut BackCell<D, T>,
-    waited: Waited,
-) -> Found
+fn step_back<D: Disk, T: Wait + Copy>(alloc: Global, cell: &mut BackCell<D, T>, waits: u8) -> Found
     requires { CanStep D.moment_of D.left_since D.told D.image D.faults_of cell.old }
     ensures lanes { SameBackLanes cell.old cell.new }
     ensures cell { KeepsBackCell D.moment_of D.left_since D.told D.image D.faults_of cell.old cell.new }
@@ -183,8 +182,8 @@ fn step_back<D: Disk, T: Wait + Copy>(
 {
     let first = cell.count_taken();
     let took = take_all(cell);
-    if waited.times < MOST_WAITS && took.is_told() && cell.has_answered(first) {
-        return Found::Waits(waited.times + 1);
+    if waits < MOST_WAITS && took.is_told() && cell.has_answered(first) {
+        return Found::Waits(waits + 1);
     }
     let flushed = flush(cell);
     let released = release_all(cell);
@@ -323,17 +322,35 @@ fn route_all<'s, W: Sink, T: Wait + Copy>(cell: &mut SwitchCell<'s, W, T>) -> Fo
     Found::More
 }
 
-// Reads the next line and sends it to the switch.
-fn read_line<R: Source, T: Wait + Copy>(cell: &mut LinesCell<R, T>) -> Found
+// Reads the next line, and so many at most with those behind it that are at hand, and sends them to the switch.
+fn read_lines<R: Source, T: Wait + Copy>(cell: &mut LinesCell<R, T>, most: u32) -> Found
+    ensures cell { (whole : List ℕ) → IsLinesCell R.left whole cell.old → IsLinesCell R.left whole cell.new }
+    ensures counts { (from : ℕ) → HasCounted R.faults_of from cell.old.lines → HasCounted R.faults_of from cell.new.lines }
+    ensures lane { cell.new.send.lane ≡ cell.old.send.lane }
+    ensures numbers { IsNumbered cell.old → IsNumbered cell.new }
+{
+    for _ in 0..most {
+        if let Some(end) = read_line(cell) {
+            return Found::Stopped(end);
+        }
+        if !cell.is_ready() {
+            break;
+        }
+    }
+    Found::Made
+}
+
+// Reads the next line and sends it to the switch, or says what has ended the reading.
+fn read_line<R: Source, T: Wait + Copy>(cell: &mut LinesCell<R, T>) -> Option<WorkEnd>
     ensures cell { (whole : List ℕ) → IsLinesCell R.left whole cell.old → IsLinesCell R.left whole cell.new }
     ensures counts { (from : ℕ) → HasCounted R.faults_of from cell.old.lines → HasCounted R.faults_of from cell.new.lines }
     ensures lane { cell.new.send.lane ≡ cell.old.send.lane }
     ensures numbers { IsNumbered cell.old → IsNumbered cell.new }
 {
     match cell.read() {
-        Ok(Stepped::Did) => Found::Made,
-        Ok(Stepped::Nothing) => Found::Stopped(WorkEnd::Ended),
-        Err(LineFault::ReadFailed) => Found::Stopped(WorkEnd::ReadFailed),
-        Err(LineFault::NoMemory) => Found::Stopped(WorkEnd::NoMemory),
+        Ok(Stepped::Did) => None,
+        Ok(Stepped::Nothing) => Some(WorkEnd::Ended),
+        Err(LineFault::ReadFailed) => Some(WorkEnd::ReadFailed),
+        Err(LineFault::NoMemory) => Some(WorkEnd::NoMemory),
     }
 }

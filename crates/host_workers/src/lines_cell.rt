@@ -71,6 +71,11 @@ impl<R: Source, T: Wait + Copy> LinesCell<R, T> {
         }
     }
 
+    // Whether the next line is at hand, so that there is nothing to wait for.
+    pub(crate) fn is_ready(&self) -> bool {
+        self.lines.is_ready()
+    }
+
     // Sends a line that was read. Where memory doesn't suffice, it is lost and nothing is read any more.
     fn pass_on(&mut self, line: Line) -> Result<Stepped, LineFault>
         requires { self.old.stopped ≡ false }

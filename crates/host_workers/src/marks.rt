@@ -132,7 +132,8 @@ impl Marks {
         self.end_wait(place);
         match found {
             Found::Nothing => (),
-            Found::Stopped(_) => (),
+            // Lines that were read before their end are for the switch.
+            Found::Stopped(_) => self.follow(place),
             Found::Waits(waits) => self.wait(place, waits),
             Found::Told => self.follow(place),
             Found::Made => self.follow_out(place),

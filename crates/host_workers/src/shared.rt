@@ -4,7 +4,7 @@ ghost use Rattle.host_workers.specs.Board.{IsHeld, empty_places, held_count};
 
 use crate::board::{Board, Look};
 use crate::cells::Held;
-use crate::jobs::{Found, Waited, WorkEnd, work_on};
+use crate::jobs::{Bounds, Found, WorkEnd, work_on};
 use crate::names::Names;
 use do_disk::{Disk, Sink, Source, TurnGate};
 use std::alloc::Global;
@@ -60,7 +60,7 @@ impl<'s, L: Names, D: Disk + Drop, R: Source + Drop, W: Sink + Drop, T: Wait + C
         rt: &T,
         share: &mut Share<L>,
         me: u32,
-    ) -> Result<(Held<'s, D, R, W, T>, Waited), WorkEnd>
+    ) -> Result<(Held<'s, D, R, W, T>, Bounds), WorkEnd>
         requires { 0 < share.old.parts }
         ensures parts { share.new.parts ≡ share.old.parts }
         ensures held { IfOk result (λ taken.
@@ -72,14 +72,14 @@ impl<'s, L: Names, D: Disk + Drop, R: Source + Drop, W: Sink + Drop, T: Wait + C
         for _ in rt.forever() {
             match board.look(me) {
                 Look::Do(job) => {
-                    let waited = board.waited(job);
+                    let bounds = board.bounds(job);
                     let held = board.take(share, job);
                     let calls = board.call_one(me);
                     drop(board);
                     if calls {
                         self.changed.notify_one();
                     }
-                    return Ok((held, waited));
+                    return Ok((held, bounds));
                 }
                 Look::End(end) => {
                     self.changed.notify_all();
@@ -131,8 +131,8 @@ pub fn work<
     let mut share = share;
     for _ in rt.forever() {
         match shared.next(rt, &mut share, me) {
-            Ok((held, waited)) => {
-                let (held, found) = work_on::<L, D, R, W, T, G>(alloc, gate, held, waited);
+            Ok((held, bounds)) => {
+                let (held, found) = work_on::<L, D, R, W, T, G>(alloc, gate, held, bounds);
                 shared.put_back(rt, &mut share, held, found);
             }
             Err(end) => return Worked { end, share },

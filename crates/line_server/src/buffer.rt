@@ -5,12 +5,14 @@ ghost use Rattle.line_server.specs.Given.{CountsReads};
 ghost use Rattle.line_server.specs.Reader.{bytes_of, StartsWith};
 
 use crate::fault::LineFault;
+use crate::raw_line::is_blank;
 use do_disk::{Failed, Source};
 use do_value::{Mem, NoMemory};
 use std::alloc::Global;
 use std::marker::Model;
 
-const BUFFER_BYTES: usize = 4096;
+// How many bytes a read asks for at most.
+const BUFFER_BYTES: usize = 65_536;
 
 // Bytes that were read and not given yet, seen by contracts as their list. It has its memory from the first read on, and not in itself: who
 // moves a reader moves few bytes.
@@ -41,6 +43,19 @@ impl Buffer {
             at: 0,
             end: 0,
         }
+    }
+
+    // Whether it holds a line that isn't blank, with its LF.
+    pub(crate) fn has_line(&self) -> bool {
+        let mut begun = false;
+        for byte in self.bytes[self.at..self.end].iter() {
+            if *byte != b'\n' {
+                begun = begun || !is_blank(*byte);
+            } else if begun {
+                return true;
+            }
+        }
+        false
     }
 
     // The next byte that it holds.

@@ -78,6 +78,11 @@ impl<R: Source> Lines<R> {
         }
     }
 
+    /// Whether a line that isn't blank is at hand as a whole, so that `next` has nothing to wait for. It costs a look at that line.
+    pub fn is_ready(&self) -> bool {
+        self.bytes.buffer.has_line()
+    }
+
     /// How many lines were read, blank ones included.
     pub fn count(&self) -> u64
         ensures value { result ≡ count_of self.now }

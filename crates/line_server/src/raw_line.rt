@@ -72,7 +72,8 @@ fn keep(kept: &mut Vec<u8>, byte: u8) -> Result<(), AllocError>
     Ok(())
 }
 
-fn is_blank(byte: u8) -> bool
+// Whether a line with this byte may still be blank.
+pub(crate) fn is_blank(byte: u8) -> bool
     ensures { result ≡ is_blank_byte byte }
 {
     matches!(byte, b' ' | b'\t' | b'\r')

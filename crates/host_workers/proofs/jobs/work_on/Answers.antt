@@ -41,5 +41,5 @@ returns-in-Lines-clause-held g c =
     g.W.Sink.taken g.W.Sink.faults_of (Lines c.in-Lines.cell) =
     subst (λ (h : Held g.row.D.Denot g.row.R.Denot g.row.W.Denot g.row.T.Denot). IsHeld g.L.Names.names g.D.Disk.moment_of g.D.Disk.left_since g.D.Disk.told
     g.D.Disk.image g.D.Disk.faults_of g.R.Source.left g.R.Source.faults_of g.W.Sink.taken g.W.Sink.faults_of h) c.in-Lines.is c.requires.held in
-    let e = c.read_line-found.ensures in
-    lines_stay g.R.Source.left g.R.Source.faults_of g.L.Names.names c.in-Lines.cell c.read_line-found.new.cell held e.lane e.cell e.counts e.numbers
+    let e = c.read_lines-found.ensures in
+    lines_stay g.R.Source.left g.R.Source.faults_of g.L.Names.names c.in-Lines.cell c.read_lines-found.new.cell held e.lane e.cell e.counts e.numbers
