@@ -4,8 +4,10 @@ ghost use Rattle.do_value.specs.Seen.{tree_of, trees_in};
 ghost use Rattle.script_ops.specs.Calls.{argument};
 ghost use Rattle.script_mean.specs.Storing.{request};
 ghost use Rattle.script_mean.specs.Calls.{handle_wants};
+ghost use Rattle.script_asks.specs.Access.{is_rolled_back};
 ghost use Rattle.script_asks.specs.Requests.{Wants, Asks, AreWithin};
 
+use crate::access::Access;
 use crate::alarm::set_alarm;
 use crate::keys::{delete, get};
 use crate::listing::listed;
@@ -52,7 +54,7 @@ pub fn handle_wants(
     ensures request { Asks (handle_wants rolled call (trees_in args.now)) result }
     ensures within { IfOk result AreWithin }
 {
-    match wanted_of_handle(alloc, rolled, call, args) {
+    match wanted_of_handle(alloc, Access::to_transaction(rolled), call, args) {
         Ok(request) => Ok(request),
         Err(stop) => Err(fault_of(alloc, stop)),
     }
@@ -71,12 +73,12 @@ fn wanted(
     let undefined = Value::Undefined;
     let first = argument(args, 0, &undefined);
     match call {
-        StorageCall::Get => get(alloc, false, first),
-        StorageCall::List => listed(false, first),
+        StorageCall::Get => get(alloc, Access::Open, first),
+        StorageCall::List => listed(Access::Open, first),
         StorageCall::GetAlarm => Ok(Request::Reads(StoreAsk::Alarm)),
         StorageCall::Sync => Ok(Request::Syncs),
-        StorageCall::Put => put(alloc, false, first, argument(args, 1, &undefined)),
-        StorageCall::Delete => delete(alloc, false, first),
+        StorageCall::Put => put(alloc, Access::Open, first, argument(args, 1, &undefined)),
+        StorageCall::Delete => delete(alloc, Access::Open, first),
         StorageCall::DeleteAll => one_write(alloc, Op::DeleteAll, Completed::Nothing),
         StorageCall::SetAlarm => set_alarm(alloc, has_handler, first),
         StorageCall::DeleteAlarm => one_write(alloc, Op::ClearAlarm, Completed::Nothing),
@@ -86,20 +88,20 @@ fn wanted(
 // What a call of a handle is to do, or why it is refused.
 fn wanted_of_handle(
     alloc: Global,
-    rolled: bool,
+    access: Access,
     call: HandleCall,
     args: &[Value],
 ) -> Result<Request, Stop>
-    ensures request { Wants (handle_wants rolled call (trees_in args.now)) result }
+    ensures request { Wants (handle_wants (is_rolled_back access) call (trees_in args.now)) result }
     ensures within { IfOk result AreWithin }
 {
     let undefined = Value::Undefined;
     let first = argument(args, 0, &undefined);
     match call {
-        HandleCall::Get => get(alloc, rolled, first),
-        HandleCall::List => listed(rolled, first),
-        HandleCall::Put => put(alloc, rolled, first, argument(args, 1, &undefined)),
-        HandleCall::Delete => delete(alloc, rolled, first),
+        HandleCall::Get => get(alloc, access, first),
+        HandleCall::List => listed(access, first),
+        HandleCall::Put => put(alloc, access, first, argument(args, 1, &undefined)),
+        HandleCall::Delete => delete(alloc, access, first),
         HandleCall::Rollback => Ok(Request::Syncs),
     }
 }

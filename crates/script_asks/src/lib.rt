@@ -1,6 +1,7 @@
 //! What calls of the storage ask and write, by their arguments, and what the answers give: as the meaning of scripts has it.
 #![tactic(auto)]
 
+mod access;
 mod alarm;
 mod answers;
 mod calls;

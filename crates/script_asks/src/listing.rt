@@ -4,29 +4,31 @@ ghost use Rattle.do_value.specs.Seen.{tree_of};
 ghost use Rattle.do_value.specs.Tree.{pairs_of};
 ghost use Rattle.script_ops.specs.Lists.{fields_of};
 ghost use Rattle.script_mean.specs.Storing.{listed, listed_by, listing, bound_of, limit_of, count_of, is_below_1, option};
+ghost use Rattle.script_asks.specs.Access.{is_rolled_back};
 ghost use Rattle.script_asks.specs.Requests.{Wants, AreWithin};
 ghost use Rattle.script_asks.specs.Values.{Takes};
 
+use crate::access::Access;
 use crate::work::Request;
 use do_value::{Fields, Text, Value};
 use script_ops::{Refusal, Stop, truth};
 use storage_map::{Options, StoreAsk};
 
 /// `list()` and `list(options)`
-pub(crate) fn listed(rolled: bool, of: &Value) -> Result<Request, Stop>
-    ensures request { Wants (listed rolled (tree_of of.now)) result }
+pub(crate) fn listed(access: Access, of: &Value) -> Result<Request, Stop>
+    ensures request { Wants (listed (is_rolled_back access) (tree_of of.now)) result }
     ensures within { IfOk result AreWithin }
 {
     match of {
-        Value::Undefined => listed_all(rolled),
-        Value::Rec(options) => listed_by(rolled, options),
+        Value::Undefined => listed_all(access),
+        Value::Rec(options) => listed_by(access, options),
         _ => Err(Stop::Throws(Refusal::WrongType)),
     }
 }
 
 // `list()`
-fn listed_all(rolled: bool) -> Result<Request, Stop>
-    ensures request { Wants (listing rolled (Some None) (Some None) (Some None) (Some None) false (Some None)) result }
+fn listed_all(access: Access) -> Result<Request, Stop>
+    ensures request { Wants (listing (is_rolled_back access) (Some None) (Some None) (Some None) (Some None) false (Some None)) result }
     ensures within { IfOk result AreWithin }
 {
     let options = Options {
@@ -37,12 +39,12 @@ fn listed_all(rolled: bool) -> Result<Request, Stop>
         reverse: false,
         limit: None,
     };
-    listing(rolled, options, None)
+    listing(access, options, None)
 }
 
 // `list(options)`. Other options are ignored.
-fn listed_by(rolled: bool, given: &Fields) -> Result<Request, Stop>
-    ensures request { Wants (listed_by rolled (fields_of (pairs_of given.now))) result }
+fn listed_by(access: Access, given: &Fields) -> Result<Request, Stop>
+    ensures request { Wants (listed_by (is_rolled_back access) (fields_of (pairs_of given.now))) result }
     ensures within { IfOk result AreWithin }
 {
     let undefined = Value::Undefined;
@@ -55,7 +57,7 @@ fn listed_by(rolled: bool, given: &Fields) -> Result<Request, Stop>
         reverse: truth(option(given, "reverse", &undefined)),
         limit: None,
     };
-    listing(rolled, options, limit)
+    listing(access, options, limit)
 }
 
 // An option by its name, or the value that stands for one that isn't given.
@@ -92,16 +94,16 @@ fn limit_of(value: &Value) -> Result<Option<i64>, Stop>
 }
 
 // The listing by these options, of at most so many pairs.
-fn listing(rolled: bool, options: Options, limit: Option<i64>) -> Result<Request, Stop>
+fn listing(access: Access, options: Options, limit: Option<i64>) -> Result<Request, Stop>
     ensures request { Wants
-        (listing rolled (Some options.start) (Some options.after) (Some options.end) (Some options.prefix) options.reverse (Some limit))
+        (listing (is_rolled_back access) (Some options.start) (Some options.after) (Some options.end) (Some options.prefix) options.reverse (Some limit))
         result }
     ensures within { IfOk result AreWithin }
 {
     if options.start.is_some() && options.after.is_some() {
         return Err(Stop::Throws(Refusal::WrongType));
     }
-    if rolled {
+    if access.is_rolled_back() {
         return Err(Stop::Throws(Refusal::RolledBack));
     }
     let limit = count_of(limit)?;
