@@ -14,6 +14,7 @@ ghost use Rattle.script_mean.specs.Task as task;
 ghost use Rattle.script_mean.specs.Turn as turn;
 ghost use Rattle.script_mean.specs.declared.ask.Ask.TheVariants as asked;
 ghost use Rattle.script_state.specs.Ends.{Does, Goes, IsMade, IsReady};
+ghost use Rattle.script_steps.specs.Paths.{is_present};
 
 use crate::ending::{nowhere, thrown};
 use crate::keys::keys_ask;
@@ -22,7 +23,7 @@ use script_asks::{Completed, Request, handle_call, handle_wants};
 use script_mean::{Ask, HandleCall};
 use script_ops::throw;
 use script_state::{Done, State, Waiting};
-use script_steps::Outcome;
+use script_steps::{Await, Outcome};
 use std::alloc::Global;
 use storage_map::{Op, StoreAsk};
 use storage_txn::TxnFault;
@@ -31,11 +32,11 @@ use storage_txn::TxnFault;
 pub fn call_handle(
     alloc: Global,
     state: &mut State,
-    awaited: bool,
+    awaited: Await,
     name: &str,
     args: &[Value],
 ) -> Mem<Done>
-    ensures same { IfOk result (Does (handle_named awaited name.now (trees_in args.now)) state.old state.new) }
+    ensures same { IfOk result (Does (handle_named (is_present awaited) name.now (trees_in args.now)) state.old state.new) }
     ensures ready { IfOk result (IsReady state.new) }
 {
     match handle_call(name) {
@@ -48,11 +49,11 @@ pub fn call_handle(
 fn do_call(
     alloc: Global,
     state: &mut State,
-    awaited: bool,
+    awaited: Await,
     call: HandleCall,
     args: &[Value],
 ) -> Mem<Done>
-    ensures same { IfOk result (Does (calls.handle_call awaited call (trees_in args.now)) state.old state.new) }
+    ensures same { IfOk result (Does (calls.handle_call (is_present awaited) call (trees_in args.now)) state.old state.new) }
     ensures ready { IfOk result (IsReady state.new) }
 {
     match call {
@@ -62,8 +63,8 @@ fn do_call(
 }
 
 // The operations of the transaction are dropped, and none can be added.
-fn roll_back(alloc: Global, state: &mut State, awaited: bool, args: &[Value]) -> Mem<Done>
-    ensures same { IfOk result (Does (calls.handle_call awaited HandleCall.Rollback (trees_in args.now)) state.old state.new) }
+fn roll_back(alloc: Global, state: &mut State, awaited: Await, args: &[Value]) -> Mem<Done>
+    ensures same { IfOk result (Does (calls.handle_call (is_present awaited) HandleCall.Rollback (trees_in args.now)) state.old state.new) }
     ensures ready { IfOk result (IsReady state.new) }
 {
     let Some(txn) = &mut state.transaction else {
@@ -79,12 +80,12 @@ fn roll_back(alloc: Global, state: &mut State, awaited: bool, args: &[Value]) ->
 fn do_other(
     alloc: Global,
     state: &mut State,
-    awaited: bool,
+    awaited: Await,
     call: HandleCall,
     args: &[Value],
 ) -> Mem<Done>
     requires other { call ≢ HandleCall.Rollback }
-    ensures same { IfOk result (Does (calls.handle_call awaited call (trees_in args.now)) state.old state.new) }
+    ensures same { IfOk result (Does (calls.handle_call (is_present awaited) call (trees_in args.now)) state.old state.new) }
     ensures ready { IfOk result (IsReady state.new) }
 {
     let Some(txn) = &state.transaction else {
@@ -97,12 +98,12 @@ fn do_other(
 }
 
 // What the request says is done.
-fn do_request(alloc: Global, state: &mut State, awaited: bool, request: Request) -> Mem<Done>
+fn do_request(alloc: Global, state: &mut State, awaited: Await, request: Request) -> Mem<Done>
     requires within { AreWithin request }
     requires short { IsShort (request_of request) }
     requires keyed { AreKeyed (request_of request) }
     requires made { IsMade state.old.transaction }
-    ensures same { IfOk result (Does (calls.handle_request awaited (writes_of state.old.transaction) (request_of request)) state.old state.new) }
+    ensures same { IfOk result (Does (calls.handle_request (is_present awaited) (writes_of state.old.transaction) (request_of request)) state.old state.new) }
     ensures ready { IfOk result (IsReady state.new) }
 {
     match request {
@@ -131,7 +132,7 @@ fn read(state: &mut State, ask: StoreAsk) -> Mem<Done>
 fn write(
     alloc: Global,
     state: &mut State,
-    awaited: bool,
+    awaited: Await,
     ops: Vec<Op>,
     gives: Completed,
 ) -> Mem<Done>
@@ -139,13 +140,14 @@ fn write(
     requires keyed { All IsOnKey ops.items }
     requires short { length ops.items ≤ 128 }
     requires made { IsMade state.old.transaction }
-    ensures same { IfOk result (Does (calls.handle_write awaited (writes_of state.old.transaction) ops.items (completed_of gives)) state.old state.new) }
+    ensures same { IfOk result (Does
+        (calls.handle_write (is_present awaited) (writes_of state.old.transaction) ops.items (completed_of gives)) state.old state.new) }
     ensures ready { IfOk result (IsReady state.new) }
 {
-    if awaited {
-        return write_awaited(alloc, state, ops, gives);
+    match awaited {
+        Await::Present => write_awaited(alloc, state, ops, gives),
+        Await::Absent => Ok(Done::Ended(extend(alloc, state, ops)?)),
     }
-    Ok(Done::Ended(extend(alloc, state, ops)?))
 }
 
 // The same of an awaited write.

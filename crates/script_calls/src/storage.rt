@@ -10,13 +10,14 @@ ghost use Rattle.script_mean.specs.Calls.{Calls};
 ghost use Rattle.script_mean.specs.Meaning.{storage_named};
 ghost use Rattle.script_mean.specs.Storing as storing;
 ghost use Rattle.script_state.specs.Ends.{Does, IsReady};
+ghost use Rattle.script_steps.specs.Paths.{is_present};
 
 use crate::ending::{nowhere, thrown};
 use do_value::{Mem, Value};
 use script_asks::{Completed, Request, completed_by, request, storage_call};
 use script_mean::{Ask, StorageCall};
 use script_state::{Done, Gives, State, Waiting};
-use script_steps::Outcome;
+use script_steps::{Await, Outcome};
 use std::alloc::Global;
 use storage_map::{Op, Reading};
 
@@ -25,12 +26,12 @@ pub fn call_storage(
     alloc: Global,
     state: &mut State,
     has_handler: bool,
-    awaited: bool,
+    awaited: Await,
     name: &str,
     args: &[Value],
 ) -> Mem<Done>
     ensures same { IfOk result (λ d. (calls : Calls) → calls.has_handler ≡ has_handler
-        → Does (storage_named calls awaited name.now (trees_in args.now)) state.old state.new d) }
+        → Does (storage_named calls (is_present awaited) name.now (trees_in args.now)) state.old state.new d) }
     ensures ready { IfOk result (IsReady state.new) }
 {
     match storage_call(name) {
@@ -44,11 +45,11 @@ fn store_call(
     alloc: Global,
     state: &mut State,
     has_handler: bool,
-    awaited: bool,
+    awaited: Await,
     call: StorageCall,
     args: &[Value],
 ) -> Mem<Done>
-    ensures same { IfOk result (Does (calls.try_request awaited (storing.request has_handler call (trees_in args.now))) state.old state.new) }
+    ensures same { IfOk result (Does (calls.try_request (is_present awaited) (storing.request has_handler call (trees_in args.now))) state.old state.new) }
     ensures ready { IfOk result (IsReady state.new) }
 {
     match request(alloc, has_handler, call, args) {
@@ -58,10 +59,10 @@ fn store_call(
 }
 
 // What the request says is done.
-fn do_request(alloc: Global, state: &mut State, awaited: bool, request: Request) -> Mem<Done>
+fn do_request(alloc: Global, state: &mut State, awaited: Await, request: Request) -> Mem<Done>
     requires within { AreWithin request }
     requires short { IsShort (request_of request) }
-    ensures same { IfOk result (Does (calls.do_request awaited (request_of request)) state.old state.new) }
+    ensures same { IfOk result (Does (calls.do_request (is_present awaited) (request_of request)) state.old state.new) }
     ensures ready { IfOk result (IsReady state.new) }
 {
     match request {
@@ -75,19 +76,19 @@ fn do_request(alloc: Global, state: &mut State, awaited: bool, request: Request)
 fn do_write(
     alloc: Global,
     state: &mut State,
-    awaited: bool,
+    awaited: Await,
     ops: Vec<Op>,
     gives: Completed,
 ) -> Mem<Done>
     requires within { All IsOp ops.items }
     requires short { length ops.items ≤ 128 }
-    ensures same { IfOk result (Does (calls.do_request awaited (storing.writes ops.items (completed_of gives))) state.old state.new) }
+    ensures same { IfOk result (Does (calls.do_request (is_present awaited) (storing.writes ops.items (completed_of gives))) state.old state.new) }
     ensures ready { IfOk result (IsReady state.new) }
 {
-    if awaited {
-        return write_awaited(alloc, state, ops, gives);
+    match awaited {
+        Await::Present => write_awaited(alloc, state, ops, gives),
+        Await::Absent => Ok(Done::Ended(state.join(alloc, ops)?)),
     }
-    Ok(Done::Ended(state.join(alloc, ops)?))
 }
 
 // The same of an awaited write.

@@ -6,6 +6,7 @@ use Rattle.do_value.specs.declared.value.Value.{Value}
 use Rattle.script_state.specs.declared.state.State.{State}
 use Rattle.script_steps.specs.declared.focus.Focus.{Focus}
 use Rattle.script_steps.specs.declared.focus.Focus.TheVariants as focus
+use Rattle.script_steps.specs.declared.path.Await.{Await}
 use Rattle.script_steps.specs.declared.path.Callee.{Callee}
 use Rattle.script_steps.specs.declared.path.Callee.TheVariants as callee
 use Rattle.script_eval.specs.Acts.{Acts, Changes, Unfolds}
@@ -24,7 +25,7 @@ pub acts_ok : {E : Type 0} (has_handler : Bool) (f g : Focus) (old new : State) 
 acts_ok has_handler f g old new r is p = subst (λ x. IfOk r (Acts has_handler x old new)) (sym is) p
 
 -- A call of a helper is for the machine.
-pub helps_acts : (awaited : Bool) (name : List ℕ) (got : Vec Value Global) (s : State) → Unfolds (focus.Call (callee.Object awaited name) got) s (act.Helps awaited name got)
+pub helps_acts : (awaited : Await) (name : List ℕ) (got : Vec Value Global) (s : State) → Unfolds (focus.Call (callee.Object awaited name) got) s (act.Helps awaited name got)
 helps_acts awaited name got s = λ has_handler. record { same = λ calls are next rs. refl; less = omega arith; ready = tt }
 
 -- A call whose kind is known.

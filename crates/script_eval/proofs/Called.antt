@@ -25,12 +25,13 @@ use Rattle.script_state.specs.Seen.{state_of}
 use Rattle.script_state.specs.declared.done.Done.{Done}
 use Rattle.script_state.specs.declared.done.Done.TheVariants as done
 use Rattle.script_state.specs.declared.state.State.{State}
-use Rattle.script_steps.specs.Paths.{body_of, parameter_of, root_of}
+use Rattle.script_steps.specs.Paths.{body_of, is_present, parameter_of, root_of}
 use Rattle.script_steps.specs.Seen.{outcome_of}
 use Rattle.script_steps.specs.declared.focus.Focus.TheVariants as focus
 use Rattle.script_steps.specs.declared.focus.Outcome.{Outcome}
 use Rattle.script_steps.specs.declared.focus.Outcome.TheVariants as ending
 use Rattle.script_steps.specs.declared.frame.Frame.TheVariants as frame
+use Rattle.script_steps.specs.declared.path.Await.{Await}
 use Rattle.script_steps.specs.declared.path.Callee.TheVariants as callee
 use Rattle.script_steps.specs.declared.path.Root.{Root}
 use Rattle.script_vars.specs.Seen.{env_of}
@@ -41,22 +42,22 @@ use Rattle.script_eval.specs.Acts.{Acts, Changes, Unfolds}
 use Rattle.script_eval.specs.declared.act.Act.TheVariants as act
 
 -- A call of the storage.
-pub storage_acts : (has_handler awaited : Bool) (name : List ℕ) (got : Vec Value Global) (old new : State) (d : Done)
-    → ((calls : Calls) → calls.has_handler ≡ has_handler → Does (storage_named calls awaited name (trees_in got.items)) old new d) → IsReady new d
+pub storage_acts : (has_handler : Bool) (awaited : Await) (name : List ℕ) (got : Vec Value Global) (old new : State) (d : Done)
+    → ((calls : Calls) → calls.has_handler ≡ has_handler → Does (storage_named calls (is_present awaited) name (trees_in got.items)) old new d) → IsReady new d
     → Acts has_handler (focus.Call (callee.Storage awaited name) got) old new (act.Does d)
 storage_acts has_handler awaited name got old new d does ready =
     let some : Calls = record { helper = λ a n vs. nowhere; has_handler = has_handler } in
     record {
       same = λ calls are next rs. does calls are.3 next rs;
-      less = done_less (storage_named some awaited name (trees_in got.items)) 14 old new d (storage_named_keeps some awaited name (trees_in got.items)) (does some refl) (omega arith);
+      less = done_less (storage_named some (is_present awaited) name (trees_in got.items)) 14 old new d (storage_named_keeps some (is_present awaited) name (trees_in got.items)) (does some refl) (omega arith);
       ready = ready;
     }
 
 -- A call of a transaction's handle.
-pub handle_acts : (awaited : Bool) (name : List ℕ) (got : Vec Value Global) (old new : State) (d : Done)
-    → Does (handle_named awaited name (trees_in got.items)) old new d → IsReady new d → Changes (focus.Call (callee.Handle awaited name) got) old new (act.Does d)
+pub handle_acts : (awaited : Await) (name : List ℕ) (got : Vec Value Global) (old new : State) (d : Done)
+    → Does (handle_named (is_present awaited) name (trees_in got.items)) old new d → IsReady new d → Changes (focus.Call (callee.Handle awaited name) got) old new (act.Does d)
 handle_acts awaited name got old new d does ready =
-    done_acts (handle_named awaited name (trees_in got.items)) (focus.Call (callee.Handle awaited name) got) old new d (handle_named_keeps awaited name (trees_in got.items)) (λ calls. refl) (omega arith) does ready
+    done_acts (handle_named (is_present awaited) name (trees_in got.items)) (focus.Call (callee.Handle awaited name) got) old new d (handle_named_keeps (is_present awaited) name (trees_in got.items)) (λ calls. refl) (omega arith) does ready
 
 -- A call of a value.
 pub value_acts : (name : List ℕ) (got : Vec Value Global) (s : State) (o : Outcome)
@@ -119,15 +120,15 @@ opened_left old new opens =
     left_kept (block false (ends broke)) old (record new { block = false }) ending.Broke (block_keeps false (ends_keeps broke)) (λ next rs. opens false (ends broke) next rs)
 
 -- A block's body is run,
-pub block_acts : (awaited : Bool) (c : Arc Callback Global) (got : Vec Value Global) (old begun new : State) (vars : List (List (List ℕ × Bound))) (b : Arc Block Global)
+pub block_acts : (awaited : Await) (c : Arc Callback Global) (got : Vec Value Global) (old begun new : State) (vars : List (List (List ℕ × Bound))) (b : Arc Block Global)
     → Opens old begun None → new ≡ record begun { vars = vars } → env_of vars ≡ [] ∷ env_of begun.vars → b.value ≡ (out-Callback c.value).body.value
     → Changes (focus.Call (callee.Block awaited c) got) old new (act.Enters (frame.Unblock awaited) (focus.Body b 0))
 block_acts awaited c got old begun new vars b opens is entered bt = λ has_handler. record {
   same = λ calls are next rs.
-      opens awaited (within [] (body calls (body_of c.value))) next rs
-      ∙ ap (λ e. body calls (body_of c.value) e (leaving (on_block awaited next)) (state_of begun rs)) (sym entered)
-      ∙ ap (λ (s : State). body calls (body_of c.value) (env_of s.vars) (leaving (on_block awaited next)) (state_of s rs)) (sym is)
-      ∙ ap (λ x. body calls x (env_of new.vars) (leaving (on_block awaited next)) (state_of new rs)) (sym (ap block_in bt ∙ body_seen c.value));
+      opens (is_present awaited) (within [] (body calls (body_of c.value))) next rs
+      ∙ ap (λ e. body calls (body_of c.value) e (leaving (on_block (is_present awaited) next)) (state_of begun rs)) (sym entered)
+      ∙ ap (λ (s : State). body calls (body_of c.value) (env_of s.vars) (leaving (on_block (is_present awaited) next)) (state_of s rs)) (sym is)
+      ∙ ap (λ x. body calls x (env_of new.vars) (leaving (on_block (is_present awaited) next)) (state_of new rs)) (sym (ap block_in bt ∙ body_seen c.value));
   less =
       let fewer : new.left ≡ begun.left = ap (λ (s : State). s.left) is in
       let same = opened_left old begun opens in
@@ -136,10 +137,10 @@ block_acts awaited c got old begun new vars b opens is entered bt = λ has_handl
 }
 
 -- or refused.
-pub refused_acts : (awaited : Bool) (c : Arc Callback Global) (got : Vec Value Global) (old new : State) (o : Outcome) → Opens old new (Some o)
+pub refused_acts : (awaited : Await) (c : Arc Callback Global) (got : Vec Value Global) (old new : State) (o : Outcome) → Opens old new (Some o)
     → Changes (focus.Call (callee.Block awaited c) got) old new (act.Does (done.Ended o))
 refused_acts awaited c got old new o opens = λ has_handler. record {
-  same = λ calls are next rs. opens awaited (within [] (body calls (body_of c.value))) next rs;
-  less = done_less (block awaited (ends broke)) 14 old new (done.Ended o) (block_keeps awaited (ends_keeps broke)) (λ next rs. opens awaited (ends broke) next rs) (omega arith);
+  same = λ calls are next rs. opens (is_present awaited) (within [] (body calls (body_of c.value))) next rs;
+  less = done_less (block (is_present awaited) (ends broke)) 14 old new (done.Ended o) (block_keeps (is_present awaited) (ends_keeps broke)) (λ next rs. opens (is_present awaited) (ends broke) next rs) (omega arith);
   ready = tt;
 }

@@ -1,5 +1,5 @@
 -- Parts that are done at once.
-use Rattle.std.proofs.Common.{◌≡◌, ℕ, ◌-◌, ◌<◌, ◌≤◌, Bool, List, [], ◌∷◌, refl, sym, ap, ◌∙◌, arith}
+use Rattle.std.proofs.Common.{◌≡◌, ℕ, ◌-◌, ◌<◌, ◌≤◌, List, [], ◌∷◌, refl, sym, ap, ◌∙◌, arith}
 use Rattle.std.specs.declared.sync.Arc.{Arc}
 use Rattle.std.specs.declared.alloc.Global.{Global}
 use Rattle.std.specs.declared.vec.Vec.{Vec}
@@ -27,12 +27,13 @@ use Rattle.script_state.specs.declared.done.Done.{Done}
 use Rattle.script_state.specs.declared.done.Done.TheVariants as done
 use Rattle.script_state.specs.declared.state.State.{State}
 use Rattle.script_steps.specs.Parts.{declared_in, items_from, name_of}
-use Rattle.script_steps.specs.Paths.{root_of}
+use Rattle.script_steps.specs.Paths.{is_present, root_of}
 use Rattle.script_steps.specs.Seen.{committing, focus_run, outcome_of, returned_to, unblocking, variable_of}
 use Rattle.script_steps.specs.Weight.{focus_weight}
 use Rattle.script_steps.specs.declared.focus.Focus.{Focus}
 use Rattle.script_steps.specs.declared.focus.Focus.TheVariants as focus
 use Rattle.script_steps.specs.declared.focus.Outcome.{Outcome}
+use Rattle.script_steps.specs.declared.path.Await.{Await}
 use Rattle.script_steps.specs.declared.path.Root.{Root}
 use Rattle.script_vars.specs.Seen.{env_of}
 use Rattle.script_vars.specs.declared.bound.Bound.{Bound}
@@ -112,11 +113,11 @@ assign_acts r ss v old new o goes =
     done_acts (write (root_of r) (steps_in ss.items) (put (tree_of v))) (focus.Assign r ss v) old new (done.Ended o) (write_keeps (root_of r) (steps_in ss.items) (put (tree_of v))) (λ calls. refl) (omega arith) goes tt
 
 -- The end of a helper,
-pub back_acts : (awaited : Bool) (caller : List (List (List ℕ × Bound))) (e : Outcome) (old new : State) (o : Outcome)
-    → Goes (returned_to awaited (env_of caller) (outcome_of e)) old new o → Changes (focus.Return awaited caller e) old new (act.Does (done.Ended o))
+pub back_acts : (awaited : Await) (caller : List (List (List ℕ × Bound))) (e : Outcome) (old new : State) (o : Outcome)
+    → Goes (returned_to (is_present awaited) (env_of caller) (outcome_of e)) old new o → Changes (focus.Return awaited caller e) old new (act.Does (done.Ended o))
 back_acts awaited caller e old new o goes =
-    done_acts (returned_to awaited (env_of caller) (outcome_of e)) (focus.Return awaited caller e) old new (done.Ended o)
-    (record { by = λ limit env next next' st less kept. (to_caller_keeps awaited (env_of caller) kept).by (outcome_of e) env st less }) (λ calls. refl) (omega arith) goes tt
+    done_acts (returned_to (is_present awaited) (env_of caller) (outcome_of e)) (focus.Return awaited caller e) old new (done.Ended o)
+    (record { by = λ limit env next next' st less kept. (to_caller_keeps (is_present awaited) (env_of caller) kept).by (outcome_of e) env st less }) (λ calls. refl) (omega arith) goes tt
 
 -- of a transaction,
 pub commit_acts : (e : Outcome) (old new : State) (d : Done) → Does (committing (outcome_of e)) old new d → IsReady new d
@@ -126,8 +127,8 @@ commit_acts e old new d does ready =
     (record { by = λ limit env next next' st less kept. (on_transaction_keeps kept).by (outcome_of e) env st less }) (λ calls. refl) (omega arith) does ready
 
 -- and of a block.
-pub unblock_acts : (awaited : Bool) (e : Outcome) (old new : State) (d : Done) → Does (unblocking awaited (outcome_of e)) old new d → IsReady new d
+pub unblock_acts : (awaited : Await) (e : Outcome) (old new : State) (d : Done) → Does (unblocking (is_present awaited) (outcome_of e)) old new d → IsReady new d
     → Changes (focus.Unblock awaited e) old new (act.Does d)
 unblock_acts awaited e old new d does ready =
-    done_acts (unblocking awaited (outcome_of e)) (focus.Unblock awaited e) old new d
-    (record { by = λ limit env next next' st less kept. (on_block_keeps awaited kept).by (outcome_of e) env st less }) (λ calls. refl) (omega arith) does ready
+    done_acts (unblocking (is_present awaited) (outcome_of e)) (focus.Unblock awaited e) old new d
+    (record { by = λ limit env next next' st less kept. (on_block_keeps (is_present awaited) kept).by (outcome_of e) env st less }) (λ calls. refl) (omega arith) does ready

@@ -1,5 +1,5 @@
 -- Helpers, looked up and called as the code does that.
-use Rattle.std.proofs.Common.{◌≡◌, ℕ, ◌+◌, Bool, List, [], ◌∷◌, Option, Some, None, refl, sym, ap, ◌∙◌, subst}
+use Rattle.std.proofs.Common.{◌≡◌, ℕ, ◌+◌, List, [], ◌∷◌, Option, Some, None, refl, sym, ap, ◌∙◌, subst}
 use Rattle.std.specs.Prelude.{option_map}
 use Rattle.std.specs.List.{find}
 use Rattle.std.specs.declared.alloc.Global.{Global}
@@ -15,6 +15,7 @@ use Rattle.do_value.specs.declared.value.Value.{Value}
 use Rattle.script_mean.specs.Meaning.{method_in, method_scope}
 use Rattle.script_steps.specs.declared.focus.Focus.{Focus}
 use Rattle.script_steps.specs.declared.focus.Focus.TheVariants as focus
+use Rattle.script_steps.specs.declared.path.Await.{Await}
 use Rattle.script_eval.specs.declared.frames.Layer.{Layer}
 use Rattle.script_eval.specs.declared.frames.Layer.TheVariants as layer
 use Rattle.script_vars.specs.Seen.{env_of}
@@ -47,7 +48,7 @@ abbrev deeper : Machine → List (List (List ℕ × Bound)) → List Layer → M
 deeper m vars fs = record m { state = record m.state { vars = vars }; frames = fs; depth = m.depth + 1 }
 
 -- The body of a helper is next.
-pub called_body : (f : Method) (awaited : Bool) (args : Vec Value Global) (old : Machine) (vars after caller : List (List (List ℕ × Bound))) (b : Arc Block Global) (fs : List Layer)
+pub called_body : (f : Method) (awaited : Await) (args : Vec Value Global) (old : Machine) (vars after caller : List (List (List ℕ × Bound))) (b : Arc Block Global) (fs : List Layer)
     → after ≡ vars → caller ≡ old.state.vars → fs ≡ layer.Caller awaited caller ∷ old.frames → b.value ≡ f.body.value
     → env_of vars ≡ method_scope (method_of f) (trees_in args.items) ∷ []
     → Calls f awaited args old (record old { state = record old.state { vars = after }; frames = fs; depth = old.depth + 1 }) (leads.On (focus.Body b 0))
@@ -62,6 +63,6 @@ called_body f awaited args old vars after caller b fs is_after is_caller is_fs b
 )
 
 -- The same where the body was put.
-pub put_calls : (f : Method) (awaited : Bool) (args : Vec Value Global) (old new : Machine) (g h : Focus) → h ≡ g → Calls f awaited args old new (leads.On g)
+pub put_calls : (f : Method) (awaited : Await) (args : Vec Value Global) (old new : Machine) (g h : Focus) → h ≡ g → Calls f awaited args old new (leads.On g)
     → Calls f awaited args old new (leads.On h)
 put_calls f awaited args old new g h is calls = subst (λ x. Calls f awaited args old new (leads.On x)) (sym is) calls

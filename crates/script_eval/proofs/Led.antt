@@ -25,7 +25,7 @@ use Rattle.script_mean.specs.Turn as turn
 use Rattle.script_state.specs.Seen.{state_of}
 use Rattle.script_state.specs.declared.done.Done.TheVariants as done
 use Rattle.script_state.specs.declared.state.State.{State}
-use Rattle.script_steps.specs.Paths.{path_frame_of}
+use Rattle.script_steps.specs.Paths.{is_present, path_frame_of}
 use Rattle.script_steps.specs.Seen.{focus_run, frame_of, framed, handed, move_run, outcome_of}
 use Rattle.script_steps.specs.Weight.{LeavesLess, focus_weight, frame_weight, move_cost}
 use Rattle.script_steps.specs.declared.focus.Focus.{Focus}
@@ -36,6 +36,7 @@ use Rattle.script_steps.specs.declared.focus.Outcome.{Outcome}
 use Rattle.script_steps.specs.declared.focus.Outcome.TheVariants as ending
 use Rattle.script_steps.specs.declared.frame.Frame.{Frame as Waiting}
 use Rattle.script_steps.specs.declared.frame.Frame.TheVariants as frame
+use Rattle.script_steps.specs.declared.path.Await.{Await}
 use Rattle.script_steps.specs.declared.path.PathFrame.{PathFrame}
 use Rattle.script_steps.specs.declared.path.PathFrame.TheVariants as path
 use Rattle.script_vars.specs.Seen.{env_of}
@@ -173,7 +174,7 @@ pop_leads old popped new w o m n frames kept same less led class before below =
     }
 
 -- A helper's body has ended: its caller goes on with its own variables.
-pub return_leads : (old new : Machine) (awaited : Bool) (vars : List (List (List ℕ × Bound))) (fs : List Layer) (o : Outcome) → IsDeep old
+pub return_leads : (old new : Machine) (awaited : Await) (vars : List (List (List ℕ × Bound))) (fs : List Layer) (o : Outcome) → IsDeep old
     → old.frames ≡ layer.Caller awaited vars ∷ fs → new ≡ record old { frames = fs; depth = old.depth - 1 }
     → (class : Class) → Finishes class o old new (leads.On (focus.Return awaited vars o))
 return_leads old new awaited vars fs o deep frames is class before below =
@@ -192,7 +193,7 @@ return_leads old new awaited vars fs o deep frames is class before below =
     }
 
 -- The count without the innermost layer, a caller
-pub popped_caller : (awaited : Bool) (vars : List (List (List ℕ × Bound))) (depth : ℕ) (all fs : List Layer) → depth ≡ callers (frames_of all) → all ≡ layer.Caller awaited vars ∷ fs → depth ≡ suc (callers (frames_of fs))
+pub popped_caller : (awaited : Await) (vars : List (List (List ℕ × Bound))) (depth : ℕ) (all fs : List Layer) → depth ≡ callers (frames_of all) → all ≡ layer.Caller awaited vars ∷ fs → depth ≡ suc (callers (frames_of fs))
 popped_caller awaited vars depth all fs deep is = deep ∙ ap (λ ls. callers (frames_of ls)) is
 
 -- or none.
@@ -234,14 +235,14 @@ step_leads class has_handler f old mid new s a n handler is acts led =
     }
 
 -- A helper call that is too deep throws.
-pub deep_leads : (class : Class) (m : Machine) (awaited : Bool) (name : List ℕ) (args : Vec Value Global) (v : Value) → IsDeep m → 64 ≤ m.depth → tree_of v ≡ nested_too_deep
+pub deep_leads : (class : Class) (m : Machine) (awaited : Await) (name : List ℕ) (args : Vec Value Global) (v : Value) → IsDeep m → 64 ≤ m.depth → tree_of v ≡ nested_too_deep
     → Applies class (act.Helps awaited name args) m m (leads.On (focus.Ended (ending.Threw v)))
 unfolding most_helpers
 deep_leads class m awaited name args v deep limit is before below ready =
     let none : most_helpers - callers (frames_of m.frames) ≡ 0 = omega (arith, deep, limit) in
     record {
       same = λ starts rs.
-          ap (λ n. (calls_of class n).helper awaited name (trees_in args.items) (env_of m.state.vars) (next_in class starts m.frames) (state_of m.state rs)) none
+          ap (λ n. (calls_of class n).helper (is_present awaited) name (trees_in args.items) (env_of m.state.vars) (next_in class starts m.frames) (state_of m.state rs)) none
           ∙ ap (λ t. next_in class starts m.frames (threw t) (env_of m.state.vars) (state_of m.state rs)) (sym is);
       deep = deep;
       less = omega (arith, below);
@@ -274,13 +275,13 @@ helper_turns class m awaited name args o deep limit is starts rs =
     ∙ ap (λ x. helped (body (calls_of class (most_helpers - suc (callers (frames_of m.frames))))) awaited x (trees_in args.items) (env_of m.state.vars) (next_in class starts m.frames) (state_of m.state rs)) is
 
 -- A name that no method has.
-pub missing_leads : (class : Class) (m : Machine) (awaited : Bool) (name : List ℕ) (args : Vec Value Global) → IsDeep m → m.depth < 64 → method_in class name ≡ None
+pub missing_leads : (class : Class) (m : Machine) (awaited : Await) (name : List ℕ) (args : Vec Value Global) → IsDeep m → m.depth < 64 → method_in class name ≡ None
     → Applies class (act.Helps awaited name args) m m (leads.On (focus.Ended (ending.Threw Undefined)))
 missing_leads class m awaited name args deep limit is before below ready =
-    record { same = λ starts rs. helper_turns class m awaited name args None deep limit is starts rs; deep = deep; less = omega (arith, below); ready = tt }
+    record { same = λ starts rs. helper_turns class m (is_present awaited) name args None deep limit is starts rs; deep = deep; less = omega (arith, below); ready = tt }
 
 -- The body of a helper is run.
-pub call_leads : (class : Class) (old new : Machine) (awaited : Bool) (name : List ℕ) (args : Vec Value Global) (f : Method) (n : Leads)
+pub call_leads : (class : Class) (old new : Machine) (awaited : Await) (name : List ℕ) (args : Vec Value Global) (f : Method) (n : Leads)
     → IsDeep old → old.depth < 64 → method_in class name ≡ Some (method_of f) → Calls f awaited args old new n
     → Applies class (act.Helps awaited name args) old new n
 call_leads class old new awaited name args f n deep limit is c before below ready =
@@ -291,9 +292,9 @@ call_leads class old new awaited name args f n deep limit is c before below read
     let left = calls_of class (most_helpers - suc (callers (frames_of old.frames))) in
     let led : LeadsTo class (λ starts rs. act_turns (calls_in class old.frames) (act.Helps awaited name args) old.state (next_in class starts old.frames) rs) before next (leads.On (focus.Body b 0)) = record {
       same = λ starts rs.
-          helper_turns class old awaited name args (Some (method_of f)) deep limit is starts rs
-          ∙ ap (λ x. body left (block_in x) (method_scope (method_of f) (trees_in args.items) ∷ []) (to_caller awaited (env_of old.state.vars) (next_in class starts old.frames)) (state_of old.state rs)) (sym c.3)
-          ∙ ap (λ e. body left (block_in b.value) e (to_caller awaited (env_of old.state.vars) (next_in class starts old.frames)) (state_of old.state rs)) (sym c.4);
+          helper_turns class old (is_present awaited) name args (Some (method_of f)) deep limit is starts rs
+          ∙ ap (λ x. body left (block_in x) (method_scope (method_of f) (trees_in args.items) ∷ []) (to_caller (is_present awaited) (env_of old.state.vars) (next_in class starts old.frames)) (state_of old.state rs)) (sym c.3)
+          ∙ ap (λ e. body left (block_in b.value) e (to_caller (is_present awaited) (env_of old.state.vars) (next_in class starts old.frames)) (state_of old.state rs)) (sym c.4);
       deep = omega (arith, deep);
       less = less;
       ready = tt;

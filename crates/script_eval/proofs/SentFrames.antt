@@ -11,6 +11,7 @@ use Rattle.script_steps.specs.contracts.path.Callee as Callee
 use Rattle.script_steps.specs.contracts.path.PathFrame as PathFrame
 use Rattle.script_steps.specs.contracts.frame.Between as Between
 use Rattle.script_steps.specs.contracts.frame.Frame as Frame
+use Rattle.script_steps.proofs.path.Await.TheSendSync as await
 use Rattle.script_steps.proofs.path.Root.TheSendSync as root
 use Rattle.script_eval.proofs.SentNodes.{list, list_send, shared_expr, shared_callback, shared_stmt, shared_block, shared_simple, value_send, a_text, some_items, some_values}
 
@@ -25,7 +26,7 @@ pub writing_send : IsSend Writing.the_row
 writing_send = variants_send Writing.enum (search (tt, plain_send, as_row_send, shared_expr, binop.the_send))
 
 -- what most fields of paths and frames are
-ruleset parts = (tt, shared_expr, shared_callback, a_text, value_send, root.the_send, some_steps, plain_send, as_row_send)
+ruleset parts = (tt, shared_expr, shared_callback, a_text, value_send, await.the_send, root.the_send, some_steps, plain_send, as_row_send)
 
 pub callee_send : IsSend Callee.the_row
 callee_send = variants_send Callee.enum (search parts depth 40 fits 10000)

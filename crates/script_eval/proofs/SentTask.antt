@@ -12,6 +12,7 @@ use Rattle.storage_txn.specs.contracts.txn.Txn as Txn
 use Rattle.script_vars.specs.contracts.bound.Bound as Bound
 use Rattle.script_vars.specs.contracts.vars.Vars as Vars
 use Rattle.script_asks.proofs.work.Completed.TheSendSync as completed
+use Rattle.script_steps.proofs.path.Await.TheSendSync as await
 use Rattle.script_state.specs.contracts.waiting.Gives as Gives
 use Rattle.script_state.specs.contracts.waiting.Waiting as Waiting
 use Rattle.script_eval.specs.contracts.frames.Frames as Frames
@@ -46,7 +47,7 @@ vars_kept : IsSend (as_row Vars.the_field)
 vars_kept = as_row_send Vars.the_field vars_send
 
 layer_send : IsSend Layer.the_row
-layer_send = variants_send Layer.enum (search (tt, as_row_send, plain_send, frame_send, vars_kept))
+layer_send = variants_send Layer.enum (search (tt, as_row_send, await.the_send, frame_send, vars_kept))
 
 pub frames_send : IsSend Frames.the_row
 frames_send = search (sendable, crosses, layer_send) depth 20

@@ -12,6 +12,7 @@ use Rattle.script_state.specs.Ends.{IsReady, turns_after}
 use Rattle.script_state.specs.Seen.{state_of}
 use Rattle.script_state.specs.declared.done.Done.TheVariants as done
 use Rattle.script_state.specs.declared.state.State.{State}
+use Rattle.script_steps.specs.Paths.{is_present}
 use Rattle.script_steps.specs.Seen.{focus_run, frame_of, framed, move_run}
 use Rattle.script_steps.specs.Weight.{step_pays, ended_weight, focus_weight, frame_weight, move_cost, move_weight}
 use Rattle.script_steps.specs.declared.focus.Focus.{Focus}
@@ -28,7 +29,7 @@ abbrev pub act_turns : Calls → Act → State → Next → List Resume → List
 act_turns calls (act.Moves m) s next rs = move_run calls m (env_of s.vars) next (state_of s rs)
 act_turns calls (act.Enters w f) s next rs = framed calls (frame_of w) (framed calls to_leave (focus_run calls f)) (env_of s.vars) next (state_of s rs)
 act_turns calls (act.Does d) s next rs = turns_after d s next rs
-act_turns calls (act.Helps awaited name args) s next rs = calls.helper awaited name (trees_in args.items) (env_of s.vars) next (state_of s rs)
+act_turns calls (act.Helps awaited name args) s next rs = calls.helper (is_present awaited) name (trees_in args.items) (env_of s.vars) next (state_of s rs)
 
 -- How much is left to do.
 abbrev pub act_weight : Act → ℕ

@@ -18,11 +18,13 @@ use Rattle.script_mean.specs.Turn.{Next}
 use Rattle.script_state.specs.Ends.{IsOpenFor, turns_after}
 use Rattle.script_state.specs.Seen.{state_of, wait_of}
 use Rattle.script_state.specs.declared.done.Done.TheVariants as done
+use Rattle.script_steps.specs.Paths.{is_present}
 use Rattle.script_steps.specs.Seen.{focus_run, frame_of, outcome_of}
 use Rattle.script_steps.specs.Weight.{step_pays, focus_weight, frame_weight}
 use Rattle.script_steps.specs.declared.focus.Focus.{Focus}
 use Rattle.script_steps.specs.declared.focus.Focus.TheVariants as focus
 use Rattle.script_steps.specs.declared.focus.Outcome.{Outcome}
+use Rattle.script_steps.specs.declared.path.Await.{Await}
 use Rattle.script_vars.specs.Seen.{env_of}
 use Rattle.script_vars.specs.declared.bound.Bound.{Bound}
 use Rattle.script_eval.specs.Acts.{IsReadyAct, act_cost, act_turns, act_weight}
@@ -41,7 +43,7 @@ use Rattle.script_eval.specs.Leads.{Leads}
 -- What is around the part that runs, as the definition has it,
 abbrev pub layer_of : Layer → Frame
 layer_of (layer.Inner w) = frame_of w
-layer_of (layer.Caller awaited vars) = to_caller_of awaited (env_of vars)
+layer_of (layer.Caller awaited vars) = to_caller_of (is_present awaited) (env_of vars)
 
 -- innermost first.
 abbrev pub frames_of : List Layer → List Frame
@@ -149,7 +151,7 @@ pub record Runs (class : Class) (f : Focus) (old new : Machine) (s : Stop) : Typ
   pub ready : IsReadyStop new s
 
 -- The body of this method is next, with variables of its own; its caller waits with those that it had.
-abbrev pub Calls : Method → Bool → Vec Value Global → Machine → Machine → Leads → Type 0
+abbrev pub Calls : Method → Await → Vec Value Global → Machine → Machine → Leads → Type 0
 Calls method awaited args old new n = (vars : List (List (List ℕ × Bound))) × (b : Arc Block Global)
     × (n ≡ leads.On (focus.Body b 0)) × (b.value ≡ method.body.value) × (env_of vars ≡ method_scope (method_of method) (trees_in args.items) ∷ [])
     × (new ≡ record old { state = record old.state { vars = vars }; frames = layer.Caller awaited old.state.vars ∷ old.frames; depth = old.depth + 1 })

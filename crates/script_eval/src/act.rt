@@ -8,7 +8,7 @@ use crate::machine::{Machine, Progress};
 use do_tree::Class;
 use do_value::{Mem, Text, Value};
 use script_state::Done;
-use script_steps::{Focus, Frame, Move};
+use script_steps::{Await, Focus, Frame, Move};
 use std::alloc::Global;
 
 /// What was done with a call.
@@ -20,8 +20,8 @@ pub(crate) enum Act {
     Enters(Frame, Focus),
     /// It was done at once.
     Does(Done),
-    /// It calls this helper. The flag tells that the call is awaited.
-    Helps(bool, Text, Vec<Value>),
+    /// It calls this helper.
+    Helps(Await, Text, Vec<Value>),
 }
 
 impl Machine {

@@ -14,7 +14,7 @@ use script_calls::{call_handle, call_object, call_owner, call_storage, call_valu
 use script_paths::{identified, instance};
 use script_places::Step;
 use script_state::{Done, State, enter_callback};
-use script_steps::{Callee, Focus, Frame, Root};
+use script_steps::{Await, Callee, Focus, Frame, Root};
 use std::alloc::Global;
 use std::sync::Arc;
 
@@ -54,7 +54,7 @@ fn storage(
     alloc: Global,
     state: &mut State,
     has_handler: bool,
-    awaited: bool,
+    awaited: Await,
     name: Text,
     got: Vec<Value>,
 ) -> Mem<Act>
@@ -64,7 +64,7 @@ fn storage(
 }
 
 /// A call of a method of a transaction's handle.
-fn handle(alloc: Global, state: &mut State, awaited: bool, name: Text, got: Vec<Value>) -> Mem<Act>
+fn handle(alloc: Global, state: &mut State, awaited: Await, name: Text, got: Vec<Value>) -> Mem<Act>
     ensures { IfOk result (Changes (Focus.Call (Callee.Handle awaited name) got) state.old state.new) }
 {
     Ok(Act::Does(call_handle(alloc, state, awaited, name.as_str(), &got)?))
@@ -72,7 +72,7 @@ fn handle(alloc: Global, state: &mut State, awaited: bool, name: Text, got: Vec<
 
 /// A call of a helper, which is the machine's.
 #[tactic(auto, using(crate::proofs::Acted::helps_acts))]
-fn helper(state: &State, awaited: bool, name: Text, got: Vec<Value>) -> Act
+fn helper(state: &State, awaited: Await, name: Text, got: Vec<Value>) -> Act
     ensures { Unfolds (Focus.Call (Callee.Object awaited name) got) state.now result }
 {
     Act::Helps(awaited, name, got)
@@ -83,7 +83,7 @@ fn helper(state: &State, awaited: bool, name: Text, got: Vec<Value>) -> Act
 fn identifier(
     alloc: Global,
     state: &State,
-    awaited: bool,
+    awaited: Await,
     class: Text,
     node: Arc<Expr>,
     link: usize,
@@ -100,7 +100,7 @@ fn identifier(
 fn object(
     alloc: Global,
     state: &State,
-    awaited: bool,
+    awaited: Await,
     class: Text,
     name: Value,
     node: Arc<Expr>,
@@ -173,7 +173,7 @@ fn transaction(
 fn block(
     alloc: Global,
     state: &mut State,
-    awaited: bool,
+    awaited: Await,
     callback: Arc<Callback>,
     dropped: Vec<Value>,
 ) -> Mem<Act>

@@ -4,7 +4,7 @@ ghost use Rattle.script_eval.specs.Machines.{IsDeep, StepsFrom, leads_of};
 
 use crate::machine::{Machine, Progress};
 use do_value::Mem;
-use script_steps::{Focus, Outcome};
+use script_steps::{Await, Focus, Outcome};
 use script_vars::Vars;
 use std::alloc::Global;
 
@@ -13,7 +13,7 @@ impl Machine {
     pub(crate) fn return_to(
         &mut self,
         alloc: Global,
-        awaited: bool,
+        awaited: Await,
         caller: Vars,
         ended: Outcome,
         focus: &mut Focus,
@@ -43,7 +43,7 @@ impl Machine {
     pub(crate) fn unblock(
         &mut self,
         alloc: Global,
-        awaited: bool,
+        awaited: Await,
         ended: Outcome,
         focus: &mut Focus,
     ) -> Mem<Progress>

@@ -2,7 +2,7 @@
 ghost use Rattle.std.specs.Prelude.{◌≡◌, [], ◌∷◌, OnOk, MatchOption};
 
 use do_value::{Mem, NoMemory};
-use script_steps::Frame;
+use script_steps::{Await, Frame};
 use script_vars::Vars;
 use std::alloc::Global;
 use std::marker::Model;
@@ -12,8 +12,8 @@ use std::marker::Model;
 pub enum Layer {
     /// The rest of what the part belongs to.
     Inner(Frame),
-    /// The caller of the helper that the part belongs to, with its variables. The flag tells that the call is awaited.
-    Caller(bool, Vars),
+    /// The caller of the helper that the part belongs to, with its variables.
+    Caller(Await, Vars),
 }
 
 /// A stack of layers. Contracts see the list of them, the innermost first.

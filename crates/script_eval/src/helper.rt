@@ -18,7 +18,7 @@ use do_tree::{Class, Method, MethodKind};
 use do_value::{Mem, NoMemory, Text, Value};
 use script_mean::MOST_HELPERS;
 use script_ops::{OpFault, throw};
-use script_steps::{Focus, Outcome};
+use script_steps::{Await, Focus, Outcome};
 use script_vars::Vars;
 use std::alloc::Global;
 use std::mem;
@@ -59,7 +59,7 @@ impl Machine {
         &mut self,
         alloc: Global,
         class: &Class,
-        awaited: bool,
+        awaited: Await,
         name: Text,
         args: Vec<Value>,
         focus: &mut Focus,
@@ -86,7 +86,7 @@ impl Machine {
         &mut self,
         alloc: Global,
         method: &Method,
-        awaited: bool,
+        awaited: Await,
         args: Vec<Value>,
         focus: &mut Focus,
     ) -> Mem<Progress>

@@ -9,8 +9,8 @@ use script_mean::laws::loops_unfold;
 use script_paths::{arguments, begin, begin_write, hand_path, place, push, walk, written};
 use script_places::Step;
 use script_steps::{
-    Between, Callee, Focus, PathFrame, Point, Root, Writing, begin_body, begin_loop, begin_run,
-    begin_simple,
+    Await, Between, Callee, Focus, PathFrame, Point, Root, Writing, begin_body, begin_loop,
+    begin_run, begin_simple,
 };
 use std::alloc::Global;
 use std::sync::Arc;
@@ -20,7 +20,7 @@ impl Machine {
     pub(crate) fn unfold_value(
         &mut self,
         alloc: Global,
-        awaited: bool,
+        awaited: Await,
         expr: Arc<Expr>,
         focus: &mut Focus,
     ) -> Mem<Progress>
@@ -128,7 +128,7 @@ impl Machine {
     pub(crate) fn walk_on(
         &mut self,
         alloc: Global,
-        awaited: bool,
+        awaited: Await,
         point: Point,
         node: Arc<Expr>,
         place: usize,

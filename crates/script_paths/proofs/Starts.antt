@@ -28,6 +28,8 @@ use Rattle.script_steps.specs.Parts.{IsBare, IsPlain, links_in, links_of}
 use Rattle.script_steps.specs.Paths.{point_of}
 use Rattle.script_steps.specs.Seen.{charged, framed}
 use Rattle.script_steps.specs.Weight.{LeavesLess, frame_weight, path_frame_weight}
+use Rattle.script_steps.specs.declared.path.Await.{Await}
+use Rattle.script_steps.specs.declared.path.Await.TheVariants as await
 use Rattle.script_steps.specs.declared.path.Point.{Point}
 use Rattle.script_steps.specs.declared.path.Point.TheVariants as come
 use Rattle.script_steps.specs.declared.path.PathFrame.TheVariants as waiting
@@ -158,7 +160,7 @@ module _ (awaited : Bool) (calls : Calls) where
       ∙ ap (λ b. point_path awaited calls (begun_by name b) ls env next st) is
 
 -- What a path leaves where it begins, but for what its steps pay.
-pub point_less : (p : Point) (nd : Arc Expr Global) (ls : Links) (n : ℕ) (awaited : Bool)
+pub point_less : (p : Point) (nd : Arc Expr Global) (ls : Links) (n : ℕ) (awaited : Await)
     → links_of (expr_of nd.value) ≡ ls → n ≡ parts_from (point_of p) ls → LeavesLess 2 (move.Then n (focus.Walk awaited p nd 0))
 point_less come.Itself nd ls n awaited same many =
     let a : parts_of_itself (links_in (expr_of nd.value) 0) ≡ parts_of_itself ls = ap parts_of_itself same in
@@ -200,9 +202,9 @@ parts_are (tree.field n ls) = omega arith
 parts_are (tree.index at e ls) = omega arith
 parts_are (tree.call at args ls) = omega arith
 
-pub other_less : (awaited : Bool) (nd base : Arc Expr Global) (ls : Links) (n : ℕ)
+pub other_less : (awaited : Await) (nd base : Arc Expr Global) (ls : Links) (n : ℕ)
     → links_of (expr_of nd.value) ≡ ls → n ≡ parts_of_value ls → (w : Frame) → frame_weight w ≡ path_frame_weight (waiting.Walk awaited nd 0)
-    → LeavesLess 2 (move.Inside n w (focus.Value false base))
+    → LeavesLess 2 (move.Inside n w (focus.Value await.Absent base))
 other_less awaited nd base ls n same many w weighs =
     let a : parts (links_in (expr_of nd.value) 0) ≡ parts ls = ap parts same in
     let b = parts_are ls in

@@ -9,7 +9,7 @@ ghost use Rattle.script_mean.specs.Turn.{bound};
 ghost use Rattle.script_paths.specs.Onward.{is_path, named_path, path_value, point_path, push_path, value_path};
 ghost use Rattle.script_paths.specs.Reading.{UnfoldsIn};
 ghost use Rattle.script_steps.specs.Parts.{IsBare, links_of};
-ghost use Rattle.script_steps.specs.Paths.{point_of};
+ghost use Rattle.script_steps.specs.Paths.{is_present, point_of};
 ghost use Rattle.script_steps.specs.Seen.{move_run};
 ghost use Rattle.script_steps.specs.Weight.{LeavesLess};
 ghost use Rattle.script_vars.specs.Seen.{bound_of, env_of};
@@ -17,14 +17,16 @@ ghost use Rattle.script_vars.specs.Seen.{bound_of, env_of};
 use crate::counts::{parts_from, parts_of_push, parts_of_value, pushes};
 use do_tree::{Expr, Link};
 use do_value::{Mem, Text};
-use script_steps::{Focus, Move, PathFrame, Point, Root, again, bare, begin_value, path_frame};
+use script_steps::{
+    Await, Focus, Move, PathFrame, Point, Root, again, bare, begin_value, path_frame,
+};
 use script_vars::{Bound, Vars};
 use std::alloc::Global;
 use std::sync::Arc;
 
-/// How an expression begins, with these variables. The flag tells that it is the operand of an await.
-pub fn begin(alloc: Global, awaited: bool, expr: Arc<Expr>, vars: &Vars) -> Mem<Move>
-    ensures same { IfOk result (UnfoldsIn (env_of vars.now) (λ calls. value awaited calls (expr_of expr.value))) }
+/// How an expression begins, with these variables.
+pub fn begin(alloc: Global, awaited: Await, expr: Arc<Expr>, vars: &Vars) -> Mem<Move>
+    ensures same { IfOk result (UnfoldsIn (env_of vars.now) (λ calls. value (is_present awaited) calls (expr_of expr.value))) }
     ensures less { IfOk result (LeavesLess 2) }
 {
     let (awaited, expr) = bare(awaited, expr)?;
@@ -33,9 +35,9 @@ pub fn begin(alloc: Global, awaited: bool, expr: Arc<Expr>, vars: &Vars) -> Mem<
 
 /// The same where the expression has something of its own.
 #[tactic(auto, using(crate::proofs::Links::path_links))]
-fn begin_bare(alloc: Global, awaited: bool, expr: Arc<Expr>, vars: &Vars) -> Mem<Move>
+fn begin_bare(alloc: Global, awaited: Await, expr: Arc<Expr>, vars: &Vars) -> Mem<Move>
     requires { IsBare (expr_of expr.value) }
-    ensures same { IfOk result (UnfoldsIn (env_of vars.now) (λ calls. value awaited calls (expr_of expr.value))) }
+    ensures same { IfOk result (UnfoldsIn (env_of vars.now) (λ calls. value (is_present awaited) calls (expr_of expr.value))) }
     ensures less { IfOk result (LeavesLess 2) }
 {
     match &*expr {
@@ -45,10 +47,10 @@ fn begin_bare(alloc: Global, awaited: bool, expr: Arc<Expr>, vars: &Vars) -> Mem
 }
 
 /// The same where it is no path.
-fn begin_plain(alloc: Global, awaited: bool, expr: &Arc<Expr>) -> Mem<Move>
+fn begin_plain(alloc: Global, awaited: Await, expr: &Arc<Expr>) -> Mem<Move>
     requires plain { is_path (expr_of expr.now.value) ≡ false }
     requires bare { IsBare (expr_of expr.now.value) }
-    ensures same { IfOk result (λ m. (calls : Calls) → value awaited calls (expr_of expr.now.value) ≡ move_run calls m) }
+    ensures same { IfOk result (λ m. (calls : Calls) → value (is_present awaited) calls (expr_of expr.now.value) ≡ move_run calls m) }
     ensures less { IfOk result (LeavesLess 2) }
 {
     begin_value(alloc, awaited, expr)
@@ -57,14 +59,14 @@ fn begin_plain(alloc: Global, awaited: bool, expr: &Arc<Expr>) -> Mem<Move>
 /// How a path begins that has this base and these links.
 fn begin_path(
     alloc: Global,
-    awaited: bool,
+    awaited: Await,
     node: &Arc<Expr>,
     base: &Arc<Expr>,
     links: &[Link],
     vars: &Vars,
 ) -> Mem<Move>
     requires { links_of (expr_of node.now.value) ≡ list_in links.now }
-    ensures same { IfOk result (UnfoldsIn (env_of vars.now) (λ calls. path_value awaited calls (expr_of base.now.value) (list_in links.now))) }
+    ensures same { IfOk result (UnfoldsIn (env_of vars.now) (λ calls. path_value (is_present awaited) calls (expr_of base.now.value) (list_in links.now))) }
     ensures less { IfOk result (LeavesLess 2) }
 {
     match &**base {
@@ -77,33 +79,33 @@ fn begin_path(
 /// How a path begins that another expression begins.
 fn begin_value_path(
     alloc: Global,
-    awaited: bool,
+    awaited: Await,
     node: &Arc<Expr>,
     base: &Arc<Expr>,
     links: &[Link],
 ) -> Mem<Move>
     requires { links_of (expr_of node.now.value) ≡ list_in links.now }
-    ensures same { IfOk result (λ m. (calls : Calls) → value_path awaited calls (expr_of base.now.value) (list_in links.now) ≡ move_run calls m) }
+    ensures same { IfOk result (λ m. (calls : Calls) → value_path (is_present awaited) calls (expr_of base.now.value) (list_in links.now) ≡ move_run calls m) }
     ensures less { IfOk result (LeavesLess 2) }
 {
     let node = again(node)?;
     let base = again(base)?;
     let cost = parts_of_value(links);
     let frame = path_frame(alloc, PathFrame::Walk(awaited, node, 0))?;
-    Ok(Move::Inside(cost, frame, Focus::Value(false, base)))
+    Ok(Move::Inside(cost, frame, Focus::Value(Await::Absent, base)))
 }
 
 /// How a path begins that a name begins: with a push to a place, or with what the name stands for.
 fn begin_named(
     alloc: Global,
-    awaited: bool,
+    awaited: Await,
     node: &Arc<Expr>,
     name: &Text,
     links: &[Link],
     vars: &Vars,
 ) -> Mem<Move>
     requires { links_of (expr_of node.now.value) ≡ list_in links.now }
-    ensures same { IfOk result (UnfoldsIn (env_of vars.now) (λ calls. named_path awaited calls name.now (list_in links.now))) }
+    ensures same { IfOk result (UnfoldsIn (env_of vars.now) (λ calls. named_path (is_present awaited) calls name.now (list_in links.now))) }
     ensures less { IfOk result (LeavesLess 2) }
 {
     if pushes(links) {
@@ -149,9 +151,9 @@ fn begin_push(alloc: Global, node: &Arc<Expr>, name: &Text, links: &[Link]) -> M
 }
 
 /// How a path begins from this point on.
-fn begin_at(awaited: bool, node: &Arc<Expr>, point: Point, links: &[Link]) -> Mem<Move>
+fn begin_at(awaited: Await, node: &Arc<Expr>, point: Point, links: &[Link]) -> Mem<Move>
     requires { links_of (expr_of node.now.value) ≡ list_in links.now }
-    ensures same { IfOk result (λ m. (calls : Calls) → point_path awaited calls (point_of point) (list_in links.now) ≡ move_run calls m) }
+    ensures same { IfOk result (λ m. (calls : Calls) → point_path (is_present awaited) calls (point_of point) (list_in links.now) ≡ move_run calls m) }
     ensures less { IfOk result (LeavesLess 2) }
 {
     let node = again(node)?;

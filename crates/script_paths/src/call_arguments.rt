@@ -12,7 +12,7 @@ ghost use Rattle.script_steps.specs.Weight.{LeavesLess, callee_weight};
 
 use do_tree::{Arg, Expr};
 use do_value::{Mem, Value};
-use script_steps::{Callee, Focus, Move, PathFrame, again, arg_at, path_frame};
+use script_steps::{Await, Callee, Focus, Move, PathFrame, again, arg_at, path_frame};
 use std::alloc::Global;
 use std::sync::Arc;
 
@@ -36,7 +36,7 @@ pub fn arguments(
                 let expr = again(expr)?;
                 let part = PathFrame::Call(callee, got, node, link, place + 1);
                 let frame = path_frame(alloc, part)?;
-                return Ok(Move::Inside(0, frame, Focus::Value(false, expr)));
+                return Ok(Move::Inside(0, frame, Focus::Value(Await::Absent, expr)));
             }
             Some(Arg::Callback(_)) => place += 1,
             None => return Ok(Move::Then(0, Focus::Call(callee, got))),

@@ -9,7 +9,7 @@ ghost use Rattle.script_mean.specs.Paths.{parts_behind_call};
 ghost use Rattle.script_paths.specs.Ahead.{links_seen};
 ghost use Rattle.script_paths.specs.Onward.{called_parts_on, goes_on, object_on};
 ghost use Rattle.script_steps.specs.Parts.{links_in};
-ghost use Rattle.script_steps.specs.Paths.{callee_of};
+ghost use Rattle.script_steps.specs.Paths.{callee_of, is_present};
 ghost use Rattle.script_steps.specs.Seen.{move_run};
 ghost use Rattle.script_steps.specs.Weight.{LeavesLess, callee_weight};
 
@@ -17,7 +17,7 @@ use crate::link::{Ahead, ahead_at};
 use crate::walked::{call_from, nowhere};
 use do_tree::Expr;
 use do_value::{Mem, NoMemory, Text, Value};
-use script_steps::{Callee, Focus, Move, again};
+use script_steps::{Await, Callee, Focus, Move, again};
 use std::alloc::Global;
 use std::sync::Arc;
 
@@ -25,7 +25,7 @@ use std::sync::Arc;
 /// link whose call takes the identifier, and the link that comes next.
 pub fn identified(
     alloc: Global,
-    awaited: bool,
+    awaited: Await,
     class: Text,
     node: Arc<Expr>,
     link: usize,
@@ -56,7 +56,7 @@ fn first(values: &[Value]) -> Mem<Value>
 /// that the object was got with are dropped.
 pub fn instance(
     alloc: Global,
-    awaited: bool,
+    awaited: Await,
     class: Text,
     name: Value,
     node: Arc<Expr>,
@@ -75,7 +75,7 @@ pub fn instance(
 /// The same, by what is next.
 fn object_goes_on(
     alloc: Global,
-    awaited: bool,
+    awaited: Await,
     class: Text,
     name: Value,
     ahead: Ahead,
@@ -84,7 +84,7 @@ fn object_goes_on(
 ) -> Mem<Move>
     requires { place + links_seen ahead < 2 ^ 64 }
     ensures same { IfOk result (λ m. (calls : Calls)
-        → goes_on (object_on awaited calls class (tree_of name)) ahead (expr_of node.value) place ≡ move_run calls m) }
+        → goes_on (object_on (is_present awaited) calls class (tree_of name)) ahead (expr_of node.value) place ≡ move_run calls m) }
     ensures less { IfOk result (LeavesLess (20 + 10 * goes_on called_parts_on ahead (expr_of node.value) place)) }
 {
     match ahead {

@@ -10,6 +10,7 @@ ghost use Rattle.script_mean.specs.Turn.{Run};
 ghost use Rattle.script_paths.specs.Ahead.{first_value, links_seen};
 ghost use Rattle.script_paths.specs.Onward.{class_on, class_parts_on, environment_on, first_call, goes_on, named_by, opened_by, opened_parts_on};
 ghost use Rattle.script_steps.specs.Parts.{args_in, links_in};
+ghost use Rattle.script_steps.specs.Paths.{is_present};
 ghost use Rattle.script_steps.specs.Seen.{move_run};
 ghost use Rattle.script_steps.specs.Weight.{LeavesLess};
 
@@ -18,14 +19,14 @@ use crate::link::{Ahead, ahead_at, links_after};
 use crate::walked::nowhere;
 use do_tree::{Expr, Link};
 use do_value::{Mem, Text};
-use script_steps::{Callee, Focus, Move, Point};
+use script_steps::{Await, Callee, Focus, Move, Point};
 use std::alloc::Global;
 use std::sync::Arc;
 
 /// A path from the environment on: its classes.
-pub(crate) fn from_environment(awaited: bool, node: Arc<Expr>, place: usize) -> Mem<Move>
+pub(crate) fn from_environment(awaited: Await, node: Arc<Expr>, place: usize) -> Mem<Move>
     ensures same { IfOk result (λ m. (calls : Calls)
-        → links awaited calls environment (links_in (expr_of node.value) place) ≡ move_run calls m) }
+        → links (is_present awaited) calls environment (links_in (expr_of node.value) place) ≡ move_run calls m) }
     ensures less { IfOk result (LeavesLess (25 + 10 * parts_behind_two_calls (links_in (expr_of node.value) place))) }
 {
     let ahead = ahead_at(&node, place)?;
@@ -33,10 +34,10 @@ pub(crate) fn from_environment(awaited: bool, node: Arc<Expr>, place: usize) -> 
 }
 
 /// The same, by what is next.
-fn environment_goes_on(awaited: bool, ahead: Ahead, node: Arc<Expr>, place: usize) -> Move
+fn environment_goes_on(awaited: Await, ahead: Ahead, node: Arc<Expr>, place: usize) -> Move
     requires { place + links_seen ahead < 2 ^ 64 }
     ensures same { (calls : Calls)
-        → goes_on (environment_on awaited calls) ahead (expr_of node.value) place ≡ move_run calls result }
+        → goes_on (environment_on (is_present awaited) calls) ahead (expr_of node.value) place ≡ move_run calls result }
     ensures less { LeavesLess (25 + 10 * goes_on class_parts_on ahead (expr_of node.value) place) result }
 {
     match ahead {
@@ -55,13 +56,13 @@ fn environment_goes_on(awaited: bool, ahead: Ahead, node: Arc<Expr>, place: usiz
 /// A path from a class on: an identifier, an object of the class, and the call of a method of it.
 pub(crate) fn from_class(
     alloc: Global,
-    awaited: bool,
+    awaited: Await,
     class: Text,
     node: Arc<Expr>,
     place: usize,
 ) -> Mem<Move>
     ensures same { IfOk result (λ m. (calls : Calls)
-        → links awaited calls (of_class class) (links_in (expr_of node.value) place) ≡ move_run calls m) }
+        → links (is_present awaited) calls (of_class class) (links_in (expr_of node.value) place) ≡ move_run calls m) }
     ensures less { IfOk result (LeavesLess (24 + 10 * parts_behind_two_calls (links_in (expr_of node.value) place))) }
 {
     let ahead = ahead_at(&node, place)?;
@@ -71,7 +72,7 @@ pub(crate) fn from_class(
 /// The same, by what is next.
 fn class_goes_on(
     alloc: Global,
-    awaited: bool,
+    awaited: Await,
     class: Text,
     ahead: Ahead,
     node: Arc<Expr>,
@@ -79,7 +80,7 @@ fn class_goes_on(
 ) -> Mem<Move>
     requires { place + links_seen ahead < 2 ^ 64 }
     ensures same { IfOk result (λ m. (calls : Calls)
-        → goes_on (class_on awaited calls class) ahead (expr_of node.value) place ≡ move_run calls m) }
+        → goes_on (class_on (is_present awaited) calls class) ahead (expr_of node.value) place ≡ move_run calls m) }
     ensures less { IfOk result (LeavesLess (24 + 10 * goes_on opened_parts_on ahead (expr_of node.value) place)) }
 {
     match ahead {
@@ -89,10 +90,10 @@ fn class_goes_on(
 }
 
 /// An object of this class, by the call at that link, and then the path from it on.
-fn object_at(alloc: Global, awaited: bool, class: Text, node: Arc<Expr>, link: usize) -> Mem<Move>
+fn object_at(alloc: Global, awaited: Await, class: Text, node: Arc<Expr>, link: usize) -> Mem<Move>
     requires { link + 1 < 2 ^ 64 }
     ensures same { IfOk result (λ m. (calls : Calls)
-        → opened_by awaited calls class (first_value (args_in (expr_of node.value) link 0))
+        → opened_by (is_present awaited) calls class (first_value (args_in (expr_of node.value) link 0))
         (args_in (expr_of node.value) link 0) (links_in (expr_of node.value) (link + 1)) ≡ move_run calls m) }
     ensures less { IfOk result (LeavesLess (24 + 10 * parts_behind_call (links_in (expr_of node.value) (link + 1)))) }
 {
@@ -105,7 +106,7 @@ fn object_at(alloc: Global, awaited: bool, class: Text, node: Arc<Expr>, link: u
 /// The same, by the expression that the object is identified by.
 fn named_at(
     alloc: Global,
-    awaited: bool,
+    awaited: Await,
     class: Text,
     name: Arc<Expr>,
     node: Arc<Expr>,
@@ -113,7 +114,7 @@ fn named_at(
 ) -> Move
     requires { link + 1 < 2 ^ 64 }
     ensures same { (calls : Calls)
-        → opened_by awaited calls class (Some (expr_of name.value))
+        → opened_by (is_present awaited) calls class (Some (expr_of name.value))
         (args_in (expr_of node.value) link 0) (links_in (expr_of node.value) (link + 1)) ≡ move_run calls result }
     ensures less { LeavesLess (24 + 10 * parts_behind_call (links_in (expr_of node.value) (link + 1))) result }
 {

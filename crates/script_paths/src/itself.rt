@@ -12,6 +12,7 @@ ghost use Rattle.script_paths.specs.Ahead.{links_seen};
 ghost use Rattle.script_paths.specs.Onward.{field_on, goes_on, itself_on, itself_parts_on};
 ghost use Rattle.script_paths.specs.Reading.{UnfoldsOn};
 ghost use Rattle.script_steps.specs.Parts.{links_in};
+ghost use Rattle.script_steps.specs.Paths.{is_present};
 ghost use Rattle.script_steps.specs.Weight.{LeavesLess};
 
 use crate::counts::pushes;
@@ -20,19 +21,19 @@ use crate::values::from_value;
 use crate::walked::{call_from, nowhere};
 use do_tree::Expr;
 use do_value::{Fields, Mem, Text, Value};
-use script_steps::{Callee, Focus, Move, Point, Root};
+use script_steps::{Await, Callee, Focus, Move, Point, Root};
 use std::alloc::Global;
 use std::sync::Arc;
 
 /// A path from the object itself on: its helpers, its context, its environment and its fields.
 pub(crate) fn from_itself(
     alloc: Global,
-    awaited: bool,
+    awaited: Await,
     node: Arc<Expr>,
     place: usize,
     fields: &Fields,
 ) -> Mem<Move>
-    ensures same { IfOk result (UnfoldsOn fields.now (λ calls. links awaited calls itself (links_in (expr_of node.value) place))) }
+    ensures same { IfOk result (UnfoldsOn fields.now (λ calls. links (is_present awaited) calls itself (links_in (expr_of node.value) place))) }
     ensures less { IfOk result (LeavesLess (20 + 10 * parts_of_itself (links_in (expr_of node.value) place))) }
 {
     let ahead = ahead_at(&node, place)?;
@@ -42,7 +43,7 @@ pub(crate) fn from_itself(
 /// The same, by what is next.
 fn itself_goes_on(
     alloc: Global,
-    awaited: bool,
+    awaited: Await,
     ahead: Ahead,
     node: Arc<Expr>,
     place: usize,
@@ -50,7 +51,7 @@ fn itself_goes_on(
 ) -> Mem<Move>
     requires { place + links_seen ahead < 2 ^ 64 }
     ensures same { IfOk result (UnfoldsOn fields.now
-        (λ calls. goes_on (itself_on awaited calls) ahead (expr_of node.value) place)) }
+        (λ calls. goes_on (itself_on (is_present awaited) calls) ahead (expr_of node.value) place)) }
     ensures less { IfOk result (LeavesLess (20 + 10 * goes_on itself_parts_on ahead (expr_of node.value) place)) }
 {
     match ahead {
@@ -66,13 +67,13 @@ fn itself_goes_on(
 /// A path from a field of the object itself on, which isn't called.
 fn from_field(
     alloc: Global,
-    awaited: bool,
+    awaited: Await,
     name: Text,
     node: Arc<Expr>,
     next: usize,
     fields: &Fields,
 ) -> Mem<Move>
-    ensures same { IfOk result (UnfoldsOn fields.now (λ calls. field_on awaited calls name (links_in (expr_of node.value) next))) }
+    ensures same { IfOk result (UnfoldsOn fields.now (λ calls. field_on (is_present awaited) calls name (links_in (expr_of node.value) next))) }
     ensures less { IfOk result (LeavesLess (20 + 10 * parts_of_own name (links_in (expr_of node.value) next))) }
 {
     if "ctx" == name.as_str() {
@@ -87,7 +88,7 @@ fn from_field(
 /// A path from a field of the object's own on.
 fn from_own(
     alloc: Global,
-    awaited: bool,
+    awaited: Await,
     name: Text,
     node: Arc<Expr>,
     next: usize,
@@ -95,7 +96,7 @@ fn from_own(
 ) -> Mem<Move>
     requires not_context { bytes_eq (codes "ctx") name ≡ false }
     requires not_environment { bytes_eq (codes "env") name ≡ false }
-    ensures same { IfOk result (UnfoldsOn fields.now (λ calls. field_on awaited calls name (links_in (expr_of node.value) next))) }
+    ensures same { IfOk result (UnfoldsOn fields.now (λ calls. field_on (is_present awaited) calls name (links_in (expr_of node.value) next))) }
     ensures less { IfOk result (LeavesLess (20 + 10 * parts_of_own name (links_in (expr_of node.value) next))) }
 {
     if pushes_at(&node, next) {

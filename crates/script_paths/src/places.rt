@@ -26,7 +26,9 @@ use do_tree::{Expr, Link, Simple, Write};
 use do_value::{BinOp, Fields, Mem, NoMemory, Value};
 use script_ops::OpFault;
 use script_places::{Step, moved, part_at};
-use script_steps::{Focus, Move, Outcome, PathFrame, Root, Writing, again, link_at, path_frame};
+use script_steps::{
+    Await, Focus, Move, Outcome, PathFrame, Root, Writing, again, link_at, path_frame,
+};
 use script_vars::{Bound, Vars};
 use std::alloc::Global;
 use std::sync::Arc;
@@ -136,7 +138,7 @@ pub fn place(
                 let index = again(index)?;
                 let part = PathFrame::PlaceIndex(writing, root, steps, node, place + 1);
                 let frame = path_frame(alloc, part)?;
-                return Ok(Move::Inside(0, frame, Focus::Value(false, index)));
+                return Ok(Move::Inside(0, frame, Focus::Value(Await::Absent, index)));
             }
             Some(Link::Call { .. }) => return Ok(nowhere()),
             None => return Ok(Move::Then(0, Focus::Written(writing, root, steps))),
@@ -160,7 +162,7 @@ pub fn written(
     match writing {
         Writing::Assigns(value) => {
             let frame = path_frame(alloc, PathFrame::Assign(root, steps))?;
-            Ok(Move::Inside(0, frame, Focus::Value(false, value)))
+            Ok(Move::Inside(0, frame, Focus::Value(Await::Absent, value)))
         }
         Writing::Updates(op, right) => update(alloc, root, steps, op, right, vars, fields),
         Writing::Moves(by) => move_by(alloc, root, steps, by, vars, fields),
@@ -185,7 +187,7 @@ fn update(
     match place_value(alloc, &root, &steps, vars, fields) {
         Ok(old) => {
             let frame = path_frame(alloc, PathFrame::Update(root, steps, op, old))?;
-            Ok(Move::Inside(0, frame, Focus::Value(false, right)))
+            Ok(Move::Inside(0, frame, Focus::Value(Await::Absent, right)))
         }
         Err(OpFault::Throw(error)) => Ok(Move::Then(0, Focus::Ended(Outcome::Threw(error)))),
         Err(OpFault::NoMemory) => Err(NoMemory),

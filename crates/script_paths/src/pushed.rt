@@ -17,7 +17,7 @@ use crate::walked::nowhere;
 use do_tree::{Expr, Link};
 use do_value::Mem;
 use script_places::Step;
-use script_steps::{Callee, Focus, Move, PathFrame, Root, again, link_at, path_frame};
+use script_steps::{Await, Callee, Focus, Move, PathFrame, Root, again, link_at, path_frame};
 use std::alloc::Global;
 use std::sync::Arc;
 
@@ -43,7 +43,7 @@ pub fn push(alloc: Global, root: Root, steps: Vec<Step>, node: Arc<Expr>, place:
                 let index = again(index)?;
                 let part = PathFrame::PushIndex(root, steps, node, place + 1);
                 let frame = path_frame(alloc, part)?;
-                return Ok(Move::Inside(0, frame, Focus::Value(false, index)));
+                return Ok(Move::Inside(0, frame, Focus::Value(Await::Absent, index)));
             }
             Some(Link::Call { .. }) => return Ok(nowhere()),
             None => return Ok(nowhere()),
@@ -59,7 +59,7 @@ fn push_call(alloc: Global, root: Root, steps: Vec<Step>, node: Arc<Expr>, link:
     ensures less { IfOk result (LeavesLess (20 + 10 * parts (links_in (expr_of node.value) (link + 1)))) }
 {
     let path = again(&node)?;
-    let frame = path_frame(alloc, PathFrame::Walk(false, path, link + 1))?;
+    let frame = path_frame(alloc, PathFrame::Walk(Await::Absent, path, link + 1))?;
     Ok(Move::Inside(
         0,
         frame,

@@ -7,7 +7,7 @@ ghost use Rattle.script_mean.specs.Calls.{Calls};
 ghost use Rattle.script_mean.specs.Frames.{to_index, to_update};
 ghost use Rattle.script_places.specs.Steps.{step_of, steps_in};
 ghost use Rattle.script_steps.specs.Parts.{links_in};
-ghost use Rattle.script_steps.specs.Paths.{path_frame_of, root_of};
+ghost use Rattle.script_steps.specs.Paths.{is_present, path_frame_of, root_of};
 ghost use Rattle.script_steps.specs.Seen.{handed, move_run};
 ghost use Rattle.script_steps.specs.Weight.{LeavesLess, path_frame_weight};
 
@@ -15,7 +15,7 @@ use do_tree::Expr;
 use do_value::{BinOp, Mem, NoMemory, Value};
 use script_ops::{OpFault, binary};
 use script_places::{Step, element};
-use script_steps::{Focus, Move, Outcome, PathFrame, Point, Root};
+use script_steps::{Await, Focus, Move, Outcome, PathFrame, Point, Root};
 use std::alloc::Global;
 use std::sync::Arc;
 
@@ -56,14 +56,15 @@ pub fn hand_path(alloc: Global, frame: PathFrame, value: Value) -> Mem<Move>
 #[tactic(auto, using(crate::proofs::Handed::index_goes, crate::proofs::Handed::index_throws))]
 fn part_on(
     alloc: Global,
-    awaited: bool,
+    awaited: Await,
     whole: &Value,
     index: &Value,
     node: Arc<Expr>,
     place: usize,
 ) -> Mem<Move>
     ensures same { IfOk result (λ m. (calls : Calls)
-        → handed calls (to_index awaited (tree_of whole.now) (links_in (expr_of node.value) place)) (gave (tree_of index.now)) ≡ move_run calls m) }
+        → handed calls (to_index (is_present awaited) (tree_of whole.now) (links_in (expr_of node.value) place)) (gave (tree_of index.now))
+        ≡ move_run calls m) }
     ensures less { IfOk result (LeavesLess (7 + path_frame_weight (PathFrame.Index awaited whole.now node place))) }
 {
     match element(alloc, whole, index) {

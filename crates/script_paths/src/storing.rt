@@ -7,6 +7,7 @@ ghost use Rattle.script_mean.specs.Paths.{context, handle, parts, parts_behind_c
 ghost use Rattle.script_paths.specs.Ahead.{links_seen};
 ghost use Rattle.script_paths.specs.Onward.{called_parts_on, calling, context_on, goes_on, handle_on, storage_on};
 ghost use Rattle.script_steps.specs.Parts.{args_in, links_in};
+ghost use Rattle.script_steps.specs.Paths.{is_present};
 ghost use Rattle.script_steps.specs.Seen.{move_run};
 ghost use Rattle.script_steps.specs.Weight.{LeavesLess};
 
@@ -15,14 +16,19 @@ use crate::link::{Ahead, ahead_at};
 use crate::walked::{call_from, nowhere};
 use do_tree::Expr;
 use do_value::{Mem, Text};
-use script_steps::{Callee, Focus, Move, Point};
+use script_steps::{Await, Callee, Focus, Move, Point};
 use std::alloc::Global;
 use std::sync::Arc;
 
 /// A path from the context on: a block, or the storage.
-pub(crate) fn from_context(alloc: Global, awaited: bool, node: Arc<Expr>, place: usize) -> Mem<Move>
+pub(crate) fn from_context(
+    alloc: Global,
+    awaited: Await,
+    node: Arc<Expr>,
+    place: usize,
+) -> Mem<Move>
     ensures same { IfOk result (λ m. (calls : Calls)
-        → links awaited calls context (links_in (expr_of node.value) place) ≡ move_run calls m) }
+        → links (is_present awaited) calls context (links_in (expr_of node.value) place) ≡ move_run calls m) }
     ensures less { IfOk result (LeavesLess (21 + 10 * parts_behind_call (links_in (expr_of node.value) place))) }
 {
     let ahead = ahead_at(&node, place)?;
@@ -32,14 +38,14 @@ pub(crate) fn from_context(alloc: Global, awaited: bool, node: Arc<Expr>, place:
 /// The same, by what is next.
 fn context_goes_on(
     alloc: Global,
-    awaited: bool,
+    awaited: Await,
     ahead: Ahead,
     node: Arc<Expr>,
     place: usize,
 ) -> Mem<Move>
     requires { place + links_seen ahead < 2 ^ 64 }
     ensures same { IfOk result (λ m. (calls : Calls)
-        → goes_on (context_on awaited calls) ahead (expr_of node.value) place ≡ move_run calls m) }
+        → goes_on (context_on (is_present awaited) calls) ahead (expr_of node.value) place ≡ move_run calls m) }
     ensures less { IfOk result (LeavesLess (21 + 10 * goes_on called_parts_on ahead (expr_of node.value) place)) }
 {
     match ahead {
@@ -50,10 +56,11 @@ fn context_goes_on(
 }
 
 /// The block that is called at that link, and then the path from its value on.
-fn block_at(alloc: Global, awaited: bool, node: Arc<Expr>, link: usize) -> Mem<Move>
+fn block_at(alloc: Global, awaited: Await, node: Arc<Expr>, link: usize) -> Mem<Move>
     requires { link + 1 < 2 ^ 64 }
     ensures same { IfOk result (λ m. (calls : Calls)
-        → calling awaited calls (links_in (expr_of node.value) (link + 1)) (blocked awaited calls (args_in (expr_of node.value) link 0)) ≡ move_run calls m) }
+        → calling (is_present awaited) calls (links_in (expr_of node.value) (link + 1))
+        (blocked (is_present awaited) calls (args_in (expr_of node.value) link 0)) ≡ move_run calls m) }
     ensures less { IfOk result (LeavesLess (20 + 10 * parts (links_in (expr_of node.value) (link + 1)))) }
 {
     match callback_at(&node, link)? {
@@ -66,9 +73,14 @@ fn block_at(alloc: Global, awaited: bool, node: Arc<Expr>, link: usize) -> Mem<M
 }
 
 /// A path from the storage on: its calls.
-pub(crate) fn from_storage(alloc: Global, awaited: bool, node: Arc<Expr>, place: usize) -> Mem<Move>
+pub(crate) fn from_storage(
+    alloc: Global,
+    awaited: Await,
+    node: Arc<Expr>,
+    place: usize,
+) -> Mem<Move>
     ensures same { IfOk result (λ m. (calls : Calls)
-        → links awaited calls storage (links_in (expr_of node.value) place) ≡ move_run calls m) }
+        → links (is_present awaited) calls storage (links_in (expr_of node.value) place) ≡ move_run calls m) }
     ensures less { IfOk result (LeavesLess (20 + 10 * parts_behind_call (links_in (expr_of node.value) place))) }
 {
     let ahead = ahead_at(&node, place)?;
@@ -78,14 +90,14 @@ pub(crate) fn from_storage(alloc: Global, awaited: bool, node: Arc<Expr>, place:
 /// The same, by what is next.
 fn storage_goes_on(
     alloc: Global,
-    awaited: bool,
+    awaited: Await,
     ahead: Ahead,
     node: Arc<Expr>,
     place: usize,
 ) -> Mem<Move>
     requires { place + links_seen ahead < 2 ^ 64 }
     ensures same { IfOk result (λ m. (calls : Calls)
-        → goes_on (storage_on awaited calls) ahead (expr_of node.value) place ≡ move_run calls m) }
+        → goes_on (storage_on (is_present awaited) calls) ahead (expr_of node.value) place ≡ move_run calls m) }
     ensures less { IfOk result (LeavesLess (20 + 10 * goes_on called_parts_on ahead (expr_of node.value) place)) }
 {
     match ahead {
@@ -95,11 +107,11 @@ fn storage_goes_on(
 }
 
 /// The call of the storage at that link, and then the path from its value on.
-fn store_at(alloc: Global, awaited: bool, name: Text, node: Arc<Expr>, link: usize) -> Mem<Move>
+fn store_at(alloc: Global, awaited: Await, name: Text, node: Arc<Expr>, link: usize) -> Mem<Move>
     requires { link + 1 < 2 ^ 64 }
     ensures same { IfOk result (λ m. (calls : Calls)
-        → calling awaited calls (links_in (expr_of node.value) (link + 1))
-        (stored awaited calls name (args_in (expr_of node.value) link 0)) ≡ move_run calls m) }
+        → calling (is_present awaited) calls (links_in (expr_of node.value) (link + 1))
+        (stored (is_present awaited) calls name (args_in (expr_of node.value) link 0)) ≡ move_run calls m) }
     ensures less { IfOk result (LeavesLess (20 + 10 * parts (links_in (expr_of node.value) (link + 1)))) }
 {
     match callback_at(&node, link)? {
@@ -115,9 +127,9 @@ fn store_at(alloc: Global, awaited: bool, name: Text, node: Arc<Expr>, link: usi
 }
 
 /// A path from a transaction's handle on: its calls.
-pub(crate) fn from_handle(alloc: Global, awaited: bool, node: Arc<Expr>, place: usize) -> Mem<Move>
+pub(crate) fn from_handle(alloc: Global, awaited: Await, node: Arc<Expr>, place: usize) -> Mem<Move>
     ensures same { IfOk result (λ m. (calls : Calls)
-        → links awaited calls handle (links_in (expr_of node.value) place) ≡ move_run calls m) }
+        → links (is_present awaited) calls handle (links_in (expr_of node.value) place) ≡ move_run calls m) }
     ensures less { IfOk result (LeavesLess (20 + 10 * parts_behind_call (links_in (expr_of node.value) place))) }
 {
     let ahead = ahead_at(&node, place)?;
@@ -127,14 +139,14 @@ pub(crate) fn from_handle(alloc: Global, awaited: bool, node: Arc<Expr>, place: 
 /// The same, by what is next.
 fn handle_goes_on(
     alloc: Global,
-    awaited: bool,
+    awaited: Await,
     ahead: Ahead,
     node: Arc<Expr>,
     place: usize,
 ) -> Mem<Move>
     requires { place + links_seen ahead < 2 ^ 64 }
     ensures same { IfOk result (λ m. (calls : Calls)
-        → goes_on (handle_on awaited calls) ahead (expr_of node.value) place ≡ move_run calls m) }
+        → goes_on (handle_on (is_present awaited) calls) ahead (expr_of node.value) place ≡ move_run calls m) }
     ensures less { IfOk result (LeavesLess (20 + 10 * goes_on called_parts_on ahead (expr_of node.value) place)) }
 {
     match ahead {

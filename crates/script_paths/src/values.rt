@@ -9,6 +9,7 @@ ghost use Rattle.script_mean.specs.Places.{property};
 ghost use Rattle.script_paths.specs.Ahead.{front_of, links_seen};
 ghost use Rattle.script_paths.specs.Onward.{called_parts_on, goes_on, part_on, parts_on, value_on, word_from};
 ghost use Rattle.script_steps.specs.Parts.{links_in};
+ghost use Rattle.script_steps.specs.Paths.{is_present};
 ghost use Rattle.script_steps.specs.Seen.{move_run};
 ghost use Rattle.script_steps.specs.Weight.{LeavesLess};
 
@@ -18,20 +19,20 @@ use do_tree::Expr;
 use do_value::{Mem, NoMemory, Text, Value};
 use script_ops::OpFault;
 use script_places::property;
-use script_steps::{Callee, Focus, Move, Outcome, PathFrame, Point, path_frame};
+use script_steps::{Await, Callee, Focus, Move, Outcome, PathFrame, Point, path_frame};
 use std::alloc::Global;
 use std::sync::Arc;
 
 /// A path from a value on: its parts, and calls of its methods.
 pub(crate) fn from_value(
     alloc: Global,
-    awaited: bool,
+    awaited: Await,
     value: Value,
     node: Arc<Expr>,
     place: usize,
 ) -> Mem<Move>
     ensures same { IfOk result (λ m. (calls : Calls)
-        → links awaited calls (holds (tree_of value)) (links_in (expr_of node.value) place) ≡ move_run calls m) }
+        → links (is_present awaited) calls (holds (tree_of value)) (links_in (expr_of node.value) place) ≡ move_run calls m) }
     ensures less { IfOk result (LeavesLess (10 + 10 * parts (links_in (expr_of node.value) place))) }
 {
     let ahead = ahead_at(&node, place)?;
@@ -41,7 +42,7 @@ pub(crate) fn from_value(
 /// The same, by what is next.
 fn value_goes_on(
     alloc: Global,
-    awaited: bool,
+    awaited: Await,
     value: Value,
     ahead: Ahead,
     node: Arc<Expr>,
@@ -49,7 +50,7 @@ fn value_goes_on(
 ) -> Mem<Move>
     requires { place + links_seen ahead < 2 ^ 64 }
     ensures same { IfOk result (λ m. (calls : Calls)
-        → goes_on (value_on awaited calls (tree_of value)) ahead (expr_of node.value) place ≡ move_run calls m) }
+        → goes_on (value_on (is_present awaited) calls (tree_of value)) ahead (expr_of node.value) place ≡ move_run calls m) }
     ensures less { IfOk result (LeavesLess (10 + 10 * goes_on parts_on ahead (expr_of node.value) place)) }
 {
     match ahead {
@@ -62,7 +63,7 @@ fn value_goes_on(
         Ahead::Index(index) => {
             let part = PathFrame::Index(awaited, value, node, place + 1);
             let frame = path_frame(alloc, part)?;
-            Ok(Move::Inside(0, frame, Focus::Value(false, index)))
+            Ok(Move::Inside(0, frame, Focus::Value(Await::Absent, index)))
         }
         Ahead::Call => Ok(nowhere()),
     }
@@ -72,14 +73,14 @@ fn value_goes_on(
 #[tactic(auto, using(crate::proofs::Properties::part_is, crate::proofs::Properties::part_throws))]
 fn part_of(
     alloc: Global,
-    awaited: bool,
+    awaited: Await,
     value: &Value,
     name: &Text,
     node: Arc<Expr>,
     next: usize,
 ) -> Mem<Move>
     ensures same { IfOk result (λ m. (calls : Calls)
-        → part_on awaited calls (property (tree_of value.now) name.now) (links_in (expr_of node.value) next) ≡ move_run calls m) }
+        → part_on (is_present awaited) calls (property (tree_of value.now) name.now) (links_in (expr_of node.value) next) ≡ move_run calls m) }
     ensures less { IfOk result (LeavesLess (20 + 10 * parts (links_in (expr_of node.value) next))) }
 {
     match property(alloc, value, name.as_str()) {
@@ -103,13 +104,13 @@ fn one(alloc: Global, value: Value) -> Mem<Vec<Value>>
 /// A path from a word of the language on: its call, or the call of a part of it.
 pub(crate) fn from_word(
     alloc: Global,
-    awaited: bool,
+    awaited: Await,
     word: Text,
     node: Arc<Expr>,
     place: usize,
 ) -> Mem<Move>
     ensures same { IfOk result (λ m. (calls : Calls)
-        → links awaited calls (of_word word) (links_in (expr_of node.value) place) ≡ move_run calls m) }
+        → links (is_present awaited) calls (of_word word) (links_in (expr_of node.value) place) ≡ move_run calls m) }
     ensures less { IfOk result (LeavesLess (20 + 10 * parts_behind_call (links_in (expr_of node.value) place))) }
 {
     let ahead = ahead_at(&node, place)?;
@@ -119,7 +120,7 @@ pub(crate) fn from_word(
 /// The same, by what is next.
 fn word_goes_on(
     alloc: Global,
-    awaited: bool,
+    awaited: Await,
     word: Text,
     ahead: Ahead,
     node: Arc<Expr>,
@@ -127,7 +128,7 @@ fn word_goes_on(
 ) -> Mem<Move>
     requires { place + links_seen ahead < 2 ^ 64 }
     ensures same { IfOk result (λ m. (calls : Calls)
-        → word_from awaited calls word (front_of ahead) (links_in (expr_of node.value) place)
+        → word_from (is_present awaited) calls word (front_of ahead) (links_in (expr_of node.value) place)
         (links_in (expr_of node.value) (place + 1)) (links_in (expr_of node.value) (place + 1 + 1)) ≡ move_run calls m) }
     ensures less { IfOk result (LeavesLess (20 + 10 * goes_on called_parts_on ahead (expr_of node.value) place)) }
 {

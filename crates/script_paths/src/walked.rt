@@ -9,7 +9,7 @@ ghost use Rattle.script_mean.specs.Paths.{parts};
 ghost use Rattle.script_paths.specs.Onward.{calling};
 ghost use Rattle.script_paths.specs.Reading.{UnfoldsOn};
 ghost use Rattle.script_steps.specs.Parts.{args_in, links_in};
-ghost use Rattle.script_steps.specs.Paths.{callee_of, point_of};
+ghost use Rattle.script_steps.specs.Paths.{callee_of, is_present, point_of};
 ghost use Rattle.script_steps.specs.Seen.{move_run};
 ghost use Rattle.script_steps.specs.Weight.{LeavesLess, callee_weight, walk_weight};
 
@@ -19,21 +19,21 @@ use crate::storing::{from_context, from_handle, from_storage};
 use crate::values::{from_value, from_word};
 use do_tree::Expr;
 use do_value::{Fields, Mem, Value};
-use script_steps::{Callee, Focus, Move, Outcome, PathFrame, Point, again, path_frame};
+use script_steps::{Await, Callee, Focus, Move, Outcome, PathFrame, Point, again, path_frame};
 use std::alloc::Global;
 use std::sync::Arc;
 
 /// A path from this point and this link on, with these fields of the object.
 pub fn walk(
     alloc: Global,
-    awaited: bool,
+    awaited: Await,
     point: Point,
     node: Arc<Expr>,
     place: usize,
     fields: &Fields,
 ) -> Mem<Move>
     ensures same { IfOk result (UnfoldsOn fields.now
-        (λ calls. links awaited calls (point_of point) (links_in (expr_of node.value) place))) }
+        (λ calls. links (is_present awaited) calls (point_of point) (links_in (expr_of node.value) place))) }
     ensures less { IfOk result (LeavesLess (walk_weight point (links_in (expr_of node.value) place))) }
 {
     match point {
@@ -52,7 +52,7 @@ pub fn walk(
 /// its value on.
 pub(crate) fn call_at(
     alloc: Global,
-    awaited: bool,
+    awaited: Await,
     callee: Callee,
     got: Vec<Value>,
     node: Arc<Expr>,
@@ -61,7 +61,7 @@ pub(crate) fn call_at(
 ) -> Mem<Move>
     requires { link + 1 < 2 ^ 64 }
     ensures same { IfOk result (λ m. (calls : Calls)
-        → calling awaited calls (links_in (expr_of node.value) (link + 1))
+        → calling (is_present awaited) calls (links_in (expr_of node.value) (link + 1))
         (arguments calls (args_in (expr_of node.value) link first) (trees_in got.items) (called calls (callee_of callee))) ≡ move_run calls m) }
     ensures less { IfOk result (LeavesLess (20 + 10 * parts (links_in (expr_of node.value) (link + 1)) + callee_weight callee)) }
 {
@@ -73,7 +73,7 @@ pub(crate) fn call_at(
 /// The same where no argument is there yet.
 pub(crate) fn call_from(
     alloc: Global,
-    awaited: bool,
+    awaited: Await,
     callee: Callee,
     node: Arc<Expr>,
     link: usize,
@@ -81,7 +81,7 @@ pub(crate) fn call_from(
 ) -> Mem<Move>
     requires { link + 1 < 2 ^ 64 }
     ensures same { IfOk result (λ m. (calls : Calls)
-        → calling awaited calls (links_in (expr_of node.value) (link + 1))
+        → calling (is_present awaited) calls (links_in (expr_of node.value) (link + 1))
         (arguments calls (args_in (expr_of node.value) link first) [] (called calls (callee_of callee))) ≡ move_run calls m) }
     ensures less { IfOk result (LeavesLess (20 + 10 * parts (links_in (expr_of node.value) (link + 1)) + callee_weight callee)) }
 {

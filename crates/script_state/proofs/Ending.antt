@@ -15,7 +15,10 @@ use Rattle.script_mean.specs.Task as task
 use Rattle.script_mean.specs.Turn as turn
 use Rattle.script_mean.specs.Turn.{cut, cut_after, join, join_where}
 use Rattle.script_steps.proofs.Begun.{if_ok}
+use Rattle.script_steps.specs.Paths.{is_present}
 use Rattle.script_steps.specs.Seen.{outcome_of, returned_to, unblocking}
+use Rattle.script_steps.specs.declared.path.Await.{Await}
+use Rattle.script_steps.specs.declared.path.Await.TheVariants as await
 use Rattle.script_steps.specs.declared.focus.Outcome.{Outcome}
 use Rattle.script_steps.specs.declared.focus.Outcome.TheVariants as ending
 use Rattle.script_vars.specs.Seen.{env_of}
@@ -75,5 +78,5 @@ block_threw awaited x v old new same made next rs =
     ∙ ap (λ (st : turn.State). task.threw st.closed st.fields (tree_of v) true ∷ []) (sym (made.state rs))
 
 -- The open batch is closed after a call that is awaited.
-pub awaited_cut : (awaited : Bool) (old new : State) → awaited ≡ true → Becomes cut old new → Becomes (cut_after awaited) old new
-awaited_cut awaited old new same closed = subst (λ b. Becomes (cut_after b) old new) (sym same) closed
+pub awaited_cut : (awaited : Await) (old new : State) → awaited ≡ await.Present → Becomes cut old new → Becomes (cut_after (is_present awaited)) old new
+awaited_cut awaited old new same closed = subst (λ a. Becomes (cut_after (is_present a)) old new) (sym same) closed

@@ -5,6 +5,7 @@ ghost use Rattle.storage_map.specs.Ops.{IsOp};
 ghost use Rattle.script_mean.specs.Turn as turn;
 ghost use Rattle.script_state.specs.Ends.{Becomes, Does, Goes, IsOpenFor, IsReady};
 ghost use Rattle.script_state.specs.Seen.{wait_of};
+ghost use Rattle.script_steps.specs.Paths.{is_present};
 
 use crate::done::Done;
 use crate::state::State;
@@ -12,7 +13,7 @@ use crate::thrown::thrown;
 use crate::waiting::Waiting;
 use do_value::{Mem, NoMemory, Value};
 use script_mean::{Ask, MOST_OUTSIDE_CALLS, MOST_STORAGE_AWAITS};
-use script_steps::Outcome;
+use script_steps::{Await, Outcome};
 use std::alloc::Global;
 use storage_map::{Batch, Op};
 use write_batcher::AddFault;
@@ -38,11 +39,14 @@ impl State {
         Ok(())
     }
 
-    /// The same after a call that is awaited.
-    pub(crate) fn cut_after(&mut self, awaited: bool) -> Mem<()>
-        ensures { OnOk result (Becomes (turn.cut_after awaited) self.old self.new) }
+    /// The same after a call that is awaited. After another nothing is closed.
+    pub(crate) fn cut_after(&mut self, awaited: Await) -> Mem<()>
+        ensures { OnOk result (Becomes (turn.cut_after (is_present awaited)) self.old self.new) }
     {
-        if awaited { self.cut() } else { Ok(()) }
+        match awaited {
+            Await::Present => self.cut(),
+            Await::Absent => Ok(()),
+        }
     }
 
     /// The operations join the open batch, all of them or, where it would be too large, none.

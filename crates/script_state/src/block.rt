@@ -3,13 +3,14 @@ ghost use Rattle.std.specs.Prelude.{◌≡◌, false, IfOk};
 ghost use Rattle.do_value.specs.Seen.{tree_of};
 ghost use Rattle.script_mean.specs.Answers.{returned};
 ghost use Rattle.script_state.specs.Ends.{Does, IsReady, Opens};
+ghost use Rattle.script_steps.specs.Paths.{is_present};
 ghost use Rattle.script_steps.specs.Seen.{outcome_of, unblocking};
 
 use crate::done::Done;
 use crate::state::State;
 use crate::thrown::thrown;
 use do_value::{Mem, Value};
-use script_steps::Outcome;
+use script_steps::{Await, Outcome};
 use std::alloc::Global;
 
 impl State {
@@ -25,8 +26,8 @@ impl State {
     }
 
     /// A block's body ended so: where it threw, the task and its object's incarnation end.
-    pub fn end_block(&mut self, awaited: bool, ended: Outcome) -> Mem<Done>
-        ensures same { IfOk result (Does (unblocking awaited (outcome_of ended)) self.old self.new) }
+    pub fn end_block(&mut self, awaited: Await, ended: Outcome) -> Mem<Done>
+        ensures same { IfOk result (Does (unblocking (is_present awaited) (outcome_of ended)) self.old self.new) }
         ensures ready { IfOk result (IsReady self.new) }
     {
         match ended {
@@ -51,8 +52,8 @@ impl State {
     }
 
     // A block's body returned this value.
-    fn leave_block(&mut self, awaited: bool, value: Value) -> Mem<Done>
-        ensures same { IfOk result (Does (unblocking awaited (returned (tree_of value))) self.old self.new) }
+    fn leave_block(&mut self, awaited: Await, value: Value) -> Mem<Done>
+        ensures same { IfOk result (Does (unblocking (is_present awaited) (returned (tree_of value))) self.old self.new) }
         ensures ready { IfOk result (IsReady self.new) }
     {
         self.block = false;

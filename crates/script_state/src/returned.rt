@@ -3,18 +3,19 @@ ghost use Rattle.std.specs.Prelude.{IfOk};
 ghost use Rattle.do_value.specs.Seen.{tree_of};
 ghost use Rattle.script_mean.specs.Answers.{returned};
 ghost use Rattle.script_state.specs.Ends.{Goes};
+ghost use Rattle.script_steps.specs.Paths.{is_present};
 ghost use Rattle.script_steps.specs.Seen.{outcome_of, returned_to};
 ghost use Rattle.script_vars.specs.Seen.{env_of};
 
 use crate::state::State;
 use do_value::{Mem, Value};
-use script_steps::Outcome;
+use script_steps::{Await, Outcome};
 use script_vars::Vars;
 
 impl State {
     /// A helper's body ended so: its caller goes on with its own variables.
-    pub fn return_to(&mut self, awaited: bool, caller: Vars, ended: Outcome) -> Mem<Outcome>
-        ensures { IfOk result (Goes (returned_to awaited (env_of caller) (outcome_of ended)) self.old self.new) }
+    pub fn return_to(&mut self, awaited: Await, caller: Vars, ended: Outcome) -> Mem<Outcome>
+        ensures { IfOk result (Goes (returned_to (is_present awaited) (env_of caller) (outcome_of ended)) self.old self.new) }
     {
         self.vars = caller;
         match ended {
@@ -26,8 +27,8 @@ impl State {
     }
 
     // A helper's body returned this value.
-    fn back(&mut self, awaited: bool, value: Value) -> Mem<Outcome>
-        ensures { IfOk result (Goes (returned_to awaited (env_of self.old.vars) (returned (tree_of value))) self.old self.new) }
+    fn back(&mut self, awaited: Await, value: Value) -> Mem<Outcome>
+        ensures { IfOk result (Goes (returned_to (is_present awaited) (env_of self.old.vars) (returned (tree_of value))) self.old self.new) }
     {
         self.cut_after(awaited)?;
         Ok(Outcome::Gave(value))

@@ -1,5 +1,5 @@
 -- How throws and exits pass by frames.
-use Rattle.std.proofs.Common.{◌≡◌, ℕ, Bool, List, refl, ap}
+use Rattle.std.proofs.Common.{◌≡◌, ℕ, List, refl, ap}
 use Rattle.std.specs.declared.sync.Arc.{Arc}
 use Rattle.std.specs.declared.alloc.Global.{Global}
 use Rattle.do_value.specs.Tree.{Tree}
@@ -13,6 +13,7 @@ use Rattle.script_steps.specs.Seen.{frame_of, handed, left}
 use Rattle.script_steps.specs.declared.frame.Between.{Between as Standing}
 use Rattle.script_steps.specs.declared.frame.Frame.{Frame}
 use Rattle.script_steps.specs.declared.frame.Frame.TheVariants as waiting
+use Rattle.script_steps.specs.declared.path.Await.{Await}
 use Rattle.script_steps.specs.declared.path.PathFrame.{PathFrame}
 use Rattle.script_steps.specs.declared.path.PathFrame.TheVariants as path
 
@@ -58,7 +59,7 @@ module _ (calls : Calls) where
 module _ (calls : Calls) where
   -- A throw passes by what catches none.
   pub throw_passes : (f : Frame) (v : Tree) → ((a : Arc Stmt Global) → f ≡ waiting.Catch a → ⊥) → (f ≡ waiting.Leave → ⊥)
-      → (f ≡ waiting.Commit → ⊥) → ((a : Bool) → f ≡ waiting.Unblock a → ⊥)
+      → (f ≡ waiting.Commit → ⊥) → ((a : Await) → f ≡ waiting.Unblock a → ⊥)
       → handed calls (frame_of f) (threw v) ≡ ends (threw v)
   throw_passes (waiting.Choose a b) v not_catch not_leave not_commit not_unblock = refl
   throw_passes (waiting.Chain a b) v not_catch not_leave not_commit not_unblock = refl
@@ -88,7 +89,7 @@ module _ (calls : Calls) where
 
   -- A return passes by what ends at none.
   pub return_passes : (f : Frame) (v : Tree) → (f ≡ waiting.Leave → ⊥)
-      → (f ≡ waiting.Commit → ⊥) → ((a : Bool) → f ≡ waiting.Unblock a → ⊥)
+      → (f ≡ waiting.Commit → ⊥) → ((a : Await) → f ≡ waiting.Unblock a → ⊥)
       → handed calls (frame_of f) (returned v) ≡ ends (returned v)
   return_passes (waiting.Choose a b) v not_leave not_commit not_unblock = refl
   return_passes (waiting.Chain a b) v not_leave not_commit not_unblock = refl
@@ -118,7 +119,7 @@ module _ (calls : Calls) where
 
   -- A `break` passes by what is no loop.
   pub break_passes : (f : Frame) → ((a : Arc Expr Global) (b : Arc Stmt Global) (c : Standing) → f ≡ waiting.Turn a b c → ⊥) → ((a : Arc Stmt Global) (b : List Tree) (c : ℕ) → f ≡ waiting.Next a b c → ⊥)
-      → (f ≡ waiting.Leave → ⊥) → (f ≡ waiting.Commit → ⊥) → ((a : Bool) → f ≡ waiting.Unblock a → ⊥)
+      → (f ≡ waiting.Leave → ⊥) → (f ≡ waiting.Commit → ⊥) → ((a : Await) → f ≡ waiting.Unblock a → ⊥)
       → handed calls (frame_of f) broke ≡ ends broke
   break_passes (waiting.Choose a b) not_turn not_next not_leave not_commit not_unblock = refl
   break_passes (waiting.Chain a b) not_turn not_next not_leave not_commit not_unblock = refl
@@ -148,7 +149,7 @@ module _ (calls : Calls) where
 
   -- A `continue` passes by what is no loop.
   pub continue_passes : (f : Frame) → ((a : Arc Expr Global) (b : Arc Stmt Global) (c : Standing) → f ≡ waiting.Turn a b c → ⊥) → ((a : Arc Stmt Global) (b : List Tree) (c : ℕ) → f ≡ waiting.Next a b c → ⊥)
-      → (f ≡ waiting.Leave → ⊥) → (f ≡ waiting.Commit → ⊥) → ((a : Bool) → f ≡ waiting.Unblock a → ⊥)
+      → (f ≡ waiting.Leave → ⊥) → (f ≡ waiting.Commit → ⊥) → ((a : Await) → f ≡ waiting.Unblock a → ⊥)
       → handed calls (frame_of f) continued ≡ ends continued
   continue_passes (waiting.Choose a b) not_turn not_next not_leave not_commit not_unblock = refl
   continue_passes (waiting.Chain a b) not_turn not_next not_leave not_commit not_unblock = refl

@@ -21,7 +21,7 @@ use Rattle.script_mean.specs.Task.{Env}
 use Rattle.script_mean.specs.Turn.{Run, either, ends, nowhere, of, step, steps, within, leaving, declare, ◌>>=◌, ◌>>◌}
 use Rattle.script_places.specs.Steps.{steps_in}
 use Rattle.script_vars.specs.Seen.{env_of}
-use Rattle.script_steps.specs.Paths.{root_of, point_of, callee_of, writing_of, path_frame_of}
+use Rattle.script_steps.specs.Paths.{is_present, root_of, point_of, callee_of, writing_of, path_frame_of}
 use Rattle.script_steps.specs.Parts.{links_in, args_in, exprs_of, chain_of, operands_of, pairs_of, name_of, exprs_from, operands_from, pairs_from, name_in, body_in, test_in, step_in, caught_in, handler_in, items_from, declared_in}
 use Rattle.script_steps.specs.declared.frame.Between.{Between as Standing}
 use Rattle.script_steps.specs.declared.frame.Between.TheVariants as standing
@@ -65,7 +65,7 @@ frame_of waiting.Leave = frame.to_leave
 frame_of (waiting.Catch s) = frame.to_catch (caught_in (stmt_of s.value)) (handler_in (stmt_of s.value))
 frame_of (waiting.Path f) = path_frame_of f.value
 frame_of waiting.Commit = frame.to_commit
-frame_of (waiting.Unblock awaited) = frame.to_unblock awaited
+frame_of (waiting.Unblock awaited) = frame.to_unblock (is_present awaited)
 
 -- The variable of this name, if there is a name.
 abbrev pub variable_of : Option (List ℕ) → Run
@@ -137,7 +137,7 @@ unblocking awaited o env next st = on_block awaited next o env st
 -- What a focus does, by the definition's own words.
 abbrev pub focus_run : Calls → Focus → Run
 focus_run calls (focus.Ended o) = ends (outcome_of o)
-focus_run calls (focus.Value awaited e) = value awaited calls (expr_of e.value)
+focus_run calls (focus.Value awaited e) = value (is_present awaited) calls (expr_of e.value)
 focus_run calls (focus.Variable e) = variable_of (name_of (expr_of e.value))
 focus_run calls (focus.Named name) = step >> variable_value name
 focus_run calls (focus.Run s) = run calls (stmt_of s.value)
@@ -152,16 +152,16 @@ focus_run calls (focus.Simple p) = simple calls (simple_of p.value)
 focus_run calls (focus.Write p) = writing calls (simple_of p.value)
 focus_run calls (focus.Leave o) = left (outcome_of o)
 focus_run calls (focus.Handed f v) = handed calls (path_frame_of f.value) (gave (tree_of v))
-focus_run calls (focus.Walk awaited p e n) = links awaited calls (point_of p) (links_in (expr_of e.value) n)
+focus_run calls (focus.Walk awaited p e n) = links (is_present awaited) calls (point_of p) (links_in (expr_of e.value) n)
 focus_run calls (focus.Arguments c got e n k) = arguments calls (args_in (expr_of e.value) n k) (trees_in got.items) (called calls (callee_of c))
 focus_run calls (focus.Call c got) = called calls (callee_of c) (trees_in got.items)
 focus_run calls (focus.Push r ss e n) = to_push calls (root_of r) (steps_in ss.items) (links_in (expr_of e.value) n)
 focus_run calls (focus.Place w r ss e n) = to_place calls (root_of r) (steps_in ss.items) (links_in (expr_of e.value) n) (written calls (writing_of w) (root_of r))
 focus_run calls (focus.Written w r ss) = written calls (writing_of w) (root_of r) (steps_in ss.items)
 focus_run calls (focus.Assign r ss v) = write (root_of r) (steps_in ss.items) (put (tree_of v))
-focus_run calls (focus.Return awaited vars o) = returned_to awaited (env_of vars) (outcome_of o)
+focus_run calls (focus.Return awaited vars o) = returned_to (is_present awaited) (env_of vars) (outcome_of o)
 focus_run calls (focus.Commit o) = committing (outcome_of o)
-focus_run calls (focus.Unblock awaited o) = unblocking awaited (outcome_of o)
+focus_run calls (focus.Unblock awaited o) = unblocking (is_present awaited) (outcome_of o)
 
 -- So many steps are charged first.
 abbrev pub charged : ℕ → Run → Run

@@ -16,6 +16,7 @@ use crate::focus::{Focus, Move, Outcome};
 use crate::frame::{Between, Frame};
 use crate::node::again;
 use crate::operators::of_wrong_type;
+use crate::path::Await;
 use do_tree::{Block, Expr, Item, Stmt};
 use do_value::{Items, Mem, Value};
 use script_ops::truth;
@@ -48,7 +49,7 @@ fn first_focus(value: &Option<Arc<Expr>>) -> Mem<Focus>
     ensures less { IfOk result (λ f. focus_weight f < 9) }
 {
     match value {
-        Some(value) => Ok(Focus::Value(false, again(value)?)),
+        Some(value) => Ok(Focus::Value(Await::Absent, again(value)?)),
         None => Ok(Focus::Ended(Outcome::Gave(Value::Undefined))),
     }
 }
@@ -91,7 +92,7 @@ pub fn begin_loop(test: Arc<Expr>, body: Arc<Stmt>, between: Between) -> Mem<Mov
     Ok(Move::Inside(
         0,
         Frame::Test(test, body, between),
-        Focus::Value(false, inner),
+        Focus::Value(Await::Absent, inner),
     ))
 }
 

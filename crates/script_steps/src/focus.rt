@@ -1,6 +1,6 @@
 //! What is to be done next.
 use crate::frame::{Between, Frame};
-use crate::path::{Callee, PathFrame, Point, Root, Writing};
+use crate::path::{Await, Callee, PathFrame, Point, Root, Writing};
 use do_tree::{Block, Expr, Simple, Stmt};
 use do_value::{Text, Value};
 use script_places::Step;
@@ -28,8 +28,8 @@ pub enum Outcome {
 pub enum Focus {
     /// A part ended so: the frame around it goes on.
     Ended(Outcome),
-    /// An expression is to be evaluated. The flag tells that it is the operand of an await.
-    Value(bool, Arc<Expr>),
+    /// An expression is to be evaluated.
+    Value(Await, Arc<Expr>),
     /// The variable is to be read that this expression names.
     Variable(Arc<Expr>),
     /// The variable of this name is to be read, for which a step is charged.
@@ -58,8 +58,8 @@ pub enum Focus {
     Leave(Outcome),
     /// A part of a path is handed the value that it waits for.
     Handed(Box<PathFrame>, Value),
-    /// A path goes on from this point with this link. The flag tells that it is the operand of an await.
-    Walk(bool, Point, Arc<Expr>, usize),
+    /// A path goes on from this point with this link.
+    Walk(Await, Point, Arc<Expr>, usize),
     /// The arguments of a call are to be evaluated: what is called, the arguments so far, the path and the call's link, and
     /// the argument that comes next.
     Arguments(Callee, Vec<Value>, Arc<Expr>, usize, usize),
@@ -73,12 +73,12 @@ pub enum Focus {
     Written(Writing, Root, Vec<Step>),
     /// The place is to have this value.
     Assign(Root, Vec<Step>, Value),
-    /// A helper ended so: its caller goes on with its own variables. The flag tells that the call is awaited.
-    Return(bool, Vars, Outcome),
+    /// A helper ended so: its caller goes on with its own variables.
+    Return(Await, Vars, Outcome),
     /// The body of a transaction ended so.
     Commit(Outcome),
-    /// The body of a block ended so. The flag tells that it is awaited.
-    Unblock(bool, Outcome),
+    /// The body of a block ended so.
+    Unblock(Await, Outcome),
 }
 
 /// How a part unfolds. So many steps are charged, and then the focus is done.

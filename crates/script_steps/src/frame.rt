@@ -4,7 +4,7 @@ ghost use Rattle.script_steps.specs.Paths.{path_frame_of};
 ghost use Rattle.script_steps.specs.Seen.{frame_of};
 ghost use Rattle.script_steps.specs.Weight.{frame_weight, path_frame_weight};
 
-use crate::path::PathFrame;
+use crate::path::{Await, PathFrame};
 use do_tree::{Block, Expr, Simple, Stmt};
 use do_value::{BinOp, Items, Mem, NoMemory, Text, UnOp, Value};
 use std::alloc::Global;
@@ -62,8 +62,8 @@ pub enum Frame {
     Path(Box<PathFrame>),
     /// The end of a transaction.
     Commit,
-    /// The end of a block. The flag tells that it is awaited.
-    Unblock(bool),
+    /// The end of a block.
+    Unblock(Await),
 }
 
 /// The frame of a part of a path or of a write.

@@ -15,6 +15,7 @@ use crate::frame::Frame;
 use crate::lists::{list_from, put, put_pair, record_from};
 use crate::node::{NextExpr, NextOperand, chain_of, expr_at, operand_at};
 use crate::operators::{before, error_of};
+use crate::path::Await;
 use do_tree::{Chain, Expr};
 use do_value::{BinOp, Mem, NoMemory, Value};
 use script_ops::{OpFault, binary, truth};
@@ -69,9 +70,9 @@ fn chosen(yes: Arc<Expr>, no: Arc<Expr>, test: &Value) -> Focus
     ensures less { focus_weight result < 9 }
 {
     if truth(test) {
-        Focus::Value(false, yes)
+        Focus::Value(Await::Absent, yes)
     } else {
-        Focus::Value(false, no)
+        Focus::Value(Await::Absent, no)
     }
 }
 
@@ -85,7 +86,11 @@ fn chain_on(node: Arc<Expr>, place: usize, value: Value) -> Mem<Move>
         None => Ok(Move::Then(0, Focus::Ended(Outcome::Gave(value)))),
         Some(NextExpr { expr, next }) => {
             if goes_on(chain_of(&node), &value) {
-                Ok(Move::Inside(0, Frame::Chain(node, next), Focus::Value(false, expr)))
+                Ok(Move::Inside(
+                    0,
+                    Frame::Chain(node, next),
+                    Focus::Value(Await::Absent, expr),
+                ))
             } else {
                 Ok(Move::Then(0, Focus::Ended(Outcome::Gave(value))))
             }
@@ -115,7 +120,7 @@ fn operate_on(node: Arc<Expr>, place: usize, value: Value) -> Mem<Move>
         Some(NextOperand { op, expr, next }) => Ok(Move::Inside(
             0,
             Frame::Apply(value, op, node, next),
-            Focus::Value(false, expr),
+            Focus::Value(Await::Absent, expr),
         )),
     }
 }

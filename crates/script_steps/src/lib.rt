@@ -23,7 +23,7 @@ pub use handed::hand;
 pub use link::{arg_at, link_at};
 pub use node::again;
 pub use outcome::hand_on;
-pub use path::{Callee, PathFrame, Point, Root, Writing};
+pub use path::{Await, Callee, PathFrame, Point, Root, Writing};
 pub use stmt::{begin_run, begin_simple};
 pub use strip::bare;
 pub use value::begin_value;

@@ -13,6 +13,7 @@ use crate::focus::{Focus, Move};
 use crate::frame::Frame;
 use crate::node::{NextExpr, NextPair, expr_at, pair_at};
 use crate::operators::{made_list, made_record};
+use crate::path::Await;
 use do_tree::Expr;
 use do_value::{Mem, NoMemory, Text, Value};
 use std::alloc::Global;
@@ -36,7 +37,7 @@ pub(crate) fn list_from(
         Some(NextExpr { expr, next }) => Ok(Move::Inside(
             cost,
             Frame::List(got, node, next),
-            Focus::Value(false, expr),
+            Focus::Value(Await::Absent, expr),
         )),
     }
 }
@@ -69,7 +70,7 @@ fn pair_focus(name: &Text, value: Option<Arc<Expr>>) -> Mem<Focus>
     ensures less { IfOk result (λ f. focus_weight f < 4) }
 {
     match value {
-        Some(value) => Ok(Focus::Value(false, value)),
+        Some(value) => Ok(Focus::Value(Await::Absent, value)),
         None => Ok(Focus::Named(name.copy()?)),
     }
 }

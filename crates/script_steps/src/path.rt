@@ -4,6 +4,15 @@ use do_value::{BinOp, Text, Value};
 use script_places::Step;
 use std::sync::Arc;
 
+/// Whether an `await` stands before an expression, or before a call.
+#[derive(Clone, Copy, Debug, Drop, PartialEq, Eq)]
+pub enum Await {
+    /// One does.
+    Present,
+    /// None does.
+    Absent,
+}
+
 /// Where a place begins.
 #[derive(Drop)]
 pub enum Root {
@@ -34,15 +43,15 @@ pub enum Point {
     Holds(Value),
 }
 
-/// What is called once its arguments are evaluated. The flags tell that the call is awaited.
+/// What is called once its arguments are evaluated.
 #[derive(Drop)]
 pub enum Callee {
     /// A method of the storage.
-    Storage(bool, Text),
+    Storage(Await, Text),
     /// A method of a transaction's handle.
-    Handle(bool, Text),
+    Handle(Await, Text),
     /// A helper: a method of the object itself.
-    Object(bool, Text),
+    Object(Await, Text),
     /// A method of a value, which is the first argument.
     Value(Text),
     /// A word of the language.
@@ -54,12 +63,12 @@ pub enum Callee {
     /// A transaction with this body.
     Transaction(Arc<Callback>),
     /// A block with this body.
-    Block(bool, Arc<Callback>),
+    Block(Await, Arc<Callback>),
     /// The object of this class whose name is the first argument: the path, its link whose call takes the identifier, and
     /// the link that comes next.
-    Identifier(bool, Text, Arc<Expr>, usize, usize),
+    Identifier(Await, Text, Arc<Expr>, usize, usize),
     /// The object of this class and name: the path, and the link that names its method.
-    Instance(bool, Text, Value, Arc<Expr>, usize),
+    Instance(Await, Text, Value, Arc<Expr>, usize),
     /// The method of the second name of the object of this class and name.
     Method(Text, Text, Value),
 }
@@ -80,9 +89,9 @@ pub enum Writing {
 #[derive(Drop)]
 pub enum PathFrame {
     /// A path from a value on.
-    Walk(bool, Arc<Expr>, usize),
+    Walk(Await, Arc<Expr>, usize),
     /// A path whose index is evaluated, with the value that it indexes.
-    Index(bool, Value, Arc<Expr>, usize),
+    Index(Await, Value, Arc<Expr>, usize),
     /// A call whose argument is evaluated: what is called, the arguments so far, the path and the call's link, and the
     /// argument that comes next.
     Call(Callee, Vec<Value>, Arc<Expr>, usize, usize),

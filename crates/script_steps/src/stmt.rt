@@ -10,6 +10,7 @@ ghost use Rattle.script_steps.specs.Weight.{LeavesLess};
 use crate::focus::{Focus, Move, Outcome};
 use crate::frame::{Between, Frame};
 use crate::node::{again, again_stmt};
+use crate::path::Await;
 use do_tree::{Expr, Simple, Stmt, Write};
 use do_value::{Mem, Value};
 use std::sync::Arc;
@@ -28,7 +29,11 @@ pub fn begin_run(stmt: &Arc<Stmt>) -> Mem<Move>
             ..
         } => {
             let (test, yes, other) = (again(test)?, again(yes)?, again_stmt(other)?);
-            Ok(Move::Inside(1, Frame::Branch(yes, other), Focus::Value(false, test)))
+            Ok(Move::Inside(
+                1,
+                Frame::Branch(yes, other),
+                Focus::Value(Await::Absent, test),
+            ))
         }
         Stmt::While { test, body, .. } => {
             let (test, body) = (again(test)?, again(body)?);
@@ -36,11 +41,11 @@ pub fn begin_run(stmt: &Arc<Stmt>) -> Mem<Move>
         }
         Stmt::For { first, .. } => {
             let (node, first) = (again(stmt)?, again(first)?);
-            Ok(Move::Inside(1, Frame::Count(node), Focus::Value(false, first)))
+            Ok(Move::Inside(1, Frame::Count(node), Focus::Value(Await::Absent, first)))
         }
         Stmt::ForOf { list, .. } => {
             let (node, list) = (again(stmt)?, again(list)?);
-            Ok(Move::Inside(1, Frame::Visit(node), Focus::Value(false, list)))
+            Ok(Move::Inside(1, Frame::Visit(node), Focus::Value(Await::Absent, list)))
         }
         Stmt::Try { body, .. } => {
             let (node, body) = (again(stmt)?, again(body)?);
@@ -48,7 +53,7 @@ pub fn begin_run(stmt: &Arc<Stmt>) -> Mem<Move>
         }
         Stmt::Throw { value, .. } => {
             let value = again(value)?;
-            Ok(Move::Inside(1, Frame::Throw, Focus::Value(false, value)))
+            Ok(Move::Inside(1, Frame::Throw, Focus::Value(Await::Absent, value)))
         }
         Stmt::Return { value, .. } => begin_return(value),
         Stmt::Break { .. } => Ok(Move::Then(1, Focus::Ended(Outcome::Broke))),
@@ -65,7 +70,7 @@ fn begin_return(value: &Option<Arc<Expr>>) -> Mem<Move>
     match value {
         Some(value) => {
             let value = again(value)?;
-            Ok(Move::Inside(1, Frame::Return, Focus::Value(false, value)))
+            Ok(Move::Inside(1, Frame::Return, Focus::Value(Await::Absent, value)))
         }
         None => Ok(Move::Then(1, Focus::Ended(Outcome::Returned(Value::Undefined)))),
     }
@@ -79,7 +84,7 @@ pub fn begin_simple(inner: &Arc<Simple>) -> Mem<Move>
     match &inner.write {
         Write::Nothing => {
             let expr = again(&inner.place)?;
-            Ok(Move::Inside(1, Frame::Pass, Focus::Value(false, expr)))
+            Ok(Move::Inside(1, Frame::Pass, Focus::Value(Await::Absent, expr)))
         }
         _ => Ok(Move::Then(1, Focus::Write(again(inner)?))),
     }

@@ -4,26 +4,29 @@ ghost use Rattle.do_tree.specs.Seen.{expr_of};
 ghost use Rattle.script_mean.specs.Calls.{Calls};
 ghost use Rattle.script_mean.specs.Meaning.{value};
 ghost use Rattle.script_steps.specs.Parts.{IsBare, coats};
+ghost use Rattle.script_steps.specs.Paths.{is_present};
 
 use crate::node::again;
+use crate::path::Await;
 use do_tree::Expr;
 use do_value::Mem;
 use std::sync::Arc;
 
 /// The expression, and whether it is the operand of an await, without the brackets and the chains of one operand that stand
 /// around it. Nothing is charged for these.
-pub fn bare(awaited: bool, expr: Arc<Expr>) -> Mem<(bool, Arc<Expr>)>
-    ensures same { IfOk result (λ r. (calls : Calls) → value awaited calls (expr_of expr.value) ≡ value r.0 calls (expr_of r.1.value)) }
+pub fn bare(awaited: Await, expr: Arc<Expr>) -> Mem<(Await, Arc<Expr>)>
+    ensures same { IfOk result (λ r. (calls : Calls)
+        → value (is_present awaited) calls (expr_of expr.value) ≡ value (is_present r.0) calls (expr_of r.1.value)) }
     ensures bare { IfOk result (λ r. IsBare (expr_of r.1.value)) }
 {
-    let mut flag = awaited;
+    let mut around = awaited;
     let mut inner = expr;
     while let Some(within) = inside(&inner) {
         let next = again(within)?;
         inner = next;
-        flag = false;
+        around = Await::Absent;
     }
-    Ok((flag, inner))
+    Ok((around, inner))
 }
 
 // What stands in an expression that has nothing of its own.

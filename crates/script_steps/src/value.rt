@@ -5,6 +5,7 @@ ghost use Rattle.do_tree.specs.Seen.{expr_of};
 ghost use Rattle.script_mean.specs.Calls.{Calls};
 ghost use Rattle.script_mean.specs.Meaning.{message, value};
 ghost use Rattle.script_steps.specs.Parts.{IsPlain};
+ghost use Rattle.script_steps.specs.Paths.{is_present};
 ghost use Rattle.script_steps.specs.Seen.{charged, move_run};
 ghost use Rattle.script_steps.specs.Weight.{LeavesLess};
 
@@ -13,29 +14,29 @@ use crate::frame::Frame;
 use crate::lists::{list_from, record_from};
 use crate::node::again;
 use crate::operators::error_of;
+use crate::path::Await;
 use do_tree::Expr;
 use do_value::{Mem, Value};
 use std::alloc::Global;
 use std::sync::Arc;
 
-/// How an expression begins. The flag tells that it is the operand of an await. Paths begin elsewhere, and [`crate::bare`] takes
-/// off what has nothing of its own.
-pub fn begin_value(alloc: Global, awaited: bool, expr: &Arc<Expr>) -> Mem<Move>
+/// How an expression begins. Paths begin elsewhere, and [`crate::bare`] takes off what has nothing of its own.
+pub fn begin_value(alloc: Global, awaited: Await, expr: &Arc<Expr>) -> Mem<Move>
     requires { IsPlain (expr_of expr.now.value) }
-    ensures moves { IfOk result (λ m. (calls : Calls) → value awaited calls (expr_of expr.now.value) ≡ move_run calls m) }
+    ensures moves { IfOk result (λ m. (calls : Calls) → value (is_present awaited) calls (expr_of expr.now.value) ≡ move_run calls m) }
     ensures less { IfOk result (LeavesLess 2) }
 {
     match &**expr {
         Expr::Choice { test, yes, no, .. } => {
             let (test, yes, no) = (again(test)?, again(yes)?, again(no)?);
-            Ok(Move::Inside(1, Frame::Choose(yes, no), Focus::Value(false, test)))
+            Ok(Move::Inside(1, Frame::Choose(yes, no), Focus::Value(Await::Absent, test)))
         }
         Expr::Lazy { first, rest, .. } => {
             let (node, first) = (again(expr)?, again(first)?);
             Ok(Move::Inside(
                 rest.len(),
                 Frame::Chain(node, 0),
-                Focus::Value(false, first),
+                Focus::Value(Await::Absent, first),
             ))
         }
         Expr::Strict { first, rest, .. } => {
@@ -43,14 +44,14 @@ pub fn begin_value(alloc: Global, awaited: bool, expr: &Arc<Expr>) -> Mem<Move>
             Ok(Move::Inside(
                 rest.len(),
                 Frame::Operate(node, 0),
-                Focus::Value(false, first),
+                Focus::Value(Await::Absent, first),
             ))
         }
         Expr::Unary { op, value, .. } => {
             let value = again(value)?;
-            Ok(Move::Inside(1, Frame::Prefix(*op), Focus::Value(false, value)))
+            Ok(Move::Inside(1, Frame::Prefix(*op), Focus::Value(Await::Absent, value)))
         }
-        Expr::Await { value, .. } => Ok(Move::Then(1, Focus::Value(true, again(value)?))),
+        Expr::Await { value, .. } => Ok(Move::Then(1, Focus::Value(Await::Present, again(value)?))),
         Expr::List { .. } => list_from(alloc, 1, Vec::new(alloc), again(expr)?, 0),
         Expr::Record { .. } => record_from(alloc, 1, Vec::new(alloc), again(expr)?, 0),
         Expr::NewError { message, .. } => begin_error(alloc, message),
@@ -73,7 +74,7 @@ fn begin_error(alloc: Global, text: &Option<Arc<Expr>>) -> Mem<Move>
     match text {
         Some(text) => {
             let text = again(text)?;
-            Ok(Move::Inside(1, Frame::Error, Focus::Value(false, text)))
+            Ok(Move::Inside(1, Frame::Error, Focus::Value(Await::Absent, text)))
         }
         None => Ok(Move::Then(1, Focus::Ended(error_of(alloc, &[])?))),
     }

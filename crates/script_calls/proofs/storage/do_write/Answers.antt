@@ -4,13 +4,14 @@ use Rattle.script_calls.proofs.Ended.{does_as, goes_as}
 use Rattle.script_mean.specs.Calls.{do_request}
 use Rattle.script_mean.specs.Storing.{writes}
 use Rattle.script_mean.specs.Turn.{join}
+use Rattle.script_steps.specs.Paths.{is_present}
 use Rattle.script_calls.proofs.storage.do_write.Goals as goal
 
-pub returns-then-awaited-clause-same : goal.returns-then-awaited-clause-same
-returns-then-awaited-clause-same c =
-    does_as _ _ c.args.state.now c.write_awaited.new.state c.write_awaited.result (ap (λ b. do_request b (writes c.args.ops.items (completed_of c.args.gives))) c.if-awaited.true) c.write_awaited.ensures.same
+pub returns-in-Present-clause-same : goal.returns-in-Present-clause-same
+returns-in-Present-clause-same c =
+    does_as _ _ c.args.state.now c.write_awaited.new.state c.write_awaited.result (ap (λ a. do_request (is_present a) (writes c.args.ops.items (completed_of c.args.gives))) c.in-Present.is) c.write_awaited.ensures.same
 
-pub returns-clause-same : goal.returns-clause-same
-returns-clause-same c =
-    goes_as (do_request c.args.awaited (writes c.args.ops.items (completed_of c.args.gives))) (join c.args.ops.items) c.args.state.now c.join.new.self c.in_ok-join.field-0
-    (ap (λ b. do_request b (writes c.args.ops.items (completed_of c.args.gives))) c.if-awaited.false) c.in_ok-join.ensures
+pub returns-in_ok-join-in-Absent-clause-same : goal.returns-in_ok-join-in-Absent-clause-same
+returns-in_ok-join-in-Absent-clause-same c =
+    goes_as (do_request (is_present c.args.awaited) (writes c.args.ops.items (completed_of c.args.gives))) (join c.args.ops.items) c.args.state.now c.join.new.self c.in_ok-join-in-Absent.field-0
+    (ap (λ a. do_request (is_present a) (writes c.args.ops.items (completed_of c.args.gives))) c.in-Absent.is) c.in_ok-join-in-Absent.ensures

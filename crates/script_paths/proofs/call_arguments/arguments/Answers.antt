@@ -1,4 +1,4 @@
-use Rattle.std.proofs.Common.{◌≡◌, ◌+◌, ap, ◌∙◌, arith, false}
+use Rattle.std.proofs.Common.{◌≡◌, ◌+◌, ap, ◌∙◌, arith}
 use Rattle.std.proofs.lemmas.Grind.{common_steps}
 use Rattle.do_tree.specs.Nodes.{with_arg}
 use Rattle.do_tree.specs.Seen.{expr_of}
@@ -10,6 +10,7 @@ use Rattle.script_steps.specs.Parts.{args_in}
 use Rattle.script_steps.specs.Paths.{callee_of}
 use Rattle.script_steps.specs.Weight.{callee_weight}
 use Rattle.script_paths.proofs.Framed.{framed_so}
+use Rattle.script_steps.specs.declared.path.Await.TheVariants as await
 use Rattle.script_steps.specs.declared.focus.Focus.TheVariants as focus
 use Rattle.script_paths.proofs.Args.{callback_goes, none_goes, value_goes}
 use Rattle.script_paths.proofs.call_arguments.arguments.Goals as goal
@@ -22,7 +23,7 @@ returns-in-Some-Value-clause-same c =
     λ calls. c.callbacks.invariant.same calls (trees_in c.args.got.items) (called calls (callee_of c.args.callee))
     ∙ value_goes calls (callee_of c.args.callee) _ (trees_in c.args.got.items) c.in-Some-Value.field-0.now c.in-Some-Value.expr c.in_ok-expr-in-Some-Value.expr _ _
     found is c.in_ok-expr-in-Some-Value.ensures (ap callee_of c.callbacks.invariant.callee)
-    ∙ framed_so calls 0 c.in_ok-frame-in-Some-Value.frame _ (focus.Value false c.in_ok-expr-in-Some-Value.expr) c.in_ok-frame-in-Some-Value.ensures.frame
+    ∙ framed_so calls 0 c.in_ok-frame-in-Some-Value.frame _ (focus.Value await.Absent c.in_ok-expr-in-Some-Value.expr) c.in_ok-frame-in-Some-Value.ensures.frame
 
 pub returns-in-Some-Value-clause-less : goal.returns-in-Some-Value-clause-less
 returns-in-Some-Value-clause-less c =

@@ -5,8 +5,9 @@ use Rattle.script_steps.proofs.Begun.{if_ok}
 use Rattle.script_steps.specs.Parts.{links_in}
 use Rattle.script_paths.specs.Ahead.{front_of}
 use Rattle.script_paths.specs.Onward.{object_on}
+use Rattle.script_steps.specs.Paths.{is_present}
 use Rattle.script_paths.proofs.called.object_goes_on.Goals as goal
 
 pub returns-in-Method-clause-same : goal.returns-in-Method-clause-same
 returns-in-Method-clause-same c =
-    if_ok c.call_from.result (λ m p calls. ap (λ a. object_on c.args.awaited calls c.args.class (tree_of c.args.name) (front_of a) (links_in (expr_of c.args.node.value) (c.args.place + 1)) (links_in (expr_of c.args.node.value) (c.args.place + 1 + 1))) c.in-Method.is ∙ p calls) c.call_from.ensures.same
+    if_ok c.call_from.result (λ m p calls. ap (λ a. object_on (is_present c.args.awaited) calls c.args.class (tree_of c.args.name) (front_of a) (links_in (expr_of c.args.node.value) (c.args.place + 1)) (links_in (expr_of c.args.node.value) (c.args.place + 1 + 1))) c.in-Method.is ∙ p calls) c.call_from.ensures.same

@@ -7,12 +7,13 @@ use Rattle.script_mean.specs.Meaning.{links}
 use Rattle.script_mean.specs.Paths.{of_class, parts_behind_two_calls}
 use Rattle.script_paths.proofs.Onward.{leaves_at, unfolds_at, class_fronts, opened_fronts}
 use Rattle.script_paths.specs.Onward.{class_on, opened_parts_on}
+use Rattle.script_steps.specs.Paths.{is_present}
 use Rattle.script_paths.proofs.classes.from_class.Goals as goal
 
 pub returns-clause-same : goal.returns-clause-same
 returns-clause-same c =
     let h : front (links_in (expr_of c.args.node.value) c.args.place) ≡ front_of c.in_ok-ahead.ahead = grind (arith, common_steps) in
-    unfolds_at (λ calls. links c.args.awaited calls (of_class c.args.class)) (λ calls. class_on c.args.awaited calls c.args.class) (λ calls. class_fronts c.args.awaited calls c.args.class) (expr_of c.args.node.value) c.args.place _ h _ c.class_goes_on.ensures.same
+    unfolds_at (λ calls. links (is_present c.args.awaited) calls (of_class c.args.class)) (λ calls. class_on (is_present c.args.awaited) calls c.args.class) (λ calls. class_fronts (is_present c.args.awaited) calls c.args.class) (expr_of c.args.node.value) c.args.place _ h _ c.class_goes_on.ensures.same
 
 pub returns-clause-less : goal.returns-clause-less
 returns-clause-less c =

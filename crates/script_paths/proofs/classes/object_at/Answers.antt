@@ -1,6 +1,7 @@
 use Rattle.std.proofs.Common.{◌≡◌, ◌+◌, Some, None, sym, ap, ◌∙◌, arith}
 use Rattle.std.proofs.lemmas.Grind.{common_steps}
 use Rattle.do_tree.specs.Seen.{expr_of}
+use Rattle.script_steps.specs.Paths.{is_present}
 use Rattle.script_steps.specs.Seen.{move_run}
 use Rattle.script_steps.specs.Parts.{args_in, links_in}
 use Rattle.script_paths.proofs.Onward.{object_begins}
@@ -10,9 +11,9 @@ use Rattle.script_paths.proofs.classes.object_at.Goals as goal
 pub returns-in-Some-clause-same : goal.returns-in-Some-clause-same
 returns-in-Some-clause-same c =
     let found : first_value (args_in (expr_of c.args.node.value) c.args.link 0) ≡ Some (expr_of c.in-Some.name.value) = grind (arith, common_steps) in
-    λ calls. object_begins c.args.awaited calls c.args.class (args_in (expr_of c.args.node.value) c.args.link 0) (links_in (expr_of c.args.node.value) (c.args.link + 1)) _ found ∙ c.named_at.ensures.same calls
+    λ calls. object_begins (is_present c.args.awaited) calls c.args.class (args_in (expr_of c.args.node.value) c.args.link 0) (links_in (expr_of c.args.node.value) (c.args.link + 1)) _ found ∙ c.named_at.ensures.same calls
 
 pub returns-in-None-clause-same : goal.returns-in-None-clause-same
 returns-in-None-clause-same c =
     let found : first_value (args_in (expr_of c.args.node.value) c.args.link 0) ≡ None = grind (arith, common_steps) in
-    λ calls. object_begins c.args.awaited calls c.args.class (args_in (expr_of c.args.node.value) c.args.link 0) (links_in (expr_of c.args.node.value) (c.args.link + 1)) _ found ∙ ap (λ m. move_run calls m) (sym c.nowhere.ensures)
+    λ calls. object_begins (is_present c.args.awaited) calls c.args.class (args_in (expr_of c.args.node.value) c.args.link 0) (links_in (expr_of c.args.node.value) (c.args.link + 1)) _ found ∙ ap (λ m. move_run calls m) (sym c.nowhere.ensures)

@@ -9,6 +9,7 @@ use Rattle.script_mean.specs.Turn.{Run}
 use Rattle.script_steps.proofs.Begun.{if_ok}
 use Rattle.script_paths.proofs.Onward.{at_place, itself_fronts, leaves_at, own_fronts}
 use Rattle.script_paths.specs.Onward.{itself_on, itself_parts_on}
+use Rattle.script_steps.specs.Paths.{is_present}
 use Rattle.script_paths.proofs.itself.from_itself.Goals as goal
 
 pub returns-clause-same : goal.returns-clause-same
@@ -16,7 +17,7 @@ returns-clause-same c =
     let h : front (links_in (expr_of c.args.node.value) c.args.place) ≡ front_of c.in_ok-ahead.ahead = grind (arith, common_steps) in
     if_ok c.itself_goes_on.result
     (λ m p calls env next st here.
-    ap (λ (r : Run). r env next st) (at_place (links c.args.awaited calls itself) (itself_on c.args.awaited calls) (itself_fronts c.args.awaited calls) (expr_of c.args.node.value) c.args.place _ h)
+    ap (λ (r : Run). r env next st) (at_place (links (is_present c.args.awaited) calls itself) (itself_on (is_present c.args.awaited) calls) (itself_fronts (is_present c.args.awaited) calls) (expr_of c.args.node.value) c.args.place _ h)
     ∙ p calls env next st here)
     c.itself_goes_on.ensures.same
 

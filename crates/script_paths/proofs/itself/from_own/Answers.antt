@@ -10,6 +10,7 @@ use Rattle.script_places.specs.Steps.{steps_in}
 use Rattle.script_steps.proofs.Begun.{if_ok}
 use Rattle.script_steps.specs.Parts.{links_in}
 use Rattle.script_paths.proofs.Onward.{less_more, plain_parts, pushed_field, read_field}
+use Rattle.script_steps.specs.Paths.{is_present}
 use Rattle.script_paths.proofs.itself.from_own.Goals as goal
 
 pub returns-then-pushes_at-clause-same : goal.returns-then-pushes_at-clause-same
@@ -19,7 +20,7 @@ returns-then-pushes_at-clause-same c =
     let b : bytes_eq (codes "env") c.args.name ≡ false = c.requires.not_environment in
     let h : pushes ls ≡ true = sym c.pushes_at.ensures ∙ c.if-pushes_at.true in
     λ calls env next st here.
-    ap (λ (r : Run). r env next st) (pushed_field c.args.awaited calls c.args.name ls a b h ∙ ap (λ ss. to_push calls (own c.args.name) (steps_in ss) ls) (sym c.new.ensures.items))
+    ap (λ (r : Run). r env next st) (pushed_field (is_present c.args.awaited) calls c.args.name ls a b h ∙ ap (λ ss. to_push calls (own c.args.name) (steps_in ss) ls) (sym c.new.ensures.items))
 
 pub returns-then-pushes_at-clause-less : goal.returns-then-pushes_at-clause-less
 returns-then-pushes_at-clause-less c =
@@ -38,10 +39,10 @@ returns-clause-same c =
     let h : pushes ls ≡ false = sym c.pushes_at.ensures ∙ c.if-pushes_at.false in
     if_ok c.from_value.result
     (λ m p calls env next st here.
-    ap (λ (r : Run). r env next st) (read_field c.args.awaited calls c.args.name ls a b h)
-    ∙ ap (λ fs. links c.args.awaited calls (holds (or_undefined (value_at c.args.name fs))) ls env next st) here
-    ∙ ap (λ n. links c.args.awaited calls (holds (or_undefined (value_at n c.args.fields.now))) ls env next st) (sym c.as_str.ensures)
-    ∙ ap (λ v. links c.args.awaited calls (holds v) ls env next st) (sym c.in_ok-value.ensures)
+    ap (λ (r : Run). r env next st) (read_field (is_present c.args.awaited) calls c.args.name ls a b h)
+    ∙ ap (λ fs. links (is_present c.args.awaited) calls (holds (or_undefined (value_at c.args.name fs))) ls env next st) here
+    ∙ ap (λ n. links (is_present c.args.awaited) calls (holds (or_undefined (value_at n c.args.fields.now))) ls env next st) (sym c.as_str.ensures)
+    ∙ ap (λ v. links (is_present c.args.awaited) calls (holds v) ls env next st) (sym c.in_ok-value.ensures)
     ∙ ap (λ (r : Run). r env next st) (p calls))
     c.from_value.ensures.same
 

@@ -1,4 +1,4 @@
-use Rattle.std.proofs.Common.{◌≡◌, ◌+◌, [], ◌∷◌, ◌++◌, sym, ap, ◌∙◌, arith, false}
+use Rattle.std.proofs.Common.{◌≡◌, ◌+◌, [], ◌∷◌, ◌++◌, sym, ap, ◌∙◌, arith}
 use Rattle.std.proofs.lemmas.Grind.{common_steps}
 use Rattle.do_tree.specs.Nodes.{with_link}
 use Rattle.do_tree.specs.Seen.{expr_of}
@@ -11,6 +11,7 @@ use Rattle.script_steps.specs.Parts.{links_in}
 use Rattle.script_steps.specs.Paths.{root_of, writing_of}
 use Rattle.script_steps.specs.Seen.{move_run}
 use Rattle.script_paths.proofs.Framed.{framed_so}
+use Rattle.script_steps.specs.declared.path.Await.TheVariants as await
 use Rattle.script_steps.specs.declared.focus.Focus.TheVariants as focus
 use Rattle.script_paths.proofs.Found.{call_stops, field_goes, index_goes, place_ends}
 use Rattle.script_paths.proofs.places.place.Goals as goal
@@ -37,7 +38,7 @@ returns-in-Some-Index-clause-same c =
     λ calls. c.fields.invariant.same calls (written calls (writing_of c.args.writing) (root_of c.args.root))
     ∙ index_goes calls (root_of c.args.root) (steps_in c.fields.steps.items) (writing_of c.args.writing) _ _ _ c.in-Some-Index.field-0.now c.in-Some-Index.index
     c.in_ok-index-in-Some-Index.index _ _ found is same (ap writing_of c.fields.invariant.writing) (ap root_of c.fields.invariant.root)
-    ∙ framed_so calls 0 c.in_ok-frame-in-Some-Index.frame _ (focus.Value false c.in_ok-index-in-Some-Index.index) c.in_ok-frame-in-Some-Index.ensures.frame
+    ∙ framed_so calls 0 c.in_ok-frame-in-Some-Index.frame _ (focus.Value await.Absent c.in_ok-index-in-Some-Index.index) c.in_ok-frame-in-Some-Index.ensures.frame
 
 pub returns-in-Some-Call-clause-same : goal.returns-in-Some-Call-clause-same
 returns-in-Some-Call-clause-same c =

@@ -13,6 +13,7 @@ use Rattle.script_steps.specs.Paths.{root_of}
 use Rattle.script_steps.specs.Seen.{move_run}
 use Rattle.script_steps.specs.Weight.{LeavesLess}
 use Rattle.script_paths.proofs.Framed.{framed_so}
+use Rattle.script_steps.specs.declared.path.Await.TheVariants as await
 use Rattle.script_steps.specs.declared.focus.Focus.TheVariants as focus
 use Rattle.script_paths.proofs.Pushes.{behind, call_goes, call_stops, called_parts, field_goes, field_parts, index_goes, none_stops}
 use Rattle.script_paths.proofs.pushed.push.Goals as goal
@@ -58,7 +59,7 @@ returns-in-Some-Index-clause-same c =
     λ calls. c.fields.invariant.same calls
     ∙ index_goes calls (root_of c.args.root) (steps_in c.fields.steps.items) _ _ c.in-Some-Index.field-0.now c.in-Some-Index.index c.in_ok-index-in-Some-Index.index _ _
     found is same (ap root_of c.fields.invariant.root)
-    ∙ framed_so calls 0 c.in_ok-frame-in-Some-Index.frame _ (focus.Value false c.in_ok-index-in-Some-Index.index) c.in_ok-frame-in-Some-Index.ensures.frame
+    ∙ framed_so calls 0 c.in_ok-frame-in-Some-Index.frame _ (focus.Value await.Absent c.in_ok-index-in-Some-Index.index) c.in_ok-frame-in-Some-Index.ensures.frame
 
 pub returns-in-Some-Call-clause-same : goal.returns-in-Some-Call-clause-same
 returns-in-Some-Call-clause-same c =

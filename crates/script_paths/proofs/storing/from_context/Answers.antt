@@ -7,12 +7,13 @@ use Rattle.script_mean.specs.Meaning.{links}
 use Rattle.script_mean.specs.Paths.{context, parts_behind_call}
 use Rattle.script_paths.proofs.Onward.{leaves_at, unfolds_at, context_fronts, called_fronts}
 use Rattle.script_paths.specs.Onward.{context_on, called_parts_on}
+use Rattle.script_steps.specs.Paths.{is_present}
 use Rattle.script_paths.proofs.storing.from_context.Goals as goal
 
 pub returns-clause-same : goal.returns-clause-same
 returns-clause-same c =
     let h : front (links_in (expr_of c.args.node.value) c.args.place) ≡ front_of c.in_ok-ahead.ahead = grind (arith, common_steps) in
-    unfolds_at (λ calls. links c.args.awaited calls context) (λ calls. context_on c.args.awaited calls) (λ calls. context_fronts c.args.awaited calls) (expr_of c.args.node.value) c.args.place _ h _ c.context_goes_on.ensures.same
+    unfolds_at (λ calls. links (is_present c.args.awaited) calls context) (λ calls. context_on (is_present c.args.awaited) calls) (λ calls. context_fronts (is_present c.args.awaited) calls) (expr_of c.args.node.value) c.args.place _ h _ c.context_goes_on.ensures.same
 
 pub returns-clause-less : goal.returns-clause-less
 returns-clause-less c =

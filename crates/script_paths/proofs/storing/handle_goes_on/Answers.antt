@@ -4,8 +4,9 @@ use Rattle.script_steps.proofs.Begun.{if_ok}
 use Rattle.script_steps.specs.Parts.{links_in}
 use Rattle.script_paths.specs.Ahead.{front_of}
 use Rattle.script_paths.specs.Onward.{handle_on}
+use Rattle.script_steps.specs.Paths.{is_present}
 use Rattle.script_paths.proofs.storing.handle_goes_on.Goals as goal
 
 pub returns-in-Method-clause-same : goal.returns-in-Method-clause-same
 returns-in-Method-clause-same c =
-    if_ok c.call_from.result (λ m p calls. ap (λ a. handle_on c.args.awaited calls (front_of a) (links_in (expr_of c.args.node.value) (c.args.place + 1)) (links_in (expr_of c.args.node.value) (c.args.place + 1 + 1))) c.in-Method.is ∙ p calls) c.call_from.ensures.same
+    if_ok c.call_from.result (λ m p calls. ap (λ a. handle_on (is_present c.args.awaited) calls (front_of a) (links_in (expr_of c.args.node.value) (c.args.place + 1)) (links_in (expr_of c.args.node.value) (c.args.place + 1 + 1))) c.in-Method.is ∙ p calls) c.call_from.ensures.same

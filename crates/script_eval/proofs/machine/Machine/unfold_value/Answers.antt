@@ -4,6 +4,7 @@ use Rattle.do_tree.specs.Seen.{expr_of}
 use Rattle.do_tree.specs.declared.expr.Expr.TheVariants as node
 use Rattle.script_mean.specs.Meaning.{value}
 use Rattle.script_steps.proofs.Begun.{if_ok}
+use Rattle.script_steps.specs.Paths.{is_present}
 use Rattle.script_steps.specs.declared.focus.Focus.TheVariants as focus
 use Rattle.script_eval.proofs.Moved.{in_acts}
 use Rattle.script_eval.proofs.Stepped.{unfolds_on}
@@ -20,5 +21,5 @@ pub returns-in-Variable : goal.returns-in-Variable
 returns-in-Variable c =
     let is : c.args.expr.value ≡ node.Variable c.in-Variable.name = grind (arith, common_steps) in
     if_ok c.read_charged.result
-    (λ p led. led (focus.Value c.args.awaited c.args.expr) (λ calls. ap (λ e. value c.args.awaited calls (expr_of e)) is, omega arith))
+    (λ p led. led (focus.Value c.args.awaited c.args.expr) (λ calls. ap (λ e. value (is_present c.args.awaited) calls (expr_of e)) is, omega arith))
     c.read_charged.ensures
