@@ -1,19 +1,29 @@
-//! Expressions and statements as text. The functions go down the tree together.
+//! Expressions and statements as text. The functions go down the tree together. No node's place is printed: where a
+//! contract makes a node of its parts, its place is 0.
+#![tactic(auto, using(std::proofs::lemmas::Grind::common_steps, crate::proofs::Writing::write_all_append))]
+
 ghost use Rattle.std.specs.Prelude.{◌≡◌, [], ◌∷◌, ◌++◌, OnOk};
-ghost use Rattle.do_tree.specs.Nodes.{args_in, block_in, exprs_in, links_in, operands_in, option_expr_in, option_stmt_in, pairs_in, simple_of, with_arg, with_link};
-ghost use Rattle.do_tree.specs.Print.{tokens_of_args, tokens_of_block, tokens_of_chained, tokens_of_elements, tokens_of_expr, tokens_of_initial, tokens_of_items, tokens_of_links, tokens_of_operands, tokens_of_option_expr, tokens_of_other, tokens_of_pair, tokens_of_pairs, tokens_of_simple, tokens_of_stmt, tokens_of_test};
+ghost use Rattle.do_lex.specs.declared.kind.Mark.TheVariants as marks;
+ghost use Rattle.do_tree.specs.Nodes.{args_in, block_in, exprs_in, links_in, operands_in, option_expr_in, option_stmt_in};
+ghost use Rattle.do_tree.specs.Nodes.{pairs_in, simple_of, with_arg, with_link};
+ghost use Rattle.do_tree.specs.Print.{a_mark};
+ghost use Rattle.do_tree.specs.Print.{tokens_of_args, tokens_of_chained, tokens_of_elements, tokens_of_expr, tokens_of_initial};
+ghost use Rattle.do_tree.specs.Print.{tokens_of_links, tokens_of_operands, tokens_of_option_expr, tokens_of_pair, tokens_of_pairs};
+ghost use Rattle.do_tree.specs.Print.{tokens_of_block, tokens_of_items, tokens_of_other, tokens_of_simple, tokens_of_stmt, tokens_of_test};
 ghost use Rattle.do_tree.specs.Seen.{expr_of, items_in, named_of, stmt_of, with_item};
+ghost use Rattle.do_tree.specs.Tree as tree;
 ghost use Rattle.do_tree.specs.Tree.{no_args, no_items, no_links};
 ghost use Rattle.do_tree.specs.Written.{write_all, written_of};
 
 use crate::expr::{Arg, Chain, Expr, Link, Operand, Pair};
 use crate::print_word::{
-    Printed, binding_key, chain_mark, operator_mark, put_caught, put_comma, put_key, put_mark,
-    put_name, put_number, put_option_name, put_quoted, put_record_key, put_word, unary_mark,
+    Printed, binding_key, chain_mark, operator_mark, put_caught, put_comma, put_exit, put_for,
+    put_key, put_mark, put_name, put_number, put_option_name, put_quoted, put_record_key, put_word,
+    unary_mark,
 };
 use crate::stmt::{Block, Item, Simple, Stmt, Write};
 use do_lex::{Keyword, Mark};
-use do_value::Mem;
+use do_value::{Mem, UnOp};
 use std::sync::Arc;
 
 /// Prints the expression.
@@ -43,14 +53,8 @@ pub fn print_expr(out: &mut Printed, expr: &Expr) -> Mem<()>
             print_expr(out, first)?;
             print_operands(out, rest)
         }
-        Expr::Unary { op, value, .. } => {
-            put_mark(out, unary_mark(*op))?;
-            print_expr(out, value)
-        }
-        Expr::Await { value, .. } => {
-            put_key(out, Keyword::Await)?;
-            print_expr(out, value)
-        }
+        Expr::Unary { op, value, .. } => print_unary(out, *op, value),
+        Expr::Await { value, .. } => print_await(out, value),
         Expr::Path { base, links, .. } => {
             print_expr(out, base)?;
             print_links(out, links)
@@ -63,29 +67,71 @@ pub fn print_expr(out: &mut Printed, expr: &Expr) -> Mem<()>
         Expr::Undefined { .. } => put_key(out, Keyword::Undefined),
         Expr::This { .. } => put_key(out, Keyword::This),
         Expr::Variable(name) => put_name(out, name),
-        Expr::Group { inside, .. } => {
-            put_mark(out, Mark::OpenParen)?;
-            print_expr(out, inside)?;
-            put_mark(out, Mark::CloseParen)
-        }
-        Expr::List { items, .. } => {
-            put_mark(out, Mark::OpenBracket)?;
-            print_elements(out, items)?;
-            put_mark(out, Mark::CloseBracket)
-        }
-        Expr::Record { pairs, .. } => {
-            put_mark(out, Mark::OpenBrace)?;
-            print_pairs(out, pairs)?;
-            put_mark(out, Mark::CloseBrace)
-        }
-        Expr::NewError { message, .. } => {
-            put_key(out, Keyword::New)?;
-            put_word(out, "Error")?;
-            put_mark(out, Mark::OpenParen)?;
-            print_option(out, message)?;
-            put_mark(out, Mark::CloseParen)
-        }
+        Expr::Group { inside, .. } => print_group(out, inside),
+        Expr::List { items, .. } => print_list(out, items),
+        Expr::Record { pairs, .. } => print_record(out, pairs),
+        Expr::NewError { message, .. } => print_new_error(out, message),
     }
+}
+
+/// Prints the operator and its operand.
+#[cycle(print)]
+fn print_unary(out: &mut Printed, op: UnOp, value: &Expr) -> Mem<()>
+    ensures { OnOk result (written_of out.new ≡ write_all (written_of out.old) (tokens_of_expr (tree.unary 0 op (expr_of value.now)))) }
+{
+    put_mark(out, unary_mark(op))?;
+    print_expr(out, value)
+}
+
+/// Prints the wait for a value.
+#[cycle(print)]
+fn print_await(out: &mut Printed, value: &Expr) -> Mem<()>
+    ensures { OnOk result (written_of out.new ≡ write_all (written_of out.old) (tokens_of_expr (tree.await 0 (expr_of value.now)))) }
+{
+    put_key(out, Keyword::Await)?;
+    print_expr(out, value)
+}
+
+/// Prints the expression between parentheses.
+#[cycle(print)]
+fn print_group(out: &mut Printed, inside: &Expr) -> Mem<()>
+    ensures { OnOk result (written_of out.new ≡ write_all (written_of out.old) (tokens_of_expr (tree.group 0 (expr_of inside.now)))) }
+{
+    put_mark(out, Mark::OpenParen)?;
+    print_expr(out, inside)?;
+    put_mark(out, Mark::CloseParen)
+}
+
+/// Prints the list of these elements.
+#[cycle(print)]
+fn print_list(out: &mut Printed, items: &[Arc<Expr>]) -> Mem<()>
+    ensures { OnOk result (written_of out.new ≡ write_all (written_of out.old) (tokens_of_expr (tree.list 0 (exprs_in items.now)))) }
+{
+    put_mark(out, Mark::OpenBracket)?;
+    print_elements(out, items)?;
+    put_mark(out, Mark::CloseBracket)
+}
+
+/// Prints the record of these pairs.
+#[cycle(print)]
+fn print_record(out: &mut Printed, pairs: &[Pair]) -> Mem<()>
+    ensures { OnOk result (written_of out.new ≡ write_all (written_of out.old) (tokens_of_expr (tree.rec 0 (pairs_in pairs.now)))) }
+{
+    put_mark(out, Mark::OpenBrace)?;
+    print_pairs(out, pairs)?;
+    put_mark(out, Mark::CloseBrace)
+}
+
+/// Prints the new error, with its message if it has one.
+#[cycle(print)]
+fn print_new_error(out: &mut Printed, message: &Option<Arc<Expr>>) -> Mem<()>
+    ensures { OnOk result (written_of out.new ≡ write_all (written_of out.old) (tokens_of_expr (tree.new_error 0 (option_expr_in message.now)))) }
+{
+    put_key(out, Keyword::New)?;
+    put_word(out, "Error")?;
+    put_mark(out, Mark::OpenParen)?;
+    print_option(out, message)?;
+    put_mark(out, Mark::CloseParen)
 }
 
 /// Prints the expression, if there is one.
@@ -115,7 +161,6 @@ fn print_initial(out: &mut Printed, value: &Option<Arc<Expr>>) -> Mem<()>
 
 /// Prints the operands of a chain from the second on.
 #[cycle(print)]
-#[tactic(auto, using(std::proofs::lemmas::Grind::common_steps, crate::proofs::Writing::write_all_append))]
 fn print_chained(out: &mut Printed, chain: Chain, rest: &[Arc<Expr>]) -> Mem<()>
     ensures { OnOk result (written_of out.new ≡ write_all (written_of out.old) (tokens_of_chained chain (exprs_in rest.now))) }
 {
@@ -128,7 +173,6 @@ fn print_chained(out: &mut Printed, chain: Chain, rest: &[Arc<Expr>]) -> Mem<()>
 
 /// Prints the operands of strict operators from the second on.
 #[cycle(print)]
-#[tactic(auto, using(std::proofs::lemmas::Grind::common_steps, crate::proofs::Writing::write_all_append))]
 fn print_operands(out: &mut Printed, rest: &[Operand]) -> Mem<()>
     ensures { OnOk result (written_of out.new ≡ write_all (written_of out.old) (tokens_of_operands (operands_in rest.now))) }
 {
@@ -241,7 +285,6 @@ fn print_pairs(out: &mut Printed, pairs: &[Pair]) -> Mem<()>
 
 /// Prints a pair of a record.
 #[cycle(print)]
-#[tactic(auto, using(std::proofs::lemmas::Grind::common_steps, crate::proofs::Writing::write_all_append))]
 fn print_pair(out: &mut Printed, pair: &Pair) -> Mem<()>
     ensures { OnOk result (written_of out.new ≡ write_all (written_of out.old) (tokens_of_pair (named_of pair.now.key) (option_expr_in pair.now.value))) }
 {
@@ -269,7 +312,6 @@ pub fn print_items(out: &mut Printed, items: &[Item]) -> Mem<()>
 
 /// Prints an item of a block.
 #[cycle(print)]
-#[tactic(auto, using(std::proofs::lemmas::Grind::common_steps, crate::proofs::Writing::write_all_append))]
 fn print_item(out: &mut Printed, item: &Item) -> Mem<()>
     ensures { OnOk result (written_of out.new ≡ write_all (written_of out.old) (tokens_of_items (with_item item.now no_items))) }
 {
@@ -321,15 +363,10 @@ fn print_stmt(out: &mut Printed, stmt: &Stmt) -> Mem<()>
             body,
             ..
         } => {
-            put_key(out, Keyword::For)?;
-            put_mark(out, Mark::OpenParen)?;
-            put_key(out, Keyword::Let)?;
-            put_name(out, name)?;
+            put_for(out, Keyword::Let, name)?;
             put_mark(out, Mark::Assign)?;
-            print_expr(out, first)?;
-            put_mark(out, Mark::Semicolon)?;
-            print_expr(out, test)?;
-            put_mark(out, Mark::Semicolon)?;
+            print_ended(out, first)?;
+            print_ended(out, test)?;
             print_simple(out, step)?;
             put_mark(out, Mark::CloseParen)?;
             print_stmt(out, body)
@@ -341,10 +378,7 @@ fn print_stmt(out: &mut Printed, stmt: &Stmt) -> Mem<()>
             body,
             ..
         } => {
-            put_key(out, Keyword::For)?;
-            put_mark(out, Mark::OpenParen)?;
-            put_key(out, binding_key(*binding))?;
-            put_name(out, name)?;
+            put_for(out, binding_key(*binding), name)?;
             put_word(out, "of")?;
             print_expr(out, list)?;
             put_mark(out, Mark::CloseParen)?;
@@ -364,22 +398,11 @@ fn print_stmt(out: &mut Printed, stmt: &Stmt) -> Mem<()>
         }
         Stmt::Throw { value, .. } => {
             put_key(out, Keyword::Throw)?;
-            print_expr(out, value)?;
-            put_mark(out, Mark::Semicolon)
+            print_ended(out, value)
         }
-        Stmt::Return { value, .. } => {
-            put_key(out, Keyword::Return)?;
-            print_option(out, value)?;
-            put_mark(out, Mark::Semicolon)
-        }
-        Stmt::Break { .. } => {
-            put_key(out, Keyword::Break)?;
-            put_mark(out, Mark::Semicolon)
-        }
-        Stmt::Continue { .. } => {
-            put_key(out, Keyword::Continue)?;
-            put_mark(out, Mark::Semicolon)
-        }
+        Stmt::Return { value, .. } => print_return(out, value),
+        Stmt::Break { .. } => put_exit(out, Keyword::Break),
+        Stmt::Continue { .. } => put_exit(out, Keyword::Continue),
         Stmt::Simple(simple) => {
             print_simple(out, simple)?;
             put_mark(out, Mark::Semicolon)
@@ -387,9 +410,27 @@ fn print_stmt(out: &mut Printed, stmt: &Stmt) -> Mem<()>
     }
 }
 
+/// Prints the expression and a semicolon.
+#[cycle(print)]
+fn print_ended(out: &mut Printed, expr: &Expr) -> Mem<()>
+    ensures { OnOk result (written_of out.new ≡ write_all (written_of out.old) (tokens_of_expr (expr_of expr.now) ++ a_mark marks.Semicolon ∷ [])) }
+{
+    print_expr(out, expr)?;
+    put_mark(out, Mark::Semicolon)
+}
+
+/// Prints the return of a value, if it has one.
+#[cycle(print)]
+fn print_return(out: &mut Printed, value: &Option<Arc<Expr>>) -> Mem<()>
+    ensures { OnOk result (written_of out.new ≡ write_all (written_of out.old) (tokens_of_stmt (tree.return 0 (option_expr_in value.now)))) }
+{
+    put_key(out, Keyword::Return)?;
+    print_option(out, value)?;
+    put_mark(out, Mark::Semicolon)
+}
+
 /// Prints a test between parentheses.
 #[cycle(print)]
-#[tactic(auto, using(std::proofs::lemmas::Grind::common_steps, crate::proofs::Writing::write_all_append))]
 fn print_test(out: &mut Printed, test: &Expr) -> Mem<()>
     ensures { OnOk result (written_of out.new ≡ write_all (written_of out.old) (tokens_of_test (expr_of test.now))) }
 {
@@ -400,7 +441,6 @@ fn print_test(out: &mut Printed, test: &Expr) -> Mem<()>
 
 /// Prints what an `if` does otherwise, if there is something.
 #[cycle(print)]
-#[tactic(auto, using(std::proofs::lemmas::Grind::common_steps, crate::proofs::Writing::write_all_append))]
 fn print_other(out: &mut Printed, other: &Option<Arc<Stmt>>) -> Mem<()>
     ensures { OnOk result (written_of out.new ≡ write_all (written_of out.old) (tokens_of_other (option_stmt_in other.now))) }
 {
@@ -415,7 +455,6 @@ fn print_other(out: &mut Printed, other: &Option<Arc<Stmt>>) -> Mem<()>
 
 /// Prints a block.
 #[cycle(print)]
-#[tactic(auto, using(std::proofs::lemmas::Grind::common_steps, crate::proofs::Writing::write_all_append))]
 fn print_block(out: &mut Printed, block: &Block) -> Mem<()>
     ensures { OnOk result (written_of out.new ≡ write_all (written_of out.old) (tokens_of_block (block_in block.now))) }
 {
@@ -426,7 +465,6 @@ fn print_block(out: &mut Printed, block: &Block) -> Mem<()>
 
 /// Prints an expression that is run for itself, or a write.
 #[cycle(print)]
-#[tactic(auto, using(std::proofs::lemmas::Grind::common_steps, crate::proofs::Writing::write_all_append))]
 fn print_simple(out: &mut Printed, simple: &Simple) -> Mem<()>
     ensures { OnOk result (written_of out.new ≡ write_all (written_of out.old) (tokens_of_simple (simple_of simple.now))) }
 {

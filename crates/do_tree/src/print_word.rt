@@ -3,6 +3,8 @@ ghost use Rattle.std.specs.Prelude.{◌≡◌, [], ◌∷◌, ◌++◌, OnOk};
 ghost use Rattle.do_lex.specs.Next.{begins};
 ghost use Rattle.std.specs.List.{list_all};
 ghost use Rattle.do_lex.specs.Bytes as bytes;
+ghost use Rattle.do_lex.specs.declared.kind.Keyword.TheVariants as keys;
+ghost use Rattle.do_lex.specs.declared.kind.Mark.TheVariants as marks;
 ghost use Rattle.do_tree.specs.Grammar.{binding_key, chain_mark};
 ghost use Rattle.do_tree.specs.Print.{a_key, a_mark, count_of, gap, is_word, keyword, mark_edge, needs_space, number, operator_mark, quote_of, quoted, quoted_in, text_of_byte, text_of_bytes, tokens_of_caught, tokens_of_option_name, unary_mark, word};
 ghost use Rattle.do_tree.specs.Seen.{named_of, option_named_of};
@@ -333,4 +335,23 @@ pub fn put_caught(out: &mut Printed, name: &Option<Name>) -> Mem<()>
         }
         None => Ok(()),
     }
+}
+
+/// Prints the statement of this keyword alone.
+pub fn put_exit(out: &mut Printed, key: Keyword) -> Mem<()>
+    ensures { OnOk result (written_of out.new ≡ write_all (written_of out.old) (keyword key ∷ a_mark marks.Semicolon ∷ [])) }
+{
+    put_key(out, key)?;
+    put_mark(out, Mark::Semicolon)
+}
+
+/// Prints what a `for` that binds a name by this keyword begins with.
+pub fn put_for(out: &mut Printed, key: Keyword, name: &Name) -> Mem<()>
+    ensures { OnOk result (written_of out.new ≡ write_all (written_of out.old)
+        (keyword keys.For ∷ a_mark marks.OpenParen ∷ keyword key ∷ word (named_of name.now).text ∷ [])) }
+{
+    put_key(out, Keyword::For)?;
+    put_mark(out, Mark::OpenParen)?;
+    put_key(out, key)?;
+    put_name(out, name)
 }

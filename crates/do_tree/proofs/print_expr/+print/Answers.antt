@@ -35,15 +35,15 @@ print_expr-returns-in_ok-print_expr-in-Path t c =
     ∙ ap (λ x. base ++ tokens_of_links x) (hidden_links c.in-Path.links ∙ ap links_in (sym c.deref-in-Path-2.ensures.value)) in
     grind (arith, common_steps, write_all_append)
 
-pub print_expr-returns-in_ok-print_elements-in-List : goal.print_expr-returns-in_ok-print_elements-in-List
-print_expr-returns-in_ok-print_elements-in-List t c =
+pub print_expr-returns-in-List : goal.print_expr-returns-in-List
+print_expr-returns-in-List t c =
     let e : tokens_of_expr (expr_of c.args.expr.now) ≡ a_mark mark.OpenBracket ∷ (tokens_of_elements (exprs_in c.deref-in-List.result.now) ++ a_mark mark.CloseBracket ∷ []) =
     ap (λ x. tokens_of_expr (expr_of x)) c.in-List.is
     ∙ ap (λ x. a_mark mark.OpenBracket ∷ (tokens_of_elements x ++ a_mark mark.CloseBracket ∷ [])) (hidden_exprs c.in-List.items ∙ ap exprs_in (sym c.deref-in-List.ensures.value)) in
     grind (arith, common_steps, write_all_append)
 
-pub print_expr-returns-in_ok-print_pairs-in-Record : goal.print_expr-returns-in_ok-print_pairs-in-Record
-print_expr-returns-in_ok-print_pairs-in-Record t c =
+pub print_expr-returns-in-Record : goal.print_expr-returns-in-Record
+print_expr-returns-in-Record t c =
     let e : tokens_of_expr (expr_of c.args.expr.now) ≡ a_mark mark.OpenBrace ∷ (tokens_of_pairs (pairs_in c.deref-in-Record.result.now) ++ a_mark mark.CloseBrace ∷ []) =
     ap (λ x. tokens_of_expr (expr_of x)) c.in-Record.is
     ∙ ap (λ x. a_mark mark.OpenBrace ∷ (tokens_of_pairs x ++ a_mark mark.CloseBrace ∷ [])) (hidden_pairs c.in-Record.pairs ∙ ap pairs_in (sym c.deref-in-Record.ensures.value)) in
