@@ -89,7 +89,7 @@ mutual
         again = tree.expr a1.again tree.no_exprs;
         is = g.rest_last (takes_mark spot (chain_mark c) d a1.front.bares) a1.is;
         same = λ i. tree.expr (a1.same i) tree.no_exprs;
-        are = simp (a1.are, append_assoc, append-nil);
+        are = simp (a1.are, append-nil);
       }
   again_rest spot {d} (g.rest_more {c = c} p0 p1 p2) f =
       let a2 = again_rest spot p2 f in
@@ -134,7 +134,7 @@ mutual
         again = tree.operand o a2.again tree.no_operands;
         is = g.operands_last (operator_so p0) (takes_mark spot (operator_mark o) d a2.front.bares) a2.is;
         same = λ i. tree.operand o (a2.same i) tree.no_operands;
-        are = simp (a2.are, append_assoc, append-nil);
+        are = simp (a2.are, append-nil);
       }
   again_operands spot {d} (g.operands_more {o = o} p0 p1 p2 p3) f =
       let a3 = again_operands spot p3 f in
@@ -158,7 +158,7 @@ mutual
         again = tree.unary (place (placed spot f1.bares)) unary.Neg a2.again;
         is = g.negative refl (takes_mark spot mark.Minus d a2.front.bares) a2.is;
         same = λ i. tree.unary 0 unary.Neg (a2.same i);
-        are = simp (a2.are, append_assoc);
+        are = simp a2.are;
       }
   again_un spot {d} (g.opposite at p1 p2) f =
       let a2 = again_un spot p2 f in
@@ -168,7 +168,7 @@ mutual
         again = tree.unary (place (placed spot f1.bares)) unary.Not a2.again;
         is = g.opposite refl (takes_mark spot mark.Not d a2.front.bares) a2.is;
         same = λ i. tree.unary 0 unary.Not (a2.same i);
-        are = simp (a2.are, append_assoc);
+        are = simp a2.are;
       }
   again_un spot {d} (g.await at p1 p2) f =
       let a2 = again_un spot p2 f in
@@ -178,7 +178,7 @@ mutual
         again = tree.await (place (placed spot f1.bares)) a2.again;
         is = g.await refl (takes_key spot key.Await d a2.front.bares) a2.is;
         same = λ i. tree.await 0 (a2.same i);
-        are = simp (a2.are, append_assoc);
+        are = simp a2.are;
       }
   again_un spot (g.post p) f = up (λ ts us x q. g.post q) (again_post spot p f)
 
@@ -208,7 +208,7 @@ mutual
         again = tree.field (named_at spot f1.bares n.text) a2.again;
         is = g.link_field (takes_mark spot mark.Dot d f1.bares) (takes_any spot p1.token.kind n.text d a2.front.bares p1.kind_is) a2.is;
         same = λ i. tree.field (unplaced_name n) (a2.same i);
-        are = simp (a2.are, append_assoc);
+        are = simp a2.are;
       }
   again_links spot {d} (g.link_index at p1 p2 p3 p4) f =
       let a4 = again_links spot p4 f in
@@ -411,7 +411,7 @@ mutual
         again = tree.some_expr a0.again;
         is = g.option_expr_some a0.is;
         same = λ i. tree.some_expr (a0.same i);
-        are = simp (a0.are, append_assoc);
+        are = simp a0.are;
       }
 
   -- elements, behind which a mark closes
@@ -712,7 +712,7 @@ mutual
         again = tree.run (place (placed spot a1.front.bares)) a1.again;
         is = g.simple_run refl a1.is;
         same = λ i. tree.run 0 (a1.same i);
-        are = simp (a1.are, append_assoc);
+        are = simp a1.are;
       }
   again_simple spot {d} (g.simple_assign at p1 p2 p3) f =
       let a3 = again_expr spot p3 f in

@@ -15,6 +15,7 @@ mod kind;
 pub mod laws;
 mod print;
 mod print_expr;
+mod print_stmt;
 mod print_word;
 mod script;
 mod stmt;

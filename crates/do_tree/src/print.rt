@@ -6,7 +6,7 @@ ghost use Rattle.do_tree.specs.Print.{import_tokens, imported_tokens, text_of_sc
 ghost use Rattle.do_tree.specs.Seen.{class_of, method_of, named_of, script_of};
 ghost use Rattle.do_tree.specs.Written.{write_all, written_of};
 
-use crate::print_expr::print_items;
+use crate::print_stmt::print_items;
 use crate::print_word::{Edge, Printed, put_key, put_mark, put_name, put_quoted, put_word};
 use crate::script::{Class, Method, MethodKind, Name, Script};
 use do_lex::{Keyword, Mark};

@@ -1,27 +1,22 @@
-//! Expressions and statements as text. The functions go down the tree together. No node's place is printed: where a
-//! contract makes a node of its parts, its place is 0.
+//! Expressions as text. The functions go down the tree together with those on statements. No node's place is printed:
+//! where a contract makes a node of its parts, its place is 0.
 #![tactic(auto, using(std::proofs::lemmas::Grind::common_steps, crate::proofs::Writing::write_all_append))]
 
-ghost use Rattle.std.specs.Prelude.{◌≡◌, [], ◌∷◌, ◌++◌, OnOk};
-ghost use Rattle.do_lex.specs.declared.kind.Mark.TheVariants as marks;
-ghost use Rattle.do_tree.specs.Nodes.{args_in, block_in, exprs_in, links_in, operands_in, option_expr_in, option_stmt_in};
-ghost use Rattle.do_tree.specs.Nodes.{pairs_in, simple_of, with_arg, with_link};
-ghost use Rattle.do_tree.specs.Print.{a_mark};
-ghost use Rattle.do_tree.specs.Print.{tokens_of_args, tokens_of_chained, tokens_of_elements, tokens_of_expr, tokens_of_initial};
-ghost use Rattle.do_tree.specs.Print.{tokens_of_links, tokens_of_operands, tokens_of_option_expr, tokens_of_pair, tokens_of_pairs};
-ghost use Rattle.do_tree.specs.Print.{tokens_of_block, tokens_of_items, tokens_of_other, tokens_of_simple, tokens_of_stmt, tokens_of_test};
-ghost use Rattle.do_tree.specs.Seen.{expr_of, items_in, named_of, stmt_of, with_item};
+ghost use Rattle.std.specs.Prelude.{◌≡◌, OnOk};
+ghost use Rattle.do_tree.specs.Nodes.{args_in, exprs_in, links_in, operands_in, option_expr_in, pairs_in, with_arg, with_link};
+ghost use Rattle.do_tree.specs.Print.{tokens_of_args, tokens_of_chained, tokens_of_elements, tokens_of_expr, tokens_of_initial, tokens_of_links};
+ghost use Rattle.do_tree.specs.Print.{tokens_of_operands, tokens_of_option_expr, tokens_of_pair, tokens_of_pairs};
+ghost use Rattle.do_tree.specs.Seen.{expr_of, named_of};
 ghost use Rattle.do_tree.specs.Tree as tree;
-ghost use Rattle.do_tree.specs.Tree.{no_args, no_items, no_links};
+ghost use Rattle.do_tree.specs.Tree.{no_args, no_links};
 ghost use Rattle.do_tree.specs.Written.{write_all, written_of};
 
 use crate::expr::{Arg, Chain, Expr, Link, Operand, Pair};
+use crate::print_stmt::print_block;
 use crate::print_word::{
-    Printed, binding_key, chain_mark, operator_mark, put_caught, put_comma, put_exit, put_for,
-    put_key, put_mark, put_name, put_number, put_option_name, put_quoted, put_record_key, put_word,
-    unary_mark,
+    Printed, chain_mark, operator_mark, put_comma, put_key, put_mark, put_name, put_number,
+    put_option_name, put_quoted, put_record_key, put_word, unary_mark,
 };
-use crate::stmt::{Block, Item, Simple, Stmt, Write};
 use do_lex::{Keyword, Mark};
 use do_value::{Mem, UnOp};
 use std::sync::Arc;
@@ -33,13 +28,7 @@ pub fn print_expr(out: &mut Printed, expr: &Expr) -> Mem<()>
     ensures { OnOk result (written_of out.new ≡ write_all (written_of out.old) (tokens_of_expr (expr_of expr.now))) }
 {
     match expr {
-        Expr::Choice { test, yes, no, .. } => {
-            print_expr(out, test)?;
-            put_mark(out, Mark::Question)?;
-            print_expr(out, yes)?;
-            put_mark(out, Mark::Colon)?;
-            print_expr(out, no)
-        }
+        Expr::Choice { test, yes, no, .. } => print_choice(out, test, yes, no),
         Expr::Lazy {
             chain,
             first,
@@ -72,6 +61,19 @@ pub fn print_expr(out: &mut Printed, expr: &Expr) -> Mem<()>
         Expr::Record { pairs, .. } => print_record(out, pairs),
         Expr::NewError { message, .. } => print_new_error(out, message),
     }
+}
+
+/// Prints the choice between two expressions.
+#[cycle(print)]
+fn print_choice(out: &mut Printed, test: &Expr, yes: &Expr, no: &Expr) -> Mem<()>
+    ensures { OnOk result (written_of out.new ≡ write_all (written_of out.old)
+        (tokens_of_expr (tree.choice 0 (expr_of test.now) (expr_of yes.now) (expr_of no.now)))) }
+{
+    print_expr(out, test)?;
+    put_mark(out, Mark::Question)?;
+    print_expr(out, yes)?;
+    put_mark(out, Mark::Colon)?;
+    print_expr(out, no)
 }
 
 /// Prints the operator and its operand.
@@ -136,7 +138,7 @@ fn print_new_error(out: &mut Printed, message: &Option<Arc<Expr>>) -> Mem<()>
 
 /// Prints the expression, if there is one.
 #[cycle(print)]
-fn print_option(out: &mut Printed, expr: &Option<Arc<Expr>>) -> Mem<()>
+pub fn print_option(out: &mut Printed, expr: &Option<Arc<Expr>>) -> Mem<()>
     ensures { OnOk result (written_of out.new ≡ write_all (written_of out.old) (tokens_of_option_expr (option_expr_in expr.now))) }
 {
     match expr {
@@ -147,7 +149,7 @@ fn print_option(out: &mut Printed, expr: &Option<Arc<Expr>>) -> Mem<()>
 
 /// Prints the value that a declaration gives, if there is one.
 #[cycle(print)]
-fn print_initial(out: &mut Printed, value: &Option<Arc<Expr>>) -> Mem<()>
+pub fn print_initial(out: &mut Printed, value: &Option<Arc<Expr>>) -> Mem<()>
     ensures { OnOk result (written_of out.new ≡ write_all (written_of out.old) (tokens_of_initial (option_expr_in value.now))) }
 {
     match value {
@@ -295,195 +297,5 @@ fn print_pair(out: &mut Printed, pair: &Pair) -> Mem<()>
             print_expr(out, value)
         }
         None => put_name(out, &pair.key),
-    }
-}
-
-/// Prints the items of a block.
-#[cycle(print)]
-#[tactic(auto, using(std::proofs::lemmas::Grind::common_steps, crate::proofs::Writing::write_all_append, crate::proofs::Writing::items_more))]
-pub fn print_items(out: &mut Printed, items: &[Item]) -> Mem<()>
-    ensures { OnOk result (written_of out.new ≡ write_all (written_of out.old) (tokens_of_items (items_in items.now))) }
-{
-    for item in items {
-        print_item(out, item)?;
-    }
-    Ok(())
-}
-
-/// Prints an item of a block.
-#[cycle(print)]
-fn print_item(out: &mut Printed, item: &Item) -> Mem<()>
-    ensures { OnOk result (written_of out.new ≡ write_all (written_of out.old) (tokens_of_items (with_item item.now no_items))) }
-{
-    match item {
-        Item::Declare {
-            binding,
-            name,
-            value,
-            ..
-        } => {
-            put_key(out, binding_key(*binding))?;
-            put_name(out, name)?;
-            print_initial(out, value)?;
-            put_mark(out, Mark::Semicolon)
-        }
-        Item::Stmt(stmt) => print_stmt(out, stmt),
-    }
-}
-
-/// Prints the statement.
-#[cycle(print)]
-#[tactic(auto, using(std::proofs::lemmas::Grind::common_steps, crate::proofs::Writing::write_all_append, crate::proofs::Rows::hidden_items, crate::proofs::Rows::hidden_option))]
-fn print_stmt(out: &mut Printed, stmt: &Stmt) -> Mem<()>
-    ensures { OnOk result (written_of out.new ≡ write_all (written_of out.old) (tokens_of_stmt (stmt_of stmt.now))) }
-{
-    match stmt {
-        Stmt::Block(block) => print_block(out, block),
-        Stmt::If {
-            test,
-            then,
-            other,
-            ..
-        } => {
-            put_key(out, Keyword::If)?;
-            print_test(out, test)?;
-            print_stmt(out, then)?;
-            print_other(out, other)
-        }
-        Stmt::While { test, body, .. } => {
-            put_key(out, Keyword::While)?;
-            print_test(out, test)?;
-            print_stmt(out, body)
-        }
-        Stmt::For {
-            name,
-            first,
-            test,
-            step,
-            body,
-            ..
-        } => {
-            put_for(out, Keyword::Let, name)?;
-            put_mark(out, Mark::Assign)?;
-            print_ended(out, first)?;
-            print_ended(out, test)?;
-            print_simple(out, step)?;
-            put_mark(out, Mark::CloseParen)?;
-            print_stmt(out, body)
-        }
-        Stmt::ForOf {
-            binding,
-            name,
-            list,
-            body,
-            ..
-        } => {
-            put_for(out, binding_key(*binding), name)?;
-            put_word(out, "of")?;
-            print_expr(out, list)?;
-            put_mark(out, Mark::CloseParen)?;
-            print_stmt(out, body)
-        }
-        Stmt::Try {
-            body,
-            name,
-            handler,
-            ..
-        } => {
-            put_key(out, Keyword::Try)?;
-            print_block(out, body)?;
-            put_key(out, Keyword::Catch)?;
-            put_caught(out, name)?;
-            print_block(out, handler)
-        }
-        Stmt::Throw { value, .. } => {
-            put_key(out, Keyword::Throw)?;
-            print_ended(out, value)
-        }
-        Stmt::Return { value, .. } => print_return(out, value),
-        Stmt::Break { .. } => put_exit(out, Keyword::Break),
-        Stmt::Continue { .. } => put_exit(out, Keyword::Continue),
-        Stmt::Simple(simple) => {
-            print_simple(out, simple)?;
-            put_mark(out, Mark::Semicolon)
-        }
-    }
-}
-
-/// Prints the expression and a semicolon.
-#[cycle(print)]
-fn print_ended(out: &mut Printed, expr: &Expr) -> Mem<()>
-    ensures { OnOk result (written_of out.new ≡ write_all (written_of out.old) (tokens_of_expr (expr_of expr.now) ++ a_mark marks.Semicolon ∷ [])) }
-{
-    print_expr(out, expr)?;
-    put_mark(out, Mark::Semicolon)
-}
-
-/// Prints the return of a value, if it has one.
-#[cycle(print)]
-fn print_return(out: &mut Printed, value: &Option<Arc<Expr>>) -> Mem<()>
-    ensures { OnOk result (written_of out.new ≡ write_all (written_of out.old) (tokens_of_stmt (tree.return 0 (option_expr_in value.now)))) }
-{
-    put_key(out, Keyword::Return)?;
-    print_option(out, value)?;
-    put_mark(out, Mark::Semicolon)
-}
-
-/// Prints a test between parentheses.
-#[cycle(print)]
-fn print_test(out: &mut Printed, test: &Expr) -> Mem<()>
-    ensures { OnOk result (written_of out.new ≡ write_all (written_of out.old) (tokens_of_test (expr_of test.now))) }
-{
-    put_mark(out, Mark::OpenParen)?;
-    print_expr(out, test)?;
-    put_mark(out, Mark::CloseParen)
-}
-
-/// Prints what an `if` does otherwise, if there is something.
-#[cycle(print)]
-fn print_other(out: &mut Printed, other: &Option<Arc<Stmt>>) -> Mem<()>
-    ensures { OnOk result (written_of out.new ≡ write_all (written_of out.old) (tokens_of_other (option_stmt_in other.now))) }
-{
-    match other {
-        Some(other) => {
-            put_key(out, Keyword::Else)?;
-            print_stmt(out, other)
-        }
-        None => Ok(()),
-    }
-}
-
-/// Prints a block.
-#[cycle(print)]
-fn print_block(out: &mut Printed, block: &Block) -> Mem<()>
-    ensures { OnOk result (written_of out.new ≡ write_all (written_of out.old) (tokens_of_block (block_in block.now))) }
-{
-    put_mark(out, Mark::OpenBrace)?;
-    print_items(out, &block.items)?;
-    put_mark(out, Mark::CloseBrace)
-}
-
-/// Prints an expression that is run for itself, or a write.
-#[cycle(print)]
-fn print_simple(out: &mut Printed, simple: &Simple) -> Mem<()>
-    ensures { OnOk result (written_of out.new ≡ write_all (written_of out.old) (tokens_of_simple (simple_of simple.now))) }
-{
-    print_expr(out, &simple.place)?;
-    match &simple.write {
-        Write::Nothing => Ok(()),
-        Write::Value(value) => {
-            put_mark(out, Mark::Assign)?;
-            print_expr(out, value)
-        }
-        Write::Sum(value) => {
-            put_mark(out, Mark::AddAssign)?;
-            print_expr(out, value)
-        }
-        Write::Difference(value) => {
-            put_mark(out, Mark::SubAssign)?;
-            print_expr(out, value)
-        }
-        Write::OneMore => put_mark(out, Mark::Increment),
-        Write::OneLess => put_mark(out, Mark::Decrement),
     }
 }
