@@ -78,7 +78,8 @@ impl<R: Source> Lines<R> {
         }
     }
 
-    /// Whether a line that isn't blank is at hand as a whole, so that `next` has nothing to wait for. It costs a look at that line.
+    /// Whether a line that isn't blank is at hand as a whole: then `next` asks the source for nothing, which no clause says. It costs a look at
+    /// the bytes that are held, to that line's end at most.
     pub fn is_ready(&self) -> bool {
         self.bytes.buffer.has_line()
     }
