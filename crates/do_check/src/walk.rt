@@ -3,10 +3,11 @@
 
 ghost use Rattle.std.specs.Prelude.{◌≡◌, [], ◌∷◌, IfOk};
 ghost use Rattle.do_check.specs.First.{least};
-ghost use Rattle.do_check.specs.Parts.{args_faults, base_faults, callback_faults, expr_faults, exprs_faults};
+ghost use Rattle.do_check.specs.Parts.{args_faults, base_faults, callback_faults, expr_faults, exprs_faults, for_of_parts, for_parts};
 ghost use Rattle.do_check.specs.Parts.{items_faults, link_faults, links_faults, name_faults, operands_faults, option_faults, pairs_faults};
-ghost use Rattle.do_check.specs.Parts.{simple_faults, stmt_faults};
+ghost use Rattle.do_check.specs.Parts.{simple_faults, stmt_faults, try_parts};
 ghost use Rattle.do_check.specs.Sight.{is_empty, names_of, path_in, role_of, scope_in, stage_of, use_of, with_behind};
+ghost use Rattle.do_check.specs.Sorts.{sort_of};
 ghost use Rattle.do_tree.specs.Forms.{variable};
 ghost use Rattle.do_tree.specs.Names.{is_sync};
 ghost use Rattle.do_tree.specs.Nodes.{args_in, block_in, exprs_in, links_in, operands_in, option_expr_in, pairs_in, simple_of, with_arg, with_link};
@@ -28,8 +29,8 @@ use crate::sort::{Sort, bound_as};
 use crate::stage::{Stage, after_call, after_field, after_index, role_of, start, start_name};
 use crate::step::check_stage;
 use do_tree::{
-    Arg, Callback, CheckKind, Expr, Item, Link, MethodKind, Name, Operand, Pair, Simple, Stmt,
-    Write,
+    Arg, Block, Callback, CheckKind, Expr, Item, Link, MethodKind, Name, Operand, Pair, Simple,
+    Stmt, Write,
 };
 use do_value::Mem;
 use std::sync::Arc;
@@ -44,20 +45,20 @@ pub fn walk_expr(scope: &Scope, serves: Use, expr: &Expr, found: Found) -> Mem<F
         Expr::Choice { test, yes, no, .. } => {
             let found = walk_expr(scope, Use::Value, test, found)?;
             let found = walk_expr(scope, Use::Value, yes, found)?;
-            Ok(walk_expr(scope, Use::Value, no, found)?)
+            walk_expr(scope, Use::Value, no, found)
         }
         Expr::Lazy { first, rest, .. } => {
             let found = walk_expr(scope, Use::Value, first, found)?;
-            Ok(walk_exprs(scope, rest, found)?)
+            walk_exprs(scope, rest, found)
         }
         Expr::Strict { first, rest, .. } => {
             let found = walk_expr(scope, Use::Value, first, found)?;
-            Ok(walk_operands(scope, rest, found)?)
+            walk_operands(scope, rest, found)
         }
-        Expr::Unary { value, .. } => Ok(walk_expr(scope, Use::Value, value, found)?),
+        Expr::Unary { value, .. } => walk_expr(scope, Use::Value, value, found),
         Expr::Await { at, value } => {
             let found = keep_when(found, is_sync(scope), *at, CheckKind::AwaitInSync);
-            Ok(walk_expr(scope, Use::Awaited(*at), value, found)?)
+            walk_expr(scope, Use::Awaited(*at), value, found)
         }
         Expr::Path { at, base, links } => {
             let path = Path {
@@ -67,7 +68,7 @@ pub fn walk_expr(scope: &Scope, serves: Use, expr: &Expr, found: Found) -> Mem<F
             };
             let found = check_root(scope, path.root, links, found);
             let found = walk_base(scope, base, found)?;
-            Ok(walk_links(scope, &path, start(&scope.names, base), links, found)?)
+            walk_links(scope, &path, start(&scope.names, base), links, found)
         }
         Expr::This { at } => {
             let path = Path {
@@ -78,10 +79,10 @@ pub fn walk_expr(scope: &Scope, serves: Use, expr: &Expr, found: Found) -> Mem<F
             Ok(check_stage(scope, &path, &Stage::Itself, &[], found))
         }
         Expr::Variable(name) => Ok(check_alone(scope, serves, name, found)),
-        Expr::Group { inside, .. } => Ok(walk_expr(scope, Use::Value, inside, found)?),
-        Expr::List { items, .. } => Ok(walk_exprs(scope, items, found)?),
-        Expr::Record { pairs, .. } => Ok(walk_pairs(scope, pairs, found)?),
-        Expr::NewError { message, .. } => Ok(walk_option(scope, message, found)?),
+        Expr::Group { inside, .. } => walk_expr(scope, Use::Value, inside, found),
+        Expr::List { items, .. } => walk_exprs(scope, items, found),
+        Expr::Record { pairs, .. } => walk_pairs(scope, pairs, found),
+        Expr::NewError { message, .. } => walk_option(scope, message, found),
         Expr::Number { .. }
         | Expr::Text { .. }
         | Expr::Bool { .. }
@@ -121,7 +122,7 @@ fn walk_base(scope: &Scope, base: &Expr, found: Found) -> Mem<Found>
 {
     match base {
         Expr::Variable(_) | Expr::This { .. } => Ok(found),
-        _ => Ok(walk_expr(scope, Use::Value, base, found)?),
+        _ => walk_expr(scope, Use::Value, base, found),
     }
 }
 
@@ -130,7 +131,7 @@ fn walk_option(scope: &Scope, expr: &Option<Arc<Expr>>, found: Found) -> Mem<Fou
     ensures { IfOk result (λ now. now ≡ least found (option_faults (scope_in scope.now) (option_expr_in expr.now))) }
 {
     match expr {
-        Some(expr) => Ok(walk_expr(scope, Use::Value, expr, found)?),
+        Some(expr) => walk_expr(scope, Use::Value, expr, found),
         None => Ok(found),
     }
 }
@@ -193,8 +194,8 @@ fn walk_link(scope: &Scope, stage: &Stage, link: &Link, found: Found) -> Mem<Fou
 {
     match link {
         Link::Field(_) => Ok(found),
-        Link::Index { index, .. } => Ok(walk_expr(scope, Use::Value, index, found)?),
-        Link::Call { args, .. } => Ok(walk_args(scope, role_of(stage), args, found)?),
+        Link::Index { index, .. } => walk_expr(scope, Use::Value, index, found),
+        Link::Call { args, .. } => walk_args(scope, role_of(stage), args, found),
     }
 }
 
@@ -218,8 +219,8 @@ fn walk_arg(scope: &Scope, role: Role, arg: &Arg, found: Found) -> Mem<Found>
     ensures { IfOk result (λ now. now ≡ least found (args_faults (scope_in scope.now) (role_of role) (with_arg arg.now no_args))) }
 {
     match arg {
-        Arg::Value(value) => Ok(walk_expr(scope, first_use(role), value, found)?),
-        Arg::Callback(callback) => Ok(walk_callback(scope, role, callback, found)?),
+        Arg::Value(value) => walk_expr(scope, first_use(role), value, found),
+        Arg::Callback(callback) => walk_callback(scope, role, callback, found),
     }
 }
 
@@ -244,9 +245,9 @@ fn walk_callback(scope: &Scope, role: Role, callback: &Callback, found: Found) -
                 sort: callback_sort(role),
                 outer: &scope.names,
             };
-            Ok(walk_items(&with_names(&scope, names), &callback.body.items, found)?)
+            walk_items(&with_names(&scope, names), &callback.body.items, found)
         }
-        None => Ok(walk_items(&scope, &callback.body.items, found)?),
+        None => walk_items(&scope, &callback.body.items, found),
     }
 }
 
@@ -263,12 +264,12 @@ fn walk_pairs(scope: &Scope, pairs: &[Pair], found: Found) -> Mem<Found>
 }
 
 #[cycle(walk)]
-#[tactic(auto, using(std::proofs::lemmas::Grind::common_steps, crate::proofs::Append::least_append, crate::proofs::Walked::pair_some, crate::proofs::Walked::pair_none))]
+#[tactic(auto, using(std::proofs::lemmas::Grind::common_steps, crate::proofs::Append::least_append, crate::proofs::Walked::pair_none))]
 fn walk_pair(scope: &Scope, pair: &Pair, found: Found) -> Mem<Found>
     ensures { IfOk result (λ now. now ≡ least found (pairs_faults (scope_in scope.now) (pairs_in (pair.now ∷ [])))) }
 {
     match &pair.value {
-        Some(value) => Ok(walk_expr(scope, Use::Value, value, found)?),
+        Some(value) => walk_expr(scope, Use::Value, value, found),
         None => Ok(check_alone(scope, Use::Value, &pair.key, found)),
     }
 }
@@ -303,13 +304,13 @@ fn walk_item(scope: &Scope, item: &Item, is_last: bool, found: Found) -> Mem<Fou
     match item {
         Item::Declare { name, value, .. } => {
             let found = check_bound(name, found);
-            Ok(walk_option(scope, value, found)?)
+            walk_option(scope, value, found)
         }
         Item::Stmt(stmt) => {
             if is_last {
-                Ok(walk_stmt(scope, stmt, found)?)
+                walk_stmt(scope, stmt, found)
             } else {
-                Ok(walk_stmt(&inside(scope), stmt, found)?)
+                walk_stmt(&inside(scope), stmt, found)
             }
         }
     }
@@ -323,7 +324,7 @@ fn walk_stmt(scope: &Scope, stmt: &Stmt, found: Found) -> Mem<Found>
     match stmt {
         Stmt::Block(block) => {
             let found = check_block(scope.alloc, &block.items, found)?;
-            Ok(walk_items(&inside(scope), &block.items, found)?)
+            walk_items(&inside(scope), &block.items, found)
         }
         Stmt::If {
             test,
@@ -335,13 +336,13 @@ fn walk_stmt(scope: &Scope, stmt: &Stmt, found: Found) -> Mem<Found>
             let scope = inside(scope);
             let found = walk_stmt(&scope, then, found)?;
             match other {
-                Some(other) => Ok(walk_stmt(&scope, other, found)?),
+                Some(other) => walk_stmt(&scope, other, found),
                 None => Ok(found),
             }
         }
         Stmt::While { test, body, .. } => {
             let found = walk_expr(scope, Use::Value, test, found)?;
-            Ok(walk_stmt(&in_loop(&*scope, scope.names), body, found)?)
+            walk_stmt(&in_loop(&*scope, scope.names), body, found)
         }
         Stmt::For {
             name,
@@ -350,55 +351,97 @@ fn walk_stmt(scope: &Scope, stmt: &Stmt, found: Found) -> Mem<Found>
             step,
             body,
             ..
-        } => {
-            let found = check_bound(name, found);
-            let found = walk_expr(scope, Use::Value, first, found)?;
-            let names = Names::Bound {
-                name,
-                sort: Sort::Variable,
-                outer: &scope.names,
-            };
-            let inner = with_names(&*scope, names);
-            let found = walk_expr(&inner, Use::Value, test, found)?;
-            let found = walk_simple(&inside(&inner), step, found)?;
-            Ok(walk_stmt(&in_loop(&inner, names), body, found)?)
-        }
+        } => walk_for(scope, name, first, test, step, body, found),
         Stmt::ForOf {
             binding,
             name,
             list,
             body,
             ..
-        } => {
-            let found = check_bound(name, found);
-            let found = walk_expr(scope, Use::Value, list, found)?;
-            let names = Names::Bound {
-                name,
-                sort: bound_as(*binding),
-                outer: &scope.names,
-            };
-            Ok(walk_stmt(&in_loop(&*scope, names), body, found)?)
-        }
+        } => walk_for_of(scope, bound_as(*binding), name, list, body, found),
         Stmt::Try {
             body,
             name,
             handler,
             ..
-        } => {
-            let scope = inside(scope);
-            let found = check_block(scope.alloc, &body.items, found)?;
-            let found = walk_items(&scope, &body.items, found)?;
-            let found = check_option_bound(name, found);
-            let found = check_block(scope.alloc, &handler.items, found)?;
-            Ok(walk_handler(&scope, name, &handler.items, found)?)
-        }
-        Stmt::Throw { value, .. } => Ok(walk_expr(scope, Use::Value, value, found)?),
-        Stmt::Return { value, .. } => Ok(walk_option(scope, value, found)?),
+        } => walk_try(scope, body, name, handler, found),
+        Stmt::Throw { value, .. } => walk_expr(scope, Use::Value, value, found),
+        Stmt::Return { value, .. } => walk_option(scope, value, found),
         Stmt::Break { at } | Stmt::Continue { at } => {
             Ok(keep_when(found, !scope.in_loop, *at, CheckKind::LoopExit))
         }
-        Stmt::Simple(simple) => Ok(walk_simple(scope, simple, found)?),
+        Stmt::Simple(simple) => walk_simple(scope, simple, found),
     }
+}
+
+/// A loop with a first value, a test and a step, which all but the first value see its variable.
+#[cycle(walk)]
+fn walk_for(
+    scope: &Scope,
+    name: &Name,
+    first: &Expr,
+    test: &Expr,
+    step: &Simple,
+    body: &Stmt,
+    found: Found,
+) -> Mem<Found>
+    ensures { IfOk result (λ now. now ≡ least found
+        (for_parts (scope_in scope.now) (named_of name.now) (expr_of first.now) (expr_of test.now) (simple_of step.now) (stmt_of body.now))) }
+{
+    let found = check_bound(name, found);
+    let found = walk_expr(scope, Use::Value, first, found)?;
+    let names = Names::Bound {
+        name,
+        sort: Sort::Variable,
+        outer: &scope.names,
+    };
+    let inner = with_names(&*scope, names);
+    let found = walk_expr(&inner, Use::Value, test, found)?;
+    let found = walk_simple(&inside(&inner), step, found)?;
+    walk_stmt(&in_loop(&inner, names), body, found)
+}
+
+/// A loop over a list, whose body sees the name of the item.
+#[cycle(walk)]
+fn walk_for_of(
+    scope: &Scope,
+    sort: Sort,
+    name: &Name,
+    list: &Expr,
+    body: &Stmt,
+    found: Found,
+) -> Mem<Found>
+    ensures { IfOk result (λ now. now ≡ least found
+        (for_of_parts (scope_in scope.now) (sort_of sort) (named_of name.now) (expr_of list.now) (stmt_of body.now))) }
+{
+    let found = check_bound(name, found);
+    let found = walk_expr(scope, Use::Value, list, found)?;
+    let names = Names::Bound {
+        name,
+        sort,
+        outer: &scope.names,
+    };
+    walk_stmt(&in_loop(&*scope, names), body, found)
+}
+
+/// A block whose throws are caught, and the handler that catches them.
+#[cycle(walk)]
+fn walk_try(
+    scope: &Scope,
+    body: &Block,
+    name: &Option<Name>,
+    handler: &Block,
+    found: Found,
+) -> Mem<Found>
+    ensures { IfOk result (λ now. now ≡ least found
+        (try_parts (scope_in scope.now) (block_in body.now) (option_named_of name.now) (block_in handler.now))) }
+{
+    let scope = inside(scope);
+    let found = check_block(scope.alloc, &body.items, found)?;
+    let found = walk_items(&scope, &body.items, found)?;
+    let found = check_option_bound(name, found);
+    let found = check_block(scope.alloc, &handler.items, found)?;
+    walk_handler(&scope, name, &handler.items, found)
 }
 
 /// The items of a handler, with the name of what was caught.
@@ -414,9 +457,9 @@ fn walk_handler(scope: &Scope, name: &Option<Name>, items: &[Item], found: Found
                 sort: Sort::Variable,
                 outer: &scope.names,
             };
-            Ok(walk_items(&with_names(&*scope, names), items, found)?)
+            walk_items(&with_names(&*scope, names), items, found)
         }
-        None => Ok(walk_items(scope, items, found)?),
+        None => walk_items(scope, items, found),
     }
 }
 
@@ -425,16 +468,11 @@ fn walk_simple(scope: &Scope, simple: &Simple, found: Found) -> Mem<Found>
     ensures { IfOk result (λ now. now ≡ least found (simple_faults (scope_in scope.now) (simple_of simple.now))) }
 {
     match &simple.write {
-        Write::Nothing => Ok(walk_expr(scope, Use::Alone, &simple.place, found)?),
+        Write::Nothing => walk_expr(scope, Use::Alone, &simple.place, found),
         Write::Value(value) | Write::Sum(value) | Write::Difference(value) => {
             let found = walk_expr(scope, Use::Written, &simple.place, found)?;
-            Ok(walk_expr(scope, Use::Value, value, found)?)
+            walk_expr(scope, Use::Value, value, found)
         }
-        Write::OneMore | Write::OneLess => Ok(walk_expr(
-            scope,
-            Use::Written,
-            &simple.place,
-            found,
-        )?),
+        Write::OneMore | Write::OneLess => walk_expr(scope, Use::Written, &simple.place, found),
     }
 }
