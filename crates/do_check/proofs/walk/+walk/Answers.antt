@@ -1,14 +1,9 @@
-use Rattle.std.proofs.Common.{◌≡◌, ap, ◌∙◌, arith, Result, Ok, Err, IfOk}
+use Rattle.std.proofs.Common.{arith, Result, Ok, Err, IfOk}
 use Rattle.std.proofs.lemmas.Grind.{common_steps}
 use Rattle.do_check.proofs.Append.{least_append}
 use Rattle.do_check.proofs.Told.{sorts_next}
 use Rattle.do_check.proofs.Walked.{arg_faults, behind_at, call_faults, declare_faults, drop_at, for_faults, for_of_faults, last_empty, lazy_faults, list_faults, pair_some, path_faults, record_faults, strict_faults, try_faults}
-use Rattle.do_check.specs.Parts.{args_faults, callback_faults}
 use Rattle.do_check.specs.Sight.{names_of, role_of, scope_in, stage_of, use_of}
-use Rattle.do_tree.specs.Nodes.{block_in, with_arg}
-use Rattle.do_tree.specs.Seen.{option_named_of}
-use Rattle.do_tree.specs.Tree.{no_args}
-use Rattle.do_tree.specs.declared.expr.Callback.{out-Callback}
 use Rattle.do_check.proofs.walk.+walk.Goals as goal
 
 -- What follows from what an answer holds, for an answer that is handed on.
