@@ -7,8 +7,6 @@ pub mod laws;
 mod matched;
 mod number;
 mod reading;
-#[cfg(test)]
-mod tests;
 
 pub use command::{Command, ServeWords};
 pub use reading::command_of;

@@ -31,12 +31,21 @@ pub struct Running {
 }
 
 /// For what a task waits.
-#[derive(Drop)]
 pub enum Awaited {
     /// The answer of this object.
     Call(Identity),
     /// The answer to a fetch.
     Fetch,
+}
+
+// Written out, so that letting one go is proved once.
+impl Drop for Awaited {
+    fn drop(self) {
+        match self {
+            Awaited::Call(part) => drop(part),
+            Awaited::Fetch => {}
+        }
+    }
 }
 
 /// A task that waits for the answer to a call or a fetch.
@@ -49,7 +58,6 @@ pub struct Held<T> {
 
 /// What an object has between its events, with the evaluator's tasks. Where there are no fields none are kept. Each task that
 /// waits for a call or a fetch stands under the number of that, and `blocks` counts those whose block is open.
-#[derive(Drop)]
 pub struct Object<T> {
     pub fields: Option<Fields>,
     pub started: bool,
@@ -63,12 +71,42 @@ pub struct Object<T> {
     pub made: u64,
 }
 
+// Written out, so that letting one go is proved once.
+impl<T: Drop> Drop for Object<T> {
+    fn drop(self) {
+        let Object {
+            fields,
+            started: _,
+            tasks,
+            blocks: _,
+            parked,
+            clock: _,
+            alarm: _,
+            handler: _,
+            touched: _,
+            made: _,
+        } = self;
+        drop(fields);
+        drop(tasks);
+        drop(parked);
+    }
+}
+
 /// What a task asked of its storage.
-#[derive(Drop)]
 pub enum Asked {
     Read(StoreAsk),
     Taken,
     Synced,
+}
+
+// Written out, so that letting one go is proved once.
+impl Drop for Asked {
+    fn drop(self) {
+        match self {
+            Asked::Read(part) => drop(part),
+            Asked::Taken | Asked::Synced => {}
+        }
+    }
 }
 
 /// How an object stands between its front's turns.

@@ -16,10 +16,18 @@ const SLOTS: usize = 256;
 const NOBODY: u32 = 0xffff_ffff;
 
 /// The file that the next run's disk of each slot holds, and the disks that the last run left, from slot 0 on.
-#[derive(Drop)]
 pub(crate) struct Runs {
     files: Vec<Vec<u8>>,
     disks: Vec<MemDisk>,
+}
+
+// Written out, so that letting one go is proved once.
+impl Drop for Runs {
+    fn drop(self) {
+        let Runs { files, disks } = self;
+        drop(files);
+        drop(disks);
+    }
 }
 
 impl Runs {

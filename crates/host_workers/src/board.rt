@@ -50,7 +50,6 @@ enum Whose {
 /// The cells of a run at their places, of which some are empty while a worker has their cell. The ledger's book counts the empty ones.
 /// Contracts
 /// see which places have theirs.
-#[derive(Drop)]
 pub struct Board<'s, L: Names, D: Disk, R: Source, W: Sink, T: Wait> {
     cells: Cells<'s, D, R, W, T>,
     marks: Marks,
@@ -64,6 +63,27 @@ pub struct Board<'s, L: Names, D: Disk, R: Source, W: Sink, T: Wait> {
     // How many workers sleep and weren't called, or more: one that woke by chance counts on.
     asleep: u32,
     book: Book<L>,
+}
+
+// Written out, so that letting one go is proved once.
+impl<'s, L: Names + Drop, D: Disk + Drop, R: Source + Drop, W: Sink + Drop, T: Wait + Drop> Drop
+    for Board<'s, L, D, R, W, T> {
+    fn drop(self) {
+        let Board {
+            cells,
+            marks,
+            slots: _,
+            workers: _,
+            next: _,
+            reading: _,
+            halted: _,
+            asleep: _,
+            book,
+        } = self;
+        drop(cells);
+        drop(marks);
+        drop(book);
+    }
 }
 
 impl<'s, L: Names, D: Disk, R: Source, W: Sink, T: Wait> Model for Board<'s, L, D, R, W, T> {
@@ -119,7 +139,19 @@ impl<'s, L: Names, D: Disk + Drop, R: Source + Drop, W: Sink + Drop, T: Wait + C
         ensures places { places_of result ≡ self.entry }
         ensures cells { AreCells L.names D.moment_of D.left_since D.told D.image D.faults_of R.left R.faults_of W.taken W.faults_of result }
     {
-        let Board { cells, .. } = self;
+        let Board {
+            cells,
+            marks,
+            slots: _,
+            workers: _,
+            next: _,
+            reading: _,
+            halted: _,
+            asleep: _,
+            book,
+        } = self;
+        drop(marks);
+        drop(book);
         cells
     }
 

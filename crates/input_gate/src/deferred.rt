@@ -29,12 +29,24 @@ pub enum Entering {
 
 /// The events that an object defers. Contracts see them in the order in which they came. To add one costs logarithmic time in how
 /// many there are, and so does to take the first of those that may be delivered.
-#[derive(Drop)]
 pub struct Deferred {
     // How many came so far: each has its number, the first 1.
     came: u64,
     events: BTreeMap<u64, Event>,
     doors: Doors,
+}
+
+// Written out, so that letting one go is proved once.
+impl Drop for Deferred {
+    fn drop(self) {
+        let Deferred {
+            came: _,
+            events,
+            doors,
+        } = self;
+        drop(events);
+        drop(doors);
+    }
 }
 
 impl Model for Deferred {

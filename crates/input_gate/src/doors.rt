@@ -10,11 +10,24 @@ use std::collections::BTreeSet;
 use timeline::Event;
 
 /// The numbers of all events but evictions; those of each `Bind`; and those of answers, behind the numbers that they answer.
-#[derive(Drop)]
 pub(crate) struct Doors {
     pub staying: BTreeSet<u64>,
     pub binds: BTreeSet<u64>,
     pub answers: BTreeSet<(u64, u64)>,
+}
+
+// Written out, so that letting one go is proved once.
+impl Drop for Doors {
+    fn drop(self) {
+        let Doors {
+            staying,
+            binds,
+            answers,
+        } = self;
+        drop(staying);
+        drop(binds);
+        drop(answers);
+    }
 }
 
 impl Doors {

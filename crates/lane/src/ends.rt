@@ -2,6 +2,8 @@
 ghost use Rattle.std.specs.Prelude.{◌≡◌, true, false, [], ◌∷◌, ◌++◌, IfOk, IfErr, IfSome, IfNone, OnOk, OnErr};
 ghost use Rattle.crossbeam_queue.specs.SegTies.{IsSegPassOf};
 ghost use Rattle.lane.specs.Lanes.{StartsWith};
+ghost use Rattle.lane.specs.Order.{log};
+ghost use Rattle.std.specs.Arc.{arc_value};
 
 use crate::plain::Plain;
 use crate::rule::{Begins, Clash, InOrder, Log, Notes, Roles, Sends, Takes};
@@ -29,11 +31,20 @@ impl<T: Drop> Drop for Shared<T> {
 }
 
 /// The end of a lane that sends. Contracts see which lane it is of, and what was sent.
-#[derive(Drop)]
 pub struct SendEnd<T, R: Wait> {
     rt: R,
     shared: Arc<Shared<T>>,
     pass: SegPass<T, Log<T>>,
+}
+
+// Written out, so that letting one go is proved once.
+impl<T: Drop, R: Wait + Drop> Drop for SendEnd<T, R> {
+    fn drop(self) {
+        let SendEnd { rt, shared, pass } = self;
+        drop(rt);
+        drop(shared);
+        drop(pass);
+    }
 }
 
 impl<T, R: Wait> Model for SendEnd<T, R> {
@@ -53,12 +64,27 @@ impl<T, R: Wait> Model for SendEnd<T, R> {
 }
 
 /// The end of a lane that takes. Contracts see which lane it is of, what it was told was sent, and what was taken.
-#[derive(Drop)]
 pub struct TakeEnd<T, R: Wait> {
     rt: R,
     shared: Arc<Shared<T>>,
     pass: SegPass<T, Log<T>>,
     past: Trail<T>,
+}
+
+// Written out, so that letting one go is proved once.
+impl<T: Drop, R: Wait + Drop> Drop for TakeEnd<T, R> {
+    fn drop(self) {
+        let TakeEnd {
+            rt,
+            shared,
+            pass,
+            past,
+        } = self;
+        drop(rt);
+        drop(shared);
+        drop(pass);
+        drop(past);
+    }
 }
 
 impl<T, R: Wait> Model for TakeEnd<T, R> {
@@ -136,6 +162,21 @@ impl<T: Drop, R: Wait + Copy> SendEnd<T, R> {
         let pass = shared.queue.another::<Notes>(&mut self.pass);
         Note { pass }
     }
+
+    // Takes the lane apart, with its other end.
+    fn close_with(self, alloc: Global, take: TakeEnd<T, R>) -> Mem<Plain<T>>
+        requires { self.lane ≡ take.lane }
+        ensures got { IfOk result (λ rest. rest.got ≡ take.got) }
+        ensures rest { IfOk result (λ rest. self.sent ≡ take.got ++ rest.waiting) }
+        ensures taken { StartsWith self.sent take.got }
+    {
+        let SendEnd {
+            rt: _,
+            shared,
+            pass,
+        } = self;
+        take.close_behind(alloc, shared, pass)
+    }
 }
 
 impl<T: Drop, R: Wait + Copy> TakeEnd<T, R> {
@@ -149,6 +190,54 @@ impl<T: Drop, R: Wait + Copy> TakeEnd<T, R> {
         let shared: &Shared<T> = &self.shared;
         shared.queue.absorb::<Notes>(&mut self.pass, pass);
     }
+
+    // Another end that takes from the same lane can't be.
+    fn clash(self, other: TakeEnd<T, R>)
+        requires { self.lane ≡ other.lane }
+        ensures { ⊥ }
+    {
+        let TakeEnd {
+            rt,
+            shared,
+            mut pass,
+            past: _,
+        } = self;
+        let TakeEnd {
+            rt: _,
+            shared: _,
+            pass: second,
+            past: _,
+        } = other;
+        let shared: &Shared<T> = &shared;
+        shared.queue.absorb::<Clash>(&mut pass, second);
+        shared.queue.len_as::<Clash, R>(&rt, &mut pass);
+    }
+
+    // Takes the lane apart, with what its other end had.
+    fn close_behind(
+        self,
+        alloc: Global,
+        shared: Arc<Shared<T>>,
+        mut sends: SegPass<T, Log<T>>,
+    ) -> Mem<Plain<T>>
+        requires sends { IsSegPassOf (arc_value shared).queue sends × (sends.me.view.client ≡ log true false [] sends.me.view.client.sent []) }
+        requires lane { (arc_value shared).queue ≡ self.lane }
+        ensures got { IfOk result (λ rest. rest.got ≡ self.got) }
+        ensures rest { IfOk result (λ rest. sends.me.view.client.sent ≡ self.got ++ rest.waiting) }
+        ensures taken { StartsWith sends.me.view.client.sent self.got }
+    {
+        let TakeEnd {
+            rt,
+            shared: _,
+            pass,
+            past,
+        } = self;
+        let shared: &Shared<T> = &shared;
+        shared.queue.absorb::<Roles>(&mut sends, pass);
+        look(&rt, &shared.queue, &mut sends);
+        let rest = drain(&rt, alloc, &shared.queue, sends)?;
+        Ok(Plain::behind(past, rest))
+    }
 }
 
 /// A lane has one end that takes: there are no two of one lane.
@@ -156,21 +245,7 @@ pub fn no_two<T: Drop, R: Wait + Copy>(one: TakeEnd<T, R>, other: TakeEnd<T, R>)
     requires { one.lane ≡ other.lane }
     ensures { ⊥ }
 {
-    let TakeEnd {
-        rt,
-        shared,
-        mut pass,
-        past: _,
-    } = one;
-    let TakeEnd {
-        rt: _,
-        shared: _,
-        pass: second,
-        past: _,
-    } = other;
-    let shared: &Shared<T> = &shared;
-    shared.queue.absorb::<Clash>(&mut pass, second);
-    shared.queue.len_as::<Clash, R>(&rt, &mut pass);
+    one.clash(other);
 }
 
 impl<T: Drop, R: Wait + Copy> Outlet<T> for SendEnd<T, R> {
@@ -259,20 +334,5 @@ pub fn close<T: Drop, R: Wait + Copy>(
     ensures rest { IfOk result (λ rest. send.sent ≡ take.got ++ rest.waiting) }
     ensures taken { StartsWith send.sent take.got }
 {
-    let SendEnd {
-        rt,
-        shared,
-        mut pass,
-    } = send;
-    let TakeEnd {
-        rt: _,
-        shared: _,
-        pass: other,
-        past,
-    } = take;
-    let shared: &Shared<T> = &shared;
-    shared.queue.absorb::<Roles>(&mut pass, other);
-    look(&rt, &shared.queue, &mut pass);
-    let rest = drain(&rt, alloc, &shared.queue, pass)?;
-    Ok(Plain::behind(past, rest))
+    send.close_with(alloc, take)
 }

@@ -11,6 +11,3 @@ mod traits;
 pub use ends::{Note, SendEnd, TakeEnd, close, make, no_two};
 pub use plain::Plain;
 pub use traits::{Inlet, Outlet, SendFault};
-
-#[cfg(test)]
-mod tests;

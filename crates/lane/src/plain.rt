@@ -9,10 +9,18 @@ use std::collections::VecDeque;
 use std::marker::Model;
 
 /// A queue of one thread, both ends in one. Contracts see what was taken from it and what waits.
-#[derive(Drop)]
 pub struct Plain<T> {
     waiting: VecDeque<T>,
     past: Trail<T>,
+}
+
+// Written out, so that letting one go is proved once.
+impl<T: Drop> Drop for Plain<T> {
+    fn drop(self) {
+        let Plain { waiting, past } = self;
+        drop(waiting);
+        drop(past);
+    }
 }
 
 impl<T> Model for Plain<T> {

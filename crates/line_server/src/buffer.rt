@@ -16,11 +16,22 @@ const BUFFER_BYTES: usize = 65_536;
 
 // Bytes that were read and not given yet, seen by contracts as their list. It has its memory from the first read on, and not in itself: who
 // moves a reader moves few bytes.
-#[derive(Drop)]
 pub(crate) struct Buffer {
     bytes: Vec<u8>,
     at: usize,
     end: usize,
+}
+
+// Written out, so that letting one go is proved once.
+impl Drop for Buffer {
+    fn drop(self) {
+        let Buffer {
+            bytes,
+            at: _,
+            end: _,
+        } = self;
+        drop(bytes);
+    }
 }
 
 impl Model for Buffer {

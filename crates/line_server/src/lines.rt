@@ -12,13 +12,26 @@ use do_disk::Source;
 use std::alloc::Global;
 
 /// The lines of a source, numbered from 1, without the blank ones. It keeps no more of a line than is read of it.
-#[derive(Drop)]
 pub struct Lines<R> {
     alloc: Global,
     bytes: Bytes<R>,
     count: u64,
     fault: Option<LineFault>,
     ghost counted: { count ≤ most_lines },
+}
+
+// Written out, so that letting one go is proved once.
+impl<R: Drop> Drop for Lines<R> {
+    fn drop(self) {
+        let Lines {
+            alloc: _,
+            bytes,
+            count: _,
+            fault,
+        } = self;
+        drop(bytes);
+        drop(fault);
+    }
 }
 
 impl<R: Source> Lines<R> {

@@ -47,7 +47,7 @@ impl WaitLine {
 }
 
 /// A line of the output. Its `number` is that of a request.
-#[derive(Debug, Drop)]
+#[derive(Debug)]
 pub enum OutLine {
     /// `["reply",n,value]`: what the request was answered.
     Reply {
@@ -76,6 +76,28 @@ pub enum OutLine {
         number: i64,
         on: WaitLine,
     },
+}
+
+// Written out, so that letting one go is proved once.
+impl Drop for OutLine {
+    fn drop(self) {
+        match self {
+            OutLine::Reply { number: _, value } => drop(value),
+            OutLine::Error { number: _, failure } => drop(failure),
+            OutLine::Fetch {
+                k: _,
+                class,
+                name,
+                value,
+            } => {
+                drop(class);
+                drop(name);
+                drop(value);
+            }
+            OutLine::Refused { line: _, why } => drop(why),
+            OutLine::Waiting { number: _, on } => drop(on),
+        }
+    }
 }
 
 impl OutLine {

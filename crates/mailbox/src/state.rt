@@ -8,12 +8,24 @@ use std::alloc::Global;
 use std::marker::Model;
 
 // Contracts see it as the definition of a switch does.
-#[derive(Drop)]
 pub(crate) struct State {
     pub(crate) directory: Directory,
     pub(crate) fetches: Fetches,
     // the last accepted tick, in milliseconds
     pub(crate) tick: i64,
+}
+
+// Written out, so that letting one go is proved once.
+impl Drop for State {
+    fn drop(self) {
+        let State {
+            directory,
+            fetches,
+            tick: _,
+        } = self;
+        drop(directory);
+        drop(fetches);
+    }
 }
 
 impl Model for State {

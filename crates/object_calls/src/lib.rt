@@ -9,6 +9,3 @@ mod waiting;
 pub use admission::{CallFault, MOST_CALLS, MOST_DEPTH, admit};
 pub use fetches::Fetches;
 pub use waiting::Waiting;
-
-#[cfg(test)]
-mod tests;

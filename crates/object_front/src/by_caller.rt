@@ -12,10 +12,18 @@ use timeline::Caller;
 
 /// What is kept for callers: for a request under its line, for a call of an object under its slot, its incarnation and the number
 /// of the call. Each call costs logarithmic time in what is kept.
-#[derive(Drop)]
 pub(crate) struct ByCaller<X> {
     requests: BTreeMap<u64, X>,
     calls: BTreeMap<(u32, u64, u64), X>,
+}
+
+// Written out, so that letting one go is proved once.
+impl<X: Drop> Drop for ByCaller<X> {
+    fn drop(self) {
+        let ByCaller { requests, calls } = self;
+        drop(requests);
+        drop(calls);
+    }
 }
 
 impl<X: Drop> ByCaller<X> {

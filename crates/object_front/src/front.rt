@@ -129,21 +129,6 @@ impl Front {
         ensures { fronted result ≡ fronted self.half.log }
     {
         let Front { half } = self;
-        let Half {
-            class: _,
-            incarnation: _,
-            count: _,
-            mode,
-            due,
-            deferred,
-            stuck: _,
-            first_delivered: _,
-            first_sent: _,
-            log,
-        } = half;
-        drop(mode);
-        drop(due);
-        drop(deferred);
-        log
+        half.into_log()
     }
 }

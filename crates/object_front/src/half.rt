@@ -1,4 +1,6 @@
 //! What the front half of an object holds.
+ghost use Rattle.std.specs.Prelude.{◌≡◌};
+
 use front_turns::State;
 use input_gate::Deferred;
 use timeline::{Event, FrontLog};
@@ -15,7 +17,6 @@ pub(crate) enum Mode<T> {
 }
 
 /// The front half of an object, over the tasks of an evaluator.
-#[derive(Drop)]
 pub(crate) struct Half<T> {
     // the number of the object's class, once it is known
     pub(crate) class: Option<u32>,
@@ -32,4 +33,50 @@ pub(crate) struct Half<T> {
     pub(crate) first_delivered: usize,
     pub(crate) first_sent: usize,
     pub(crate) log: FrontLog,
+}
+
+// Written out, so that letting one go is proved once.
+impl<T: Drop> Drop for Half<T> {
+    fn drop(self) {
+        let Half {
+            class: _,
+            incarnation: _,
+            count: _,
+            mode,
+            due,
+            deferred,
+            stuck: _,
+            first_delivered: _,
+            first_sent: _,
+            log,
+        } = self;
+        drop(mode);
+        drop(due);
+        drop(deferred);
+        drop(log);
+    }
+}
+
+impl<T: Drop> Half<T> {
+    // The history. It takes no memory.
+    pub(crate) fn into_log(self) -> FrontLog
+        ensures { result ≡ self.log }
+    {
+        let Half {
+            class: _,
+            incarnation: _,
+            count: _,
+            mode,
+            due,
+            deferred,
+            stuck: _,
+            first_delivered: _,
+            first_sent: _,
+            log,
+        } = self;
+        drop(mode);
+        drop(due);
+        drop(deferred);
+        log
+    }
 }

@@ -45,7 +45,6 @@ pub(crate) struct Ending {
 }
 
 /// The back half of an object.
-#[derive(Drop)]
 pub struct Back<D> {
     pub(crate) store: Store<D>,
     // the journal's limit in bytes
@@ -69,6 +68,35 @@ pub struct Back<D> {
     // the number of the newest incarnation
     pub(crate) number: u64,
     pub(crate) log: BackLog,
+}
+
+// Written out, so that letting one go is proved once.
+impl<D: Drop> Drop for Back<D> {
+    fn drop(self) {
+        let Back {
+            store,
+            limit: _,
+            cache,
+            identity,
+            held,
+            mode,
+            stuck: _,
+            stopped: _,
+            before: _,
+            durable: _,
+            own: _,
+            settled: _,
+            unflushed: _,
+            number: _,
+            log,
+        } = self;
+        drop(store);
+        drop(cache);
+        drop(identity);
+        drop(held);
+        drop(mode);
+        drop(log);
+    }
 }
 
 /// What a back leaves.

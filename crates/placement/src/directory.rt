@@ -16,7 +16,6 @@ use storage_map::Identity;
 
 /// The slots of a run, and the object of each that has one. Contracts see the list of the slots, each with its object if it has
 /// one; no object stands in two of them. Slots are counted from 0.
-#[derive(Drop)]
 pub struct Directory {
     slots: u32,
     // each slot below has an object
@@ -25,6 +24,22 @@ pub struct Directory {
     // the slot of each object, by the numbers of its class and its name
     named: IndexMap<(usize, usize), u32>,
     objects: IndexMap<u32, Identity>,
+}
+
+// Written out, as each crate above would prove a derived one again wherever it lets one go.
+impl Drop for Directory {
+    fn drop(self) {
+        let Directory {
+            slots: _,
+            passed: _,
+            texts,
+            named,
+            objects,
+        } = self;
+        drop(texts);
+        drop(named);
+        drop(objects);
+    }
 }
 
 impl Model for Directory {

@@ -10,6 +10,3 @@ mod worker;
 pub use answers::{AdoptFault, PlaceFault, Placed};
 pub use directory::Directory;
 pub use worker::home;
-
-#[cfg(test)]
-mod tests;

@@ -9,10 +9,17 @@ use std::marker::Model;
 
 // Texts in the order in which they came, each once. The number of a text is its place, counted from 0. Contracts see the list of
 // their UTF-8 bytes.
-#[derive(Drop)]
 pub(crate) struct Texts {
     alloc: Global,
     texts: IndexSet<String>,
+}
+
+// Written out, so that letting one go is proved once.
+impl Drop for Texts {
+    fn drop(self) {
+        let Texts { alloc: _, texts } = self;
+        drop(texts);
+    }
 }
 
 impl Model for Texts {

@@ -106,8 +106,9 @@ fn listing(access: Access, options: Options, limit: Option<i64>) -> Result<Reque
     if access.is_rolled_back() {
         return Err(Stop::Throws(Refusal::RolledBack));
     }
-    let limit = count_of(limit)?;
-    Ok(Request::Reads(StoreAsk::List(Options { limit, ..options })))
+    let mut options = options;
+    options.limit = count_of(limit)?;
+    Ok(Request::Reads(StoreAsk::List(options)))
 }
 
 // How many pairs the limit leaves, where it is at least 1.

@@ -26,11 +26,23 @@ enum Part {
 }
 
 // What the cases go on with.
-#[derive(Drop)]
 struct State {
     part: Part,
     vars: Vars,
     tasks: tasks::State,
+}
+
+// Written out, so that letting one go is proved once.
+impl Drop for State {
+    fn drop(self) {
+        let State {
+            part: _,
+            vars,
+            tasks,
+        } = self;
+        drop(vars);
+        drop(tasks);
+    }
 }
 
 // `part NAME`

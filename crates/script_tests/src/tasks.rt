@@ -10,11 +10,23 @@ use std::test::Fail;
 use test_rows::{count, named, word};
 
 /// The script and the class whose methods are started, and the task that was started last.
-#[derive(Drop)]
 pub(crate) struct State {
     text: &'static str,
     class: String,
     running: Option<Running>,
+}
+
+// Written out, so that letting one go is proved once.
+impl Drop for State {
+    fn drop(self) {
+        let State {
+            text: _,
+            class,
+            running,
+        } = self;
+        drop(class);
+        drop(running);
+    }
 }
 
 impl State {

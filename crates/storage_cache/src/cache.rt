@@ -10,9 +10,16 @@ use std::marker::Model;
 use storage_map::{Batch, Map, Options, Range, Reading, StoreAsk};
 
 /// The map with the batches taken so far. Contracts see it.
-#[derive(Drop)]
 pub struct Cache {
     map: Map,
+}
+
+// Written out, as each crate above would prove a derived one again wherever it lets one go.
+impl Drop for Cache {
+    fn drop(self) {
+        let Cache { map } = self;
+        drop(map);
+    }
 }
 
 impl Model for Cache {

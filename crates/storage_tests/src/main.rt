@@ -22,12 +22,26 @@ enum Part {
 }
 
 // What the cases go on with.
-#[derive(Drop)]
 struct State {
     part: Part,
     values: Vec<Value>,
     stores: stores::Stores,
     batcher: Batcher,
+}
+
+// Written out, so that letting one go is proved once.
+impl Drop for State {
+    fn drop(self) {
+        let State {
+            part: _,
+            values,
+            stores,
+            batcher,
+        } = self;
+        drop(values);
+        drop(stores);
+        drop(batcher);
+    }
 }
 
 // `part NAME`

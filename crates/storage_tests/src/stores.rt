@@ -13,11 +13,20 @@ use storage_map::{Batch, Identity, Key, Keys, Map, Op, Options, Reading, StoreAs
 use storage_txn::{Txn, TxnFault, laws as txn_laws};
 use test_rows::{count, tell_number, word};
 
-#[derive(Drop)]
 pub(crate) struct Stores {
     map: Map,
     cache: Cache,
     txn: Txn,
+}
+
+// Written out, so that letting one go is proved once.
+impl Drop for Stores {
+    fn drop(self) {
+        let Stores { map, cache, txn } = self;
+        drop(map);
+        drop(cache);
+        drop(txn);
+    }
 }
 
 impl Stores {

@@ -18,11 +18,23 @@ use write_batcher::{Batcher, EMPTY_BATCH_BYTES};
 
 /// The writes of a transaction and whether it was rolled back, after the storage documentation's `transaction`.
 /// Contracts see the list of its operations, or none once it was rolled back.
-#[derive(Drop)]
 pub struct Txn {
     alloc: Global,
     batcher: Option<Batcher>,
     places: Places,
+}
+
+// Written out, as each crate above would prove a derived one again wherever it lets one go.
+impl Drop for Txn {
+    fn drop(self) {
+        let Txn {
+            alloc: _,
+            batcher,
+            places,
+        } = self;
+        drop(batcher);
+        drop(places);
+    }
 }
 
 impl Model for Txn {

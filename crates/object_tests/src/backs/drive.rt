@@ -15,11 +15,20 @@ use test_rows::{count, word};
 use timeline::{Entry, Message, Notice, Stepped};
 
 /// The lanes of a back.
-#[derive(Drop)]
 struct Lanes {
     line: Plain<Entry>,
     notices: Plain<Notice>,
     out: Plain<Message>,
+}
+
+// Written out, so that letting one go is proved once.
+impl Drop for Lanes {
+    fn drop(self) {
+        let Lanes { line, notices, out } = self;
+        drop(line);
+        drop(notices);
+        drop(out);
+    }
 }
 
 impl Lanes {

@@ -18,11 +18,24 @@ use test_rows::{count, word};
 use timeline::{Entry, Event, Notice};
 
 /// The lanes of a front.
-#[derive(Drop)]
 struct Lanes {
     inbox: Plain<Event>,
     notices: Plain<Notice>,
     line: Plain<Entry>,
+}
+
+// Written out, so that letting one go is proved once.
+impl Drop for Lanes {
+    fn drop(self) {
+        let Lanes {
+            inbox,
+            notices,
+            line,
+        } = self;
+        drop(inbox);
+        drop(notices);
+        drop(line);
+    }
 }
 
 impl Lanes {

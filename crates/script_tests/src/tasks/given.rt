@@ -111,13 +111,25 @@ fn found(checked: &Checked, class: u32, method: &str) -> Option<u32>
 }
 
 /// A task after one of its turns, with its script and the number of its class.
-#[derive(Drop)]
 pub(crate) struct Running {
     checked: Checked,
     class: u32,
     pub(crate) outcome: Outcome,
     ghost there: { class < length (tree_of checked).classes },
     ghost kept: { class_or class outcome ≡ class },
+}
+
+// Written out, so that letting one go is proved once.
+impl Drop for Running {
+    fn drop(self) {
+        let Running {
+            checked,
+            class: _,
+            outcome,
+        } = self;
+        drop(checked);
+        drop(outcome);
+    }
 }
 
 impl Running {

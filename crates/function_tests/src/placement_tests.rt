@@ -1,5 +1,5 @@
-use super::*;
 use do_value::Text;
+use placement::{Directory, PlaceFault, Placed, home};
 use std::alloc::Global;
 use std::test::*;
 use storage_map::Identity;

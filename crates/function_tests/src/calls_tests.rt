@@ -1,4 +1,4 @@
-use super::*;
+use object_calls::{Fetches, Waiting};
 use std::test::*;
 
 #[test]

@@ -1,4 +1,4 @@
-use super::*;
+use command_words::{Command, ServeWords, command_of};
 use std::alloc::Global;
 use std::test::*;
 

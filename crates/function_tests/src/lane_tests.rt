@@ -1,6 +1,6 @@
 ghost use Rattle.std.specs.Prelude.{◌≡◌, IfOk};
 
-use super::*;
+use lane::{Inlet, Outlet, Plain, SendEnd, TakeEnd, close, make};
 use std::alloc::{AllocError, Global};
 use std::sync::Wait;
 use std::test::*;
