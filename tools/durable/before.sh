@@ -1,0 +1,32 @@
+# shellcheck shell=bash
+# What is seen in the folder before a run.
+
+# the journals that stand in a folder, in order; where a number is given, those of more bytes than that
+journals_of() {
+    find "$1" -maxdepth 1 -name 'slot-[0-9][0-9][0-9].journal' ${2:+-size "+$2c"} 2>/dev/null | sort
+}
+
+number_of() {
+    local digits=${1: -11:3}
+    echo $((10#$digits))
+}
+
+# A dump of a folder without a journal would make its journals there. So it isn't begun.
+see_journals() {
+    [ -d "$1" ] || return 0
+    [ -z "$(journals_of "$1")" ] || return 0
+    say "$1 has no journal (slot-000.journal and on), so there is nothing to print, and nothing was made there"
+    exit 3
+}
+
+# Warns where objects stand in journals behind the last slot: a journal that has a frame has more than its header of 16 bytes.
+warn_of_slots() {
+    local file last
+    file=$(journals_of "$1" 16 | tail -n 1)
+    [ -n "$file" ] && [ "$(number_of "$file")" -ge "$2" ] || return 0
+    last=$(journals_of "$1" | tail -n 1)
+    say "WARNING: $file has an object, and --slots $2 ends before it. Give --slots $(($(number_of "$last") + 1)), as the folder has journals to there."
+    if [ "$command" = serve ]; then
+        say "WARNING: with --slots $2 that object is taken for a new one, and a call of it begins a second journal of it, which no later run opens beside the first. docs/RUNNING.md tells how to mend that."
+    fi
+}
