@@ -1,39 +1,61 @@
 //! A disk over a real file. It tells no content: that a file keeps to the crash rule is trusted.
-ghost use Rattle.std.specs.Prelude.{◌≡◌, ◌||◌, false, true, None, length, is_ok, is_err, IsErr, IsTrue, OnOk, OnErr, ◌↔◌};
+ghost use Rattle.std.specs.Prelude.{◌≡◌, None, length, min, is_ok, OnOk, OnErr};
 ghost use Rattle.std.specs.Result.{result_ok};
-ghost use Rattle.do_disk.specs.Disk.{next_count, HasRisen};
-ghost use Rattle.do_disk.specs.FileCalls.{RealDisk, asked_length, read_range, wrote_range, synced_all, given, Makes, RealCounts};
+ghost use Rattle.do_disk.specs.Disk.{next_count, HasRisen, Elapses};
+ghost use Rattle.do_disk.specs.FileCalls.{RealDisk, asked_length, read_range, wrote_range, given, opened, Makes, Syncs, IsAsSure, IsSure, IsUnsure, RealCounts};
 ghost use Rattle.do_disk.specs.Real.{nothing_told};
 
+use crate::sync_again::sync_again;
 use crate::{Disk, Failed, FileCalls};
+use std::io;
 use std::marker::Model;
 
-/// A disk over an open file, which nobody else writes. Once a write or a sync failed each further call fails, since a
-/// later sync could succeed though bytes are gone.
+/// How many bytes at the end of a file that is opened may not have reached the device, though a read gives them. A run whose
+/// last sync failed, or that ended before it, leaves one flight so, of less than 6,300,000 bytes: a class of up to 4,194,299
+/// bytes, a name of up to 1,024, batches of less than 2,097,152, and what stands around them.
+const TAIL_BYTES: u64 = 8_388_608;
+
+/// The place that stands for no write.
+const NOWHERE: u64 = u64::MAX;
+
+/// A disk over an open file, which nobody else writes.
+///
+/// Behind a sync that failed, and before the first one, the device may not have what a read gives, though a later sync
+/// succeeds: the system takes pages that it couldn't write for written. So the next sync first reads what was written
+/// since the last good one, and before the first one the file's tail too, and writes it again as it is. No call fails
+/// because of an earlier one.
 #[derive(Drop)]
 pub struct FileDisk<F: FileCalls> {
     file: F,
     moment: u64,
     faults: u64,
-    broken: bool,
+    written: u64,
+    unsure: Option<u64>,
 }
 
 impl<F: FileCalls> Model for FileDisk<F> {
     ghost Value = { RealDisk };
 
-    ghost view = { λ disk. record { calls = F.calls disk.file; moment = disk.moment; faults = disk.faults; broken = disk.broken } };
+    ghost view = { λ disk. record {
+      calls = F.calls disk.file;
+      moment = disk.moment;
+      faults = disk.faults;
+      written = disk.written;
+      unsure = disk.unsure;
+    } };
 }
 
 impl<F: FileCalls> FileDisk<F> {
     /// The disk of this file, before its first call.
     pub fn new(file: F) -> Self
-        ensures { result ≡ record { calls = F.calls file; moment = 0; faults = 0; broken = false } }
+        ensures { result ≡ opened (F.calls file) }
     {
         FileDisk {
             file,
             moment: 0,
             faults: 0,
-            broken: false,
+            written: NOWHERE,
+            unsure: Some(TAIL_BYTES),
         }
     }
 
@@ -42,6 +64,14 @@ impl<F: FileCalls> FileDisk<F> {
         ensures { F.calls result.now ≡ self.now.calls }
     {
         &self.file
+    }
+
+    // Counts a call.
+    fn begin(&mut self)
+        ensures one_more { self.new ≡ record self.old { moment = next_count self.old.moment } }
+        ensures time { Elapses self.old.moment self.new.moment (λ t c. ⊥) (λ t c. ⊥) (λ c. ⊥) }
+    {
+        self.moment = self.moment.saturating_add(1);
     }
 
     // A call fails.
@@ -53,27 +83,14 @@ impl<F: FileCalls> FileDisk<F> {
         Failed
     }
 
-    // A write or a sync fails, and with it each further call.
-    fn fail_for_good(&mut self) -> Failed
-        ensures one_more { self.new ≡ record self.old { faults = next_count self.old.faults; broken = true } }
-        ensures rose { HasRisen self.old.faults self.new.faults }
+    // Syncs the file, and where the device may lack bytes writes them again first.
+    fn sync_file(&mut self) -> io::Result<()>
+        ensures makes { Syncs self.old self.new (is_ok result) }
+        ensures same { self.new ≡ record self.old { calls = self.new.calls } }
     {
-        self.broken = true;
-        self.fail()
-    }
-
-    // Counts a call, and fails it where a write or a sync failed before.
-    fn begin(&mut self) -> Result<(), Failed>
-        ensures begun { OnOk result (self.new ≡ record self.old { moment = next_count self.old.moment }) }
-        ensures refused { OnErr result (self.new ≡ record self.old { moment = next_count self.old.moment; faults = next_count self.old.faults }) }
-        ensures cause { IsErr result ↔ IsTrue self.old.broken }
-        ensures counts { RealCounts self.old self.new result }
-    {
-        self.moment = self.moment.saturating_add(1);
-        if self.broken {
-            Err(self.fail())
-        } else {
-            Ok(())
+        match self.unsure {
+            Some(before) => sync_again(&mut self.file, self.written, before),
+            None => self.file.sync(),
         }
     }
 }
@@ -96,11 +113,11 @@ impl<F: FileCalls> Disk for FileDisk<F> {
     ghost reads_an_image = { λ disk c told. nothing_told told };
 
     fn length(&mut self) -> Result<u64, Failed>
-        ensures makes { Makes self.old self.new (asked_length (result_ok result)) result }
-        ensures sound { self.new.broken ≡ self.old.broken }
+        ensures makes { Makes self.old self.new (asked_length (result_ok result)) }
+        ensures as_sure { IsAsSure self.old self.new }
         ensures counts { RealCounts self.old self.new result }
     {
-        self.begin()?;
+        self.begin();
         match self.file.length() {
             Ok(length) => Ok(length),
             Err(_) => Err(self.fail()),
@@ -108,11 +125,11 @@ impl<F: FileCalls> Disk for FileDisk<F> {
     }
 
     fn read_at(&mut self, at: u64, into: &mut [u8]) -> Result<(), Failed>
-        ensures makes { Makes self.old self.new (read_range at (length into.old) (given result into.new)) result }
-        ensures sound { self.new.broken ≡ self.old.broken }
+        ensures makes { Makes self.old self.new (read_range at (length into.old) (given result into.new)) }
+        ensures as_sure { IsAsSure self.old self.new }
         ensures counts { RealCounts self.old self.new result }
     {
-        self.begin()?;
+        self.begin();
         match self.file.read_at(at, into) {
             Ok(()) => Ok(()),
             Err(_) => Err(self.fail()),
@@ -120,26 +137,36 @@ impl<F: FileCalls> Disk for FileDisk<F> {
     }
 
     fn write_at(&mut self, at: u64, from: &[u8]) -> Result<(), Failed>
-        ensures makes { Makes self.old self.new (wrote_range at from.now (is_ok result)) result }
-        ensures broken { self.new.broken ≡ (self.old.broken || is_err result) }
+        ensures makes { Makes self.old self.new (wrote_range at from.now (is_ok result)) }
+        ensures written { self.new.written ≡ min self.old.written at }
+        ensures unsure { self.new.unsure ≡ self.old.unsure }
         ensures counts { RealCounts self.old self.new result }
     {
-        self.begin()?;
+        self.begin();
+        self.written = self.written.min(at);
         match self.file.write_at(at, from) {
             Ok(()) => Ok(()),
-            Err(_) => Err(self.fail_for_good()),
+            Err(_) => Err(self.fail()),
         }
     }
 
     fn sync(&mut self) -> Result<(), Failed>
-        ensures makes { Makes self.old self.new (synced_all (is_ok result)) result }
-        ensures broken { self.new.broken ≡ (self.old.broken || is_err result) }
+        ensures makes { Syncs self.old self.new (is_ok result) }
+        ensures good { OnOk result (IsSure self.new) }
+        ensures failed { OnErr result (IsUnsure self.old self.new) }
         ensures counts { RealCounts self.old self.new result }
     {
-        self.begin()?;
-        match self.file.sync() {
-            Ok(()) => Ok(()),
-            Err(_) => Err(self.fail_for_good()),
+        self.begin();
+        match self.sync_file() {
+            Ok(()) => {
+                self.written = NOWHERE;
+                self.unsure = None;
+                Ok(())
+            }
+            Err(_) => {
+                self.unsure = Some(self.unsure.unwrap_or(0));
+                Err(self.fail())
+            }
         }
     }
 

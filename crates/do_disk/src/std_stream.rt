@@ -65,7 +65,9 @@ impl<R: Read + Drop> Source for StdSource<R> {
     }
 }
 
-/// A sink over a writer, through to the stream below it. A write that a signal interrupts is tried again and is no fault.
+/// A sink over a writer that keeps nothing back, as the standard output and a file do: each write is one of the stream, so
+/// that one which fails took nothing. It flushes nothing, since a flush that fails doesn't tell what was taken. A write that
+/// a signal interrupts is tried again and is no fault.
 #[derive(Drop)]
 pub struct StdSink<W> {
     writer: W,
@@ -89,26 +91,6 @@ fn write_some<W: Write>(writer: &mut W, from: &[u8]) -> io::Result<usize>
         }
     }
     Err(io::Error::from(ErrorKind::Interrupted))
-}
-
-// Flushes until nothing interrupts.
-fn flush_all<W: Write>(writer: &mut W) -> io::Result<()> {
-    for _ in 0..u64::MAX {
-        match writer.flush() {
-            Err(error) if error.kind() == ErrorKind::Interrupted => {}
-            flushed => return flushed,
-        }
-    }
-    Err(io::Error::from(ErrorKind::Interrupted))
-}
-
-// Writes through to the stream below the writer.
-fn write_through<W: Write>(writer: &mut W, from: &[u8]) -> io::Result<usize>
-    ensures { IfOk result (λ n. n ≤ length from.now) }
-{
-    let n = write_some(writer, from)?;
-    flush_all(writer)?;
-    Ok(n)
 }
 
 impl<W: Write + Drop> StdSink<W> {
@@ -135,7 +117,7 @@ impl<W: Write + Drop> Sink for StdSink<W> {
     ghost faults_of = { λ sink. sink.faults };
 
     fn write(&mut self, from: &[u8]) -> Result<usize, Failed> {
-        match write_through(&mut self.writer, from) {
+        match write_some(&mut self.writer, from) {
             Ok(n) if n > 0 || from.is_empty() => Ok(n),
             _ => Err(self.fail()),
         }

@@ -4,8 +4,8 @@ use do_disk::{
     Depot, DepotFault, Disk, Failed, Fails, FileCalls, FileDisk, FolderDepot, FreeGate, MemDepot,
     MemDisk, MemSink, MemSource, Pick, Sink, Source, StdSink, StdSource, TurnGate, VoidSink,
 };
-use std::alloc::Global;
-use std::fs::File;
+use std::alloc::{Allocator, Global};
+use std::fs::{File, Metadata, OpenOptions};
 use std::io::{ErrorKind, Read, Write};
 use std::process::Abort;
 use std::rt::Files;
@@ -195,16 +195,106 @@ fn an_empty_folder_word_makes_nothing(rt: HostRuntime) -> Result<(), Fail> {
     Ok(())
 }
 
-// A file that keeps the names of its calls, and of which the call of one number fails.
+// A folder in which another run takes a file away, and makes a new one in its place, as soon as it is opened.
+#[derive(Drop)]
+struct Racing<R> {
+    inner: R,
+}
+
+impl<R: Files<File = File>> Files for Racing<R> {
+    type File = File;
+
+    type Dir = R::Dir;
+
+    fn open_file(&self, how: &OpenOptions, path: &str) -> io::Result<File> {
+        let opened = self.inner.open_file(how, path)?;
+        if path.ends_with(".journal") {
+            self.inner.rename(path, "file of another run")?;
+            self.inner.open_file(how, path)?;
+        }
+        Ok(opened)
+    }
+
+    fn open_dir(&self, path: &str) -> io::Result<R::Dir> {
+        self.inner.open_dir(path)
+    }
+
+    fn metadata(&self, path: &str) -> io::Result<Metadata> {
+        self.inner.metadata(path)
+    }
+
+    fn symlink_metadata(&self, path: &str) -> io::Result<Metadata> {
+        self.inner.symlink_metadata(path)
+    }
+
+    fn copy(&self, from: &str, to: &str) -> io::Result<u64> {
+        self.inner.copy(from, to)
+    }
+
+    fn rename(&self, from: &str, to: &str) -> io::Result<()> {
+        self.inner.rename(from, to)
+    }
+
+    fn remove_file(&self, path: &str) -> io::Result<()> {
+        self.inner.remove_file(path)
+    }
+
+    fn create_dir(&self, path: &str) -> io::Result<()> {
+        self.inner.create_dir(path)
+    }
+
+    fn remove_dir(&self, path: &str) -> io::Result<()> {
+        self.inner.remove_dir(path)
+    }
+
+    fn remove_dir_all<B: Allocator>(&self, alloc: B, path: &str) -> io::Result<()> {
+        self.inner.remove_dir_all(alloc, path)
+    }
+}
+
+#[test]
+fn a_file_that_its_path_no_longer_names_is_not_opened(rt: HostRuntime) -> Result<(), Fail> {
+    fs::create_dir(&rt, "folder of a race")?;
+    let inner = rt.clone()?;
+    let mut depot = FolderDepot::new((Racing { inner }, rt.alloc()));
+    assert_eq!(rt;
+        depot.slot("folder of a race", 0).err(),
+        Some(DepotFault::Failed)
+    );
+    fs::remove_file(&rt, "file of another run")?;
+    fs::remove_dir_all(&rt, "folder of a race")?;
+    Ok(())
+}
+
+// A call of a file with its place and its number of bytes.
+#[derive(Clone, Copy, Debug, Drop, PartialEq, Eq)]
+enum Noted {
+    Length,
+    Read(u64, usize),
+    Write(u64, usize),
+    Sync,
+}
+
+// A file that notes its calls, and of which the call of one number fails.
 #[derive(Drop)]
 struct NotedFile {
-    calls: Vec<&'static str>,
+    length: u64,
+    calls: Vec<Noted>,
     fails: usize,
 }
 
 impl NotedFile {
-    fn note(&mut self, name: &'static str) -> io::Result<()> {
-        if self.calls.push(name).is_err() || self.calls.len() == self.fails {
+    fn new(alloc: Global, length: u64, fails: usize) -> NotedFile {
+        NotedFile {
+            length,
+            calls: Vec::new(alloc),
+            fails,
+        }
+    }
+
+    fn note(&mut self, call: Noted) -> io::Result<()> {
+        self.calls.push(call)?;
+        if self.calls.len() == self.fails {
             Err(io::Error::from(ErrorKind::Other))
         } else {
             Ok(())
@@ -216,54 +306,94 @@ impl FileCalls for NotedFile {
     ghost calls = { λ _. None };
 
     fn length(&mut self) -> io::Result<u64> {
-        self.note("length")?;
-        Ok(9)
+        self.note(Noted::Length)?;
+        Ok(self.length)
     }
 
-    fn read_at(&mut self, _at: u64, _into: &mut [u8]) -> io::Result<()> {
-        self.note("read")
+    fn read_at(&mut self, at: u64, into: &mut [u8]) -> io::Result<()> {
+        self.note(Noted::Read(at, into.len()))
     }
 
-    fn write_at(&mut self, _at: u64, _from: &[u8]) -> io::Result<()> {
-        self.note("write")
+    fn write_at(&mut self, at: u64, from: &[u8]) -> io::Result<()> {
+        self.note(Noted::Write(at, from.len()))?;
+        self.length = self.length.max(at.saturating_add(from.len() as u64));
+        Ok(())
     }
 
     fn sync(&mut self) -> io::Result<()> {
-        self.note("sync")
+        self.note(Noted::Sync)
     }
 }
 
+// The disk goes on behind each failure, and what the device may lack is written again before the next sync.
 #[test]
-fn each_call_of_a_disk_is_one_of_its_file_until_a_write_or_sync_fails(
-    rt: HostRuntime,
-) -> Result<(), Fail> {
+fn a_sync_that_failed_is_made_good(rt: HostRuntime) -> Result<(), Fail> {
     let alloc = rt.alloc();
     for (fails, oks, made) in [
-        (0, [true, true, true, true, true], 5),
-        (1, [false, true, true, true, true], 5),
-        (2, [true, false, true, true, true], 5),
-        (3, [true, true, false, false, false], 3),
-        (4, [true, true, true, false, false], 4),
-        (5, [true, true, true, true, false], 5),
+        (0, [true, true, true, true, true], 8),
+        (1, [false, true, true, true, true], 8),
+        (2, [false, true, true, true, true], 9),
+        (3, [false, true, true, true, true], 10),
+        (4, [false, true, true, true, true], 11),
+        (5, [true, false, true, true, true], 8),
+        (6, [true, true, false, true, true], 11),
+        (7, [true, true, true, false, true], 8),
+        (8, [true, true, true, true, false], 8),
     ] {
-        let calls = Vec::new(alloc);
-        let mut disk = FileDisk::new(NotedFile { calls, fails });
+        let mut disk = FileDisk::new(NotedFile::new(alloc, 9, fails));
         let answers = [
-            disk.length().is_ok(),
-            disk.read_at(0, &mut [0; 2]).is_ok(),
+            disk.sync().is_ok(),
             disk.write_at(9, b"more").is_ok(),
+            disk.sync().is_ok(),
             disk.sync().is_ok(),
             disk.length().is_ok(),
         ];
         assert_eq!(rt; answers, oks, "{fails}");
         let failed = oks.iter().filter(|ok| !**ok).count() as u64;
         assert_eq!(rt; (disk.moment(), disk.faults()), (5, failed));
-        let names = ["length", "read", "write", "sync", "length"];
+        assert_eq!(rt; disk.file().calls.len(), made, "{fails}");
+    }
+    Ok(())
+}
+
+#[test]
+fn what_was_written_before_a_failed_sync_is_written_again(rt: HostRuntime) -> Result<(), Fail> {
+    let mut disk = FileDisk::new(NotedFile::new(rt.alloc(), 9, 6));
+    disk.sync()?;
+    disk.write_at(9, b"more")?;
+    assert_eq!(rt; disk.sync(), Err(Failed));
+    disk.sync()?;
+    let made = [
+        Noted::Length,
+        Noted::Read(0, 9),
+        Noted::Write(0, 9),
+        Noted::Sync,
+        Noted::Write(9, 4),
+        Noted::Sync,
+        Noted::Length,
+        Noted::Read(9, 4),
+        Noted::Write(9, 4),
+        Noted::Sync,
+    ];
+    assert_eq!(rt; disk.file().calls.as_slice(), made.as_slice());
+    Ok(())
+}
+
+// Of an empty file nothing is written again, and of a long one the last 8 MiB.
+#[test]
+fn the_tail_of_a_file_is_written_again_once(rt: HostRuntime) -> Result<(), Fail> {
+    let alloc = rt.alloc();
+    for (length, first, made) in [
+        (0, Noted::Sync, 3),
+        (1, Noted::Read(0, 1), 5),
+        (8_388_609, Noted::Read(1, 65_536), 259),
+    ] {
+        let mut disk = FileDisk::new(NotedFile::new(alloc, length, 0));
+        disk.sync()?;
+        disk.sync()?;
         let calls = &disk.file().calls;
+        assert_eq!(rt; calls.get(1).copied(), Some(first));
         assert_eq!(rt; calls.len(), made);
-        for (call, name) in calls.iter().zip(&names) {
-            assert_eq!(rt; *call, *name);
-        }
     }
     Ok(())
 }
@@ -325,5 +455,32 @@ fn streams_of_the_system_outlast_interrupts(rt: HostRuntime) -> Result<(), Fail>
     fs::remove_file(&rt, "stream of a test")?;
     let folder = File::open(&rt, ".")?;
     assert_eq!(rt; StdSource::new(folder).read(&mut bytes), Err(Failed));
+    Ok(())
+}
+
+// A stream that has nothing and takes nothing just now.
+#[derive(Drop)]
+struct Busy;
+
+impl Read for Busy {
+    fn read(&mut self, _into: &mut [u8]) -> io::Result<usize> {
+        Err(io::Error::from(ErrorKind::WouldBlock))
+    }
+}
+
+impl Write for Busy {
+    fn write(&mut self, _from: &[u8]) -> io::Result<usize> {
+        Err(io::Error::from(ErrorKind::WouldBlock))
+    }
+
+    fn flush(&mut self) -> io::Result<()> {
+        Err(io::Error::from(ErrorKind::WouldBlock))
+    }
+}
+
+#[test]
+fn a_stream_that_would_wait_has_failed(rt: HostRuntime) -> Result<(), Fail> {
+    assert_eq!(rt; StdSource::new(Busy).read(&mut [0; 2]), Err(Failed));
+    assert_eq!(rt; StdSink::new(Busy).write(b"x"), Err(Failed));
     Ok(())
 }
