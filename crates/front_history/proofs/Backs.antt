@@ -7,8 +7,8 @@ use Rattle.timeline.specs.Logs.{Fronted, fronted}
 use Rattle.timeline.specs.declared.entry.Body.{Body}
 use Rattle.timeline.specs.declared.entry.Entry.{Entry}
 use Rattle.timeline.specs.declared.notice.Notice.{Notice}
-use Rattle.object_front.specs.Standing.{Stood, IsTakenBy, nothing_logged}
-use Rattle.object_front.specs.declared.half.Half.{Half}
+use Rattle.front_half.specs.Standing.{Stood, IsTakenBy, nothing_logged}
+use Rattle.front_half.specs.declared.half.Half.{Half}
 use Rattle.object_history.specs.Laws.{PairBegins, BackKeepsPair}
 use Rattle.object_history.specs.Pair.{Rear, mounted, IsPair}
 use Rattle.object_history.specs.Stepping.{IsRear, BackSteps, AreGiven}

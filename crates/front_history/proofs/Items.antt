@@ -6,11 +6,11 @@ use Rattle.timeline.specs.Intake.{FitsMode, Taken, noticed, delivered, wanted}
 use Rattle.timeline.specs.declared.event.Event.{Event}
 use Rattle.timeline.specs.declared.event.Event.TheVariants as event
 use Rattle.timeline.specs.declared.notice.Notice.{Notice}
-use Rattle.object_front.proofs.Items.{IsItemOf, takes_none, delivers_it, wants_it, event_item, event_class}
-use Rattle.object_front.specs.Kinds.{is_call}
-use Rattle.object_front.specs.Standing.{Stood, IsClass}
-use Rattle.object_front.specs.Taking.{Led, IsLedBy, fits, sticks_at, on_event, without}
-use Rattle.object_front.specs.Turning.{IsTaken, IsEntered}
+use Rattle.front_half.proofs.Items.{IsItemOf, takes_none, delivers_it, wants_it, event_item, event_class}
+use Rattle.front_half.specs.Kinds.{is_call}
+use Rattle.front_half.specs.Standing.{Stood, IsClass}
+use Rattle.front_half.specs.Taking.{Led, IsLedBy, fits, sticks_at, on_event, without}
+use Rattle.front_half.specs.Turning.{IsTaken, IsEntered}
 use Rattle.object_history.specs.Pair.{IsCall}
 use Rattle.front_history.proofs.Keeping.{TakesOf, no_item, an_item}
 

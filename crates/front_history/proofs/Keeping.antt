@@ -8,7 +8,7 @@ use Rattle.timeline.specs.declared.entry.Body.{Body}
 use Rattle.timeline.specs.declared.entry.Entry.{Entry}
 use Rattle.timeline.specs.declared.event.Event.{Event}
 use Rattle.timeline.specs.declared.notice.Notice.{Notice}
-use Rattle.object_front.proofs.Intakes.{front_after-snoc}
+use Rattle.front_half.proofs.Intakes.{front_after-snoc}
 use Rattle.object_history.specs.Laws.{LogsGrow, FrontKeepsPair}
 use Rattle.object_history.specs.Pair.{Rear, IsPair}
 use Rattle.object_history.specs.Stepping.{IsLogOf, Grows, IsRear, WantsCall, notices_with, said_before}

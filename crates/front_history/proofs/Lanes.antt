@@ -4,9 +4,9 @@ use Rattle.std.proofs.lemmas.List.{append_cancel_left}
 use Rattle.lane.specs.Lanes.{Both, sent_on}
 use Rattle.timeline.specs.declared.entry.Entry.{Entry}
 use Rattle.timeline.specs.declared.notice.Notice.{Notice}
-use Rattle.object_front.proofs.Sent.{sent_more}
-use Rattle.object_front.specs.Sending.{AreSentToo}
-use Rattle.object_front.specs.declared.half.Half.{Half}
+use Rattle.front_half.proofs.Sent.{sent_more}
+use Rattle.front_half.specs.Sending.{AreSentToo}
+use Rattle.front_half.specs.declared.half.Half.{Half}
 use Rattle.front_history.specs.Turns.{AreUnderWay}
 
 -- Behind what was lost of the line, the clauses of a turn give it.

@@ -1,24 +1,27 @@
 -- What each incarnation has said, as the front's log is, begins what it says in all.
-use Rattle.std.proofs.Common.{◌≡◌, ◌∙◌, ap, sym, subst, refl, inl, inr, ℕ, suc, ◌≤◌, List, [], ◌∷◌, ◌++◌, append-nil, append_assoc, length, map, arith}
+use Rattle.std.proofs.Common.{◌≡◌, ◌∙◌, ap, sym, subst, refl, inl, inr, ℕ, zero, suc, ◌≤◌, List, [], ◌∷◌, ◌++◌, append-nil, append_assoc, length, arith}
+use Rattle.std.proofs.lemmas.List.{map-append}
 use Rattle.std.proofs.lemmas.List.Elements.{filter-append}
 use Rattle.std.proofs.lemmas.Grind.{flat_map-append}
-use Rattle.std.specs.Prelude.{◌==◌}
-use Rattle.std.specs.List.{flat_map}
+use Rattle.std.specs.Prelude.{true, ◌==◌}
+use Rattle.std.specs.List.{All, flat_map}
 use Rattle.storage_map.specs.Contents.{Contents}
-use Rattle.timeline.specs.Headline.{AreSaid, IsPrefix, IsSoFar, parts_of}
-use Rattle.timeline.specs.History.{History, entries_of, incarnation_at, incarnations, history}
+use Rattle.timeline.specs.Headline.{AreHalted, AreSaid, IsSoFar, RestsUnmounted, parts_of}
+use Rattle.timeline.specs.History.{History, entries_of, incarnation_at, incarnations, history, said_in}
 use Rattle.timeline.specs.Intake.{Kind, Front, numbered}
-use Rattle.timeline.specs.Logs.{Fronted, fronted}
+use Rattle.timeline.specs.Logs.{Fronted, Backed, fronted}
+use Rattle.timeline.specs.Passed.{is_mounted, is_said_down}
 use Rattle.timeline.specs.Told.{Said, said_by, spoken}
-use Rattle.timeline.specs.declared.back_log.Stop.{Stop}
 use Rattle.timeline.specs.declared.entry.Body.{Body}
 use Rattle.timeline.specs.declared.entry.Entry.{Entry}
 use Rattle.timeline.specs.declared.notice.Notice.{Notice}
-use Rattle.object_front.specs.Standing.{Stood}
-use Rattle.object_front.specs.declared.half.Half.{Half}
+use Rattle.front_half.specs.Standing.{Stood}
+use Rattle.front_half.specs.declared.half.Half.{Half}
+use Rattle.object_history.proofs.Alike.{same_halted}
+use Rattle.object_history.proofs.Entries.{all_front}
 use Rattle.object_history.proofs.OlderFronts.{AreSameTo, entries_other, older_same, said_same}
 use Rattle.object_history.proofs.SaidSoFar.{said_until_now, silent_next}
-use Rattle.object_history.specs.Laws.{TellingTells, PairIsSaid}
+use Rattle.object_history.specs.Laws.{AreSaidSo, TellingTells, PairIsSaid}
 use Rattle.object_history.specs.Pair.{Rear, IsPhase, IsPair}
 use Rattle.object_history.specs.Stepping.{IsRear}
 use Rattle.front_history.specs.Paired.{ArePaired, logged_with}
@@ -40,6 +43,30 @@ first_so_far parts sent unsent so_far =
 none_first : {X : Type 0} (first last : List X) → first ++ last ≡ [] → first ≡ []
 none_first {X} [] last none = refl
 none_first {X} (x ∷ first) last none = absurd (omega (arith, ap (λ (xs : List X). length xs) none))
+
+-- Where a turn has ended an incarnation, whatever of it was sent.
+all_halted : (k : Kind) (opened : Contents) (log : Fronted) (unsent : List Entry) (back : Backed)
+    → AreHalted k.script k.class opened (history (logged_with log unsent) back) → AreHalted k.script k.class opened (history log back)
+all_halted k opened log unsent back halted =
+    same_halted (logged_with log unsent) log back back k.script k.class opened (suc (length back.stops))
+    (λ index less. record { delivered = refl; stop = refl; taken = λ b has. has }) (λ index less. refl) halted
+
+-- And where the newest one isn't mounted.
+same_mounted : (front new : Fronted) (back : Backed) (n : ℕ) → is_mounted (incarnations front back n) ≡ is_mounted (incarnations new back n)
+same_mounted front new back zero = refl
+same_mounted front new back (suc n) = refl
+
+first_rests : (log : Fronted) (unsent : List Entry) (back : Backed) → RestsUnmounted (history (logged_with log unsent) back)
+    → RestsUnmounted (history log back)
+first_rests log unsent back rests none =
+    let n : ℕ = suc (length back.stops) in
+    let down : Body → Type 0 = λ b. is_said_down b ≡ true in
+    let was = rests (same_mounted (logged_with log unsent) log back (length back.stops) ∙ none) in (
+      was.0,
+      all_front down (said_in (entries_of n log.sent)) (said_in (entries_of n unsent))
+          (subst (λ (bodies : List Body). All down bodies)
+          (ap said_in (entries_first n log.sent unsent) ∙ map-append (λ (e : Entry). e.body) (entries_of n log.sent) (entries_of n unsent)) was.1),
+    )
 
 module _ (tells : TellingTells) (k : Kind) (opened : Contents) (f : Front) (log : Fronted) (unsent : List Entry) (number : ℕ) (bodies : List Body)
     (own : unsent ≡ numbered f.incarnation number bodies) (rear : Rear) (line : List Entry) (notices : List Notice)
@@ -102,11 +129,17 @@ module _ (tells : TellingTells) (k : Kind) (opened : Contents) (f : Front) (log 
 
 pub is_said : {T : Type 0} (tells : TellingTells) (pair_said : PairIsSaid) (k : Kind) (opened : Contents) (st : Stood) (half : Half T) (rear : Rear)
     (line : List Entry) (notices : List Notice) → IsRear opened rear → ArePaired k opened st half rear line notices
-    → AreSaid k.script k.class opened (fronted half.log) rear.log (history (fronted half.log) rear.log)
-    × IsPrefix half.log.ends.items (map (λ (stop : Stop). stop.cause) rear.log.stops)
+    → AreSaidSo k opened (fronted half.log) rear.log
 is_said {T} tells pair_said k opened st half rear line notices known paired =
+    let log : Fronted = fronted half.log in
     let entries : List Entry = line ++ paired.unsent in
-    let given : List Notice = paired.missed ++ notices in (
-      all_said tells k opened paired.front (fronted half.log) paired.unsent paired.number paired.bodies paired.own rear entries given paired.pair,
-      (pair_said k opened paired.front (logged_with (fronted half.log) paired.unsent) rear entries given known paired.pair).1,
-    )
+    let given : List Notice = paired.missed ++ notices in
+    let whole : AreSaidSo k opened (logged_with log paired.unsent) rear.log =
+    pair_said k opened paired.front (logged_with log paired.unsent) rear entries given known paired.pair in
+    record {
+      said = all_said tells k opened paired.front log paired.unsent paired.number paired.bodies paired.own rear entries given paired.pair;
+      halted = all_halted k opened log paired.unsent rear.log whole.halted;
+      mounted = whole.mounted;
+      unmounted = first_rests log paired.unsent rear.log whole.unmounted;
+      ends = whole.ends;
+    }

@@ -11,10 +11,10 @@ use Rattle.timeline.specs.declared.entry.Entry.{Entry}
 use Rattle.timeline.specs.declared.event.Event.{Event}
 use Rattle.timeline.specs.declared.notice.Notice.{Notice}
 use Rattle.front_turns.specs.Paused.{Paused}
-use Rattle.object_front.specs.Standing.{Stood, IsClass, IsTakenBy, IsCutShort, kind_in, is_stopped}
-use Rattle.object_front.specs.Taking.{Led}
-use Rattle.object_front.specs.Turning.{Lanes, IsStill, IsTaken, Turns, Halts}
-use Rattle.object_front.specs.declared.half.Half.{Half}
+use Rattle.front_half.specs.Standing.{Stood, IsClass, IsTakenBy, IsCutShort, kind_in, is_stopped}
+use Rattle.front_half.specs.Taking.{Led}
+use Rattle.front_half.specs.Turning.{Lanes, IsStill, IsTaken, Turns, Halts}
+use Rattle.front_half.specs.declared.half.Half.{Half}
 use Rattle.object_history.specs.Laws.{LogsGrow, FrontKeepsPair, NoticesFit}
 use Rattle.object_history.specs.Pair.{Rear, IsPair}
 use Rattle.object_history.specs.Stepping.{IsLogOf, IsRear, notices_with}

@@ -10,8 +10,8 @@ use Rattle.timeline.specs.Logs.{Fronted, fronted}
 use Rattle.timeline.specs.Told.{spoken, spoken_in}
 use Rattle.timeline.specs.declared.entry.Entry.{Entry}
 use Rattle.timeline.specs.declared.notice.Notice.{Notice}
-use Rattle.object_front.specs.Standing.{Stood, is_stopped}
-use Rattle.object_front.specs.declared.half.Half.{Half}
+use Rattle.front_half.specs.Standing.{Stood, is_stopped}
+use Rattle.front_half.specs.declared.half.Half.{Half}
 use Rattle.object_history.proofs.Whole.{pair_begins_so, pair_is_whole}
 use Rattle.object_history.specs.Laws.{TellingTells}
 use Rattle.object_history.specs.Pair.{Rear, IsPair}

@@ -7,8 +7,8 @@ use Rattle.timeline.specs.Logs.{Fronted, fronted}
 use Rattle.timeline.specs.declared.entry.Body.{Body}
 use Rattle.timeline.specs.declared.entry.Entry.{Entry}
 use Rattle.timeline.specs.declared.notice.Notice.{Notice}
-use Rattle.object_front.specs.Standing.{Stood, IsTakenBy, is_stopped}
-use Rattle.object_front.specs.declared.half.Half.{Half}
+use Rattle.front_half.specs.Standing.{Stood, IsTakenBy, is_stopped}
+use Rattle.front_half.specs.declared.half.Half.{Half}
 use Rattle.object_history.specs.Pair.{IsPair, Rear}
 
 -- A front's log with what it would have sent behind it, had memory sufficed.

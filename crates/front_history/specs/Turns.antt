@@ -1,25 +1,25 @@
 -- What the steps of either half leave of a front that is paired with its back: laws, each proved by a function of `laws`.
-use Rattle.std.specs.Prelude.{◌≡◌, ℕ, suc, false, List, [], ◌++◌, map}
+use Rattle.std.specs.Prelude.{◌≡◌, ℕ, suc, false, List, [], ◌++◌}
 use Rattle.std.specs.List.{flat_map}
 use Rattle.do_tree.specs.Tree.{Script}
 use Rattle.storage_map.specs.Contents.{Contents}
-use Rattle.timeline.specs.Headline.{AreSaid, IsPrefix, parts_of}
-use Rattle.timeline.specs.History.{history, incarnation_at, incarnations, resets}
+use Rattle.timeline.specs.Headline.{IsPrefix, parts_of}
+use Rattle.timeline.specs.History.{incarnation_at, incarnations, resets}
 use Rattle.timeline.specs.Intake as intake
 use Rattle.timeline.specs.Intake.{Kind}
 use Rattle.timeline.specs.Laws.{IsAtRest}
 use Rattle.timeline.specs.Logs.{fronted}
 use Rattle.timeline.specs.Told.{spoken, spoken_in}
-use Rattle.timeline.specs.declared.back_log.Stop.{Stop}
 use Rattle.timeline.specs.declared.entry.Entry.{Entry}
 use Rattle.timeline.specs.declared.event.Event.{Event}
 use Rattle.timeline.specs.declared.notice.Notice.{Notice}
 use Rattle.object_front.specs.Evaluated.{seen}
-use Rattle.object_front.specs.Standing.{Stood, IsClass, kind_in, is_stopped, nothing_logged}
-use Rattle.object_front.specs.Taking.{Led}
-use Rattle.object_front.specs.Turning.{Lanes, IsStill, IsTaken, Turns, Halts}
+use Rattle.front_half.specs.Standing.{Stood, IsClass, kind_in, is_stopped, nothing_logged}
+use Rattle.front_half.specs.Taking.{Led}
+use Rattle.front_half.specs.Turning.{Lanes, IsStill, IsTaken, Turns, Halts}
 use Rattle.object_front.specs.declared.evaluated.Evaluated.{Evaluated}
-use Rattle.object_front.specs.declared.half.Half.{Half}
+use Rattle.front_half.specs.declared.half.Half.{Half}
+use Rattle.object_history.specs.Laws.{AreSaidSo}
 use Rattle.object_history.specs.Pair.{Rear, mounted}
 use Rattle.object_history.specs.Stepping.{IsRear, BackSteps, AreGiven}
 use Rattle.front_history.specs.Paired.{ArePaired}
@@ -66,12 +66,10 @@ BackStepsKeep = (k : Kind) (opened : Contents) (st : Stood) (half : Half Evaluat
     (told given notices : List Notice) → IsRear opened rear → IsRear opened later → BackSteps rear later got told → AreGiven told given
     → ArePaired k opened st half rear (got ++ line) notices → ArePaired k opened st half later line (notices ++ given)
 
--- What each incarnation has said, as the logs are, begins what it says in all, and the front knows the causes of the first ends.
+-- What the logs show of their incarnations, as they are.
 abbrev pub HalvesAreSaid : Type 0
 HalvesAreSaid = (k : Kind) (opened : Contents) (st : Stood) (half : Half Evaluated) (rear : Rear) (line : List Entry) (notices : List Notice)
-    → IsRear opened rear → ArePaired k opened st half rear line notices
-    → AreSaid k.script k.class opened (fronted half.log) rear.log (history (fronted half.log) rear.log)
-    × IsPrefix half.log.ends.items (map (λ (stop : Stop). stop.cause) rear.log.stops)
+    → IsRear opened rear → ArePaired k opened st half rear line notices → AreSaidSo k opened (fronted half.log) rear.log
 
 -- Of a front that goes on: what its incarnation has said begins with the failures of the calls that the one before left unanswered, and
 -- where it waits for no notice it is all that it says.

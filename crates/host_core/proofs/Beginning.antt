@@ -9,7 +9,7 @@ use Rattle.do_disk.specs.Disk.{next_count}
 use Rattle.do_tree.specs.Lookup.{class_named}
 use Rattle.do_tree.specs.Tree.{Class, Script}
 use Rattle.storage_map.specs.Limits.{Object}
-use Rattle.object_front.proofs.Fitted.{named}
+use Rattle.front_half.proofs.Fitted.{named}
 use Rattle.output_gate.specs.Logs.{IsFresh}
 use Rattle.output_gate.specs.Serving.{IsBack}
 use Rattle.object_core.specs.One.{AreFresh, class_in}

@@ -15,7 +15,7 @@ use Rattle.mailbox.specs.Seen.{seen_body, seen_line, seen_log}
 use Rattle.mailbox.specs.declared.switch_log.SwitchLog.{SwitchLog as SeenSwitchLog}
 use Rattle.object_core.specs.Dropping.{AreFitting}
 use Rattle.object_core.specs.One.{HasItsClass, class_in}
-use Rattle.object_front.specs.Taking.{class_after}
+use Rattle.front_half.specs.Taking.{class_after}
 use Rattle.placement.specs.Slots.{Slots, object_at}
 use Rattle.storage_map.specs.Limits.{Object}
 use Rattle.switch_history.specs.Laws.{PostsFit}

@@ -22,6 +22,7 @@ pub mod Quiet
 pub mod Untouched
 pub mod Settled
 pub mod Remaining
+pub mod Silent
 pub mod Rows
 pub mod InOrder
 pub mod Dropped

@@ -9,7 +9,7 @@ use Rattle.batch_journal.specs.Moments.{IsTold}
 use Rattle.do_tree.specs.Tree.{Script}
 use Rattle.lane.specs.Lanes.{Both, sent_on}
 use Rattle.mailbox.specs.Posting.{of_slot}
-use Rattle.object_core.specs.Classless.{OneWithoutClass}
+use Rattle.object_core.specs.Classless.{HasDoneNothing, OneWithoutClass}
 use Rattle.object_core.specs.Dropping.{AreFitting}
 use Rattle.object_core.specs.Drops.{DropsOnly, OneDrops}
 use Rattle.object_core.specs.Laws.{HasIntake, OneHasClass, OneHasGot, OneHasIntake, OneHasLeft, OneHasTold, OneIsHistory, OneIsLimited}
@@ -24,10 +24,10 @@ use Rattle.object_core.specs.declared.object.Core.{Core}
 use Rattle.object_front.specs.Came.{AreCome, kept}
 use Rattle.object_front.specs.Classed.{class_by}
 use Rattle.object_front.specs.Evaluated.{seen}
-use Rattle.object_front.specs.Standing.{IsClass, IsHalf, Stood, is_stopped}
-use Rattle.object_front.specs.Turning.{CanTurn}
+use Rattle.front_half.specs.Standing.{IsClass, IsHalf, Stood, is_stopped}
+use Rattle.front_half.specs.Turning.{CanTurn}
 use Rattle.object_front.specs.declared.evaluated.Evaluated.{Evaluated}
-use Rattle.object_front.specs.declared.half.Half.{Half}
+use Rattle.front_half.specs.declared.half.Half.{Half}
 use Rattle.output_gate.specs.Storing.{IsDiskOf}
 use Rattle.output_gate.specs.Telling.{HasTold, opened_map}
 use Rattle.placement.specs.Slots.{Slots, object_at}
@@ -45,10 +45,11 @@ use Rattle.timeline.specs.declared.notice.Waits.{Waits}
 pub use Rattle.host_core.proofs.Found.{item_at}
 use Rattle.host_core.proofs.Pushed.{before_push, next_at, push_before, push_last, push_within}
 use Rattle.host_core.proofs.Remaining.{AreLeftBy}
+use Rattle.host_core.proofs.Silent.{recovers_as_opened, silent_history, silent_intake}
 use Rattle.host_core.specs.Closing.{AreSettledUnless, IsLetGoOf, IsRowOf, IsSettledOf}
 use Rattle.host_core.specs.Objects.{ObjectsTell, AreGoing, AreResting, AreRouted, AreSlots, CanAllRun}
 use Rattle.host_core.specs.Quiet.{AreLetGo, IsOfNoClass, RowsTell, remaining_of}
-use Rattle.host_core.specs.Rows.{AreRows, AreServed, IsObjectIn}
+use Rattle.host_core.specs.Rows.{AreRows, AreServed, IsObjectIn, RecoversAsOpened}
 use Rattle.host_core.specs.Slots.{IsSlot}
 use Rattle.host_core.specs.declared.objects.Objects.{Objects}
 use Rattle.host_core.specs.declared.report.SlotReport.{SlotReport}
@@ -96,9 +97,10 @@ module _ {D : Type 0} (moment_of : D → ℕ) (left_since : D → ℕ → List �
     object_in =
         ⊎_elim (λ same. inl (identity_is ∙ same ∙ slot.begun.object))
         (λ bound. inr (
-          bound.0,
-          identity_is ∙ bound.1,
-          subst (λ (log : Backed). Contains (map (λ (e : Entry). e.body) log.taken) (body.Bind bound.0)) (sym back_is) bound.2,
+          sym slot.begun.object ∙ bound.0,
+          bound.1,
+          identity_is ∙ bound.2,
+          subst (λ (log : Backed). Contains (map (λ (e : Entry). e.body) log.taken) (body.Bind bound.1)) (sym back_is) bound.3,
         ))
         (class script slot.origin slot.one).named
 
@@ -108,16 +110,25 @@ module _ {D : Type 0} (moment_of : D → ℕ) (left_since : D → ℕ → List �
         (subst (λ (log : Fronted). class_by script (class_in script slot.origin.object) log ≡ Some c) front_is
         (subst (λ (o : Option Object). class_by script (class_in script o) (fronted row.front) ≡ Some c) (sym slot.begun.object) is)))
 
-    history_in : IsTold (told row.store) → (c : ℕ) → class_by script (class_in script named) (fronted row.front) ≡ Some c
+    done_nothing : IsTold (told row.store) → class_by script (class_in script named) (fronted row.front) ≡ None
+        → HasDoneNothing (fronted row.front) (backed row.back)
+    done_nothing is_told none =
+        subst (λ (log : Backed). HasDoneNothing (fronted row.front) log) (sym back_is)
+        (subst (λ (log : Fronted). HasDoneNothing log (backed core.back.log)) (sym front_is)
+        ((classless script slot.origin (row.store, store_is, is_told) slot.one).unbound
+        (subst (λ (log : Fronted). class_by script (class_in script slot.origin.object) log ≡ None) front_is
+        (subst (λ (o : Option Object). class_by script (class_in script o) (fronted row.front) ≡ None) (sym slot.begun.object) none))))
+
+    known_history : IsTold (told row.store) → (c : ℕ) → class_by script (class_in script named) (fronted row.front) ≡ Some c
         → IsHistory script c (opened_map slot.origin.start) (fronted row.front) (backed row.back)
-    history_in is_told c is =
+    known_history is_told c is =
         subst (λ (log : Backed). IsHistory script c (opened_map slot.origin.start) (fronted row.front) log) (sym back_is)
         (subst (λ (log : Fronted). IsHistory script c (opened_map slot.origin.start) log (backed core.back.log)) (sym front_is)
         (history script slot.origin (row.store, store_is, is_told) slot.one c (class_of c is)))
 
-    intake_in : IsTold (told row.store) → (c : ℕ) → class_by script (class_in script named) (fronted row.front) ≡ Some c
+    known_intake : IsTold (told row.store) → (c : ℕ) → class_by script (class_in script named) (fronted row.front) ≡ Some c
         → HasIntake script c (opened_map slot.origin.start) (fronted row.front)
-    intake_in is_told c is =
+    known_intake is_told c is =
         subst (λ (log : Fronted). HasIntake script c (opened_map slot.origin.start) log) (sym front_is)
         (intake script slot.origin (row.store, store_is, is_told) slot.one c (class_of c is))
 
@@ -128,6 +139,28 @@ module _ {D : Type 0} (moment_of : D → ℕ) (left_since : D → ℕ → List �
         (subst (λ (log : Backed). HasTold moment_of left_since faults_of core.back.identity slot.origin.start slot.origin.opening (fronted row.front) row.store log) (sym back_is)
         (subst (λ (log : Fronted). HasTold moment_of left_since faults_of core.back.identity slot.origin.start slot.origin.opening log row.store (backed core.back.log)) (sym front_is)
         (tells script slot.origin row.store store_is is_told slot.one)))
+
+    history_in : IsTold (told row.store) → (c : ℕ) → IsClass (class_by script (class_in script named) (fronted row.front)) c
+        → IsHistory script c (opened_map slot.origin.start) (fronted row.front) (backed row.back)
+    history_in is_told c = by_class (class_by script (class_in script named) (fronted row.front)) refl
+      where
+        by_class : (x : Option ℕ) → class_by script (class_in script named) (fronted row.front) ≡ x → IsClass x c
+            → IsHistory script c (opened_map slot.origin.start) (fronted row.front) (backed row.back)
+        by_class None none is = silent_history script c (opened_map slot.origin.start) (fronted row.front) (backed row.back) (done_nothing is_told none) (tells_in is_told).kept (tells_in is_told).followed
+        by_class (Some class) some is = known_history is_told c (some ∙ ap Some is)
+
+    intake_in : IsTold (told row.store) → (c : ℕ) → IsClass (class_by script (class_in script named) (fronted row.front)) c
+        → HasIntake script c (opened_map slot.origin.start) (fronted row.front)
+    intake_in is_told c = by_class (class_by script (class_in script named) (fronted row.front)) refl
+      where
+        by_class : (x : Option ℕ) → class_by script (class_in script named) (fronted row.front) ≡ x → IsClass x c
+            → HasIntake script c (opened_map slot.origin.start) (fronted row.front)
+        by_class None none is = silent_intake script c (opened_map slot.origin.start) (fronted row.front) (done_nothing is_told none).said
+        by_class (Some class) some is = known_intake is_told c (some ∙ ap Some is)
+
+    unwritten_in : IsTold (told row.store) → (backed row.back).taken ≡ [] → RecoversAsOpened left_since slot.origin row
+    unwritten_in is_told none = λ c left_then.
+        recovers_as_opened row.identity slot.origin.start (fronted row.front) (backed row.back) none c ((tells_in is_told).images c left_then)
 
     served_in : AreServed posts row
     served_in =
@@ -181,7 +214,7 @@ module _ {D : Type 0} (moment_of : D → ℕ) (left_since : D → ℕ → List �
         let first = served_in.first in
         let own : AreAnswers core.inbox.got = first_answers core.inbox.got first.0 (subst AreAnswers first.1 alone) in
         let nothing : messages_of (fronted core.front.half.log).sent ≡ [] =
-        (classless script slot.origin (row.store, store_is, is_told) slot.one (ap (class_in script) slot.begun.object ∙ unknown.1)).0 own in
+        (classless script slot.origin (row.store, store_is, is_told) slot.one).asks (ap (class_in script) slot.begun.object ∙ unknown.1) own in
         none_contained (asked_in (messages row.back.released.items))
         (λ asked has. none_there asked
         (subst (λ (ms : List Message). Contains (asked_in ms) asked) (ap (λ (log : Fronted). messages_of log.sent) front_is ∙ nothing) ((owed_in is_told).asked asked has)))
@@ -193,7 +226,9 @@ module _ {D : Type 0} (moment_of : D → ℕ) (left_since : D → ℕ → List �
     object = object_in limit script content named posts routed inbox out slot;
     history = history_in limit script content named posts routed inbox out slot;
     intake = intake_in limit script content named posts routed inbox out slot;
+    unbound = done_nothing limit script content named posts routed inbox out slot;
     tells = tells_in limit script content named posts routed inbox out slot;
+    unwritten = unwritten_in limit script content named posts routed inbox out slot;
     served = served_in limit script content named posts routed inbox out slot;
     routes = routes_in limit script content named posts routed inbox out slot;
     owed = owed_in limit script content named posts routed inbox out slot;

@@ -19,8 +19,8 @@ use Rattle.object_core.specs.declared.object.Core.{Core}
 use Rattle.object_front.specs.Came.{AreCome, kept}
 use Rattle.object_front.specs.Classed.{class_by}
 use Rattle.object_front.specs.Evaluated.{seen}
-use Rattle.object_front.specs.Remaining.{left_at}
-use Rattle.object_front.specs.Standing.{IsClass, IsHalf}
+use Rattle.front_half.specs.Remaining.{left_at}
+use Rattle.front_half.specs.Standing.{IsClass, IsHalf}
 use Rattle.object_messages.specs.Exact.{IsServedOnce, callers}
 use Rattle.object_messages.specs.Naming.{answered_by, answered_in, asked_in, called_in, messages_of, replied_in}
 use Rattle.output_gate.specs.Storing.{IsDiskOf}

@@ -11,9 +11,9 @@ use Rattle.object_core.specs.One.{TellsNow, class_in}
 use Rattle.object_core.specs.declared.object.Core.{Core}
 use Rattle.object_front.specs.Came.{events, kept}
 use Rattle.object_front.specs.Classed.{class_behind}
-use Rattle.object_front.specs.Remaining.{left_at}
-use Rattle.object_front.specs.Standing.{Stood, fresh}
-use Rattle.object_front.specs.Taking.{waits}
+use Rattle.front_half.specs.Remaining.{left_at}
+use Rattle.front_half.specs.Standing.{Stood, fresh}
+use Rattle.front_half.specs.Taking.{waits}
 use Rattle.output_gate.specs.Storing.{IsDiskOf}
 use Rattle.storage_map.specs.Limits.{Object}
 use Rattle.timeline.specs.Logs.{Backed, Fronted, backed, fronted}
@@ -54,7 +54,7 @@ module _ {D : Type 0} (moment_of : D → ℕ) (left_since : D → ℕ → List �
 
     is_unmoved : IsUnmoved (fronted core.front.half.log) (backed core.back.log) (sent_on core.out) (kept going.one.st) (left_at script going.one.st)
     is_unmoved =
-        (classless script going.origin tells going.one no_class).1 got_none resting.settled.front_goes (nothing_to_do script core resting.settled) going.begun.left
+        (classless script going.origin tells going.one).rests no_class got_none resting.settled.front_goes (nothing_to_do script core resting.settled) going.begun.left
 
     -- it stands as it was made
     is_fresh : going.one.st ≡ fresh None going.one.alarm
@@ -79,6 +79,8 @@ module _ {D : Type 0} (moment_of : D → ℕ) (left_since : D → ℕ → List �
       delivered = ap (λ (log : Fronted). log.delivered) front_is ∙ is_unmoved.delivered;
       downed = ap (λ (log : Fronted). log.downed) front_is ∙ is_unmoved.downed;
       dropped = ap (λ (log : Fronted). log.dropped) front_is ∙ is_unmoved.dropped;
+      sent = ap (λ (log : Fronted). log.sent) front_is ∙ is_unmoved.sent;
+      taken = ap (λ (log : Backed). log.taken) back_is ∙ is_unmoved.taken;
       let_go = lets_go;
       left = is_left script going.one.st (going.one.front_stands resting.settled.front_goes) rests ∙ is_unmoved.left;
     }

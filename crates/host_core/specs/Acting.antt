@@ -7,7 +7,7 @@ use Rattle.object_core.specs.Stepping.{HasNothing, IsHalted, given_by}
 use Rattle.object_core.specs.declared.choice.Choice.{Choice}
 use Rattle.object_core.specs.declared.choice.Choice.TheVariants.{Turn, Take, Flush, Release, Mend}
 use Rattle.object_core.specs.declared.object.Core.{Core}
-use Rattle.object_front.specs.Standing as front
+use Rattle.front_half.specs.Standing as front
 use Rattle.output_gate.specs.Serving as back
 
 -- It is given nothing, nothing is collected of it, and messages that leave stand behind the others.

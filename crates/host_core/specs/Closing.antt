@@ -6,11 +6,11 @@ use Rattle.do_value.specs.declared.fault.NoMemory.{NoMemory}
 use Rattle.lane.specs.Lanes.{Both}
 use Rattle.mailbox.specs.Posting.{of_slot}
 use Rattle.object_front.specs.Evaluated.{seen}
-use Rattle.object_front.specs.Remaining.{left_at}
-use Rattle.object_front.specs.Standing.{Stood, IsHalf}
-use Rattle.object_front.specs.Taking.{waits}
+use Rattle.front_half.specs.Remaining.{left_at}
+use Rattle.front_half.specs.Standing.{Stood, IsHalf}
+use Rattle.front_half.specs.Taking.{waits}
 use Rattle.object_front.specs.declared.evaluated.Evaluated.{Evaluated}
-use Rattle.object_front.specs.declared.half.Half.{Half}
+use Rattle.front_half.specs.declared.half.Half.{Half}
 use Rattle.placement.specs.Slots.{Slots, object_at}
 use Rattle.storage_map.specs.Limits.{Object}
 use Rattle.timeline.specs.Logs.{fronted}

@@ -16,3 +16,4 @@ pub mod Finishing
 pub mod Complete
 pub mod Report
 pub mod Resuming
+pub mod RowExamples

@@ -11,7 +11,7 @@ use Rattle.object_core.specs.Leaving.{left_of}
 use Rattle.object_core.specs.One.{HasItsClass, Origin, class_in, messages}
 use Rattle.object_front.specs.Came.{AreCome, IsPartOf, events}
 use Rattle.object_front.specs.Classed.{class_by}
-use Rattle.object_front.specs.Standing.{IsClass}
+use Rattle.front_half.specs.Standing.{IsClass}
 use Rattle.object_messages.specs.Exact.{IsServedOnce, callers}
 use Rattle.object_messages.specs.Naming.{answered_in, asked_in, called_in, replied_in, times, times_of}
 use Rattle.output_gate.specs.Telling.{opened_map}
@@ -76,13 +76,15 @@ pub record IsSettled {S : Type 0} (limit : ℕ) (script : Script) (content : Opt
   -- where it dropped no call, who called once got one reply or is left
   pub once : called_in (fronted row.front).dropped ≡ [] → IsServedOnce (called_in posts) (replied_in routed) (callers remaining)
 
--- A slot with an object of no class of the script rests as it was at the opening: nothing was posted to it, and its object got nothing, has let go
--- all that passes, and leaves nothing.
+-- A slot with an object of no class of the script rests as it was at the opening: nothing was posted to it, and its object got nothing, has said
+-- nothing, so that nothing of it was taken, has let go all that passes, and leaves nothing.
 pub record IsUntouched {S : Type 0} (posts : List Event) (routed : List Message) (remaining : List (Caller × Waits)) (row : SlotReport S) : Type 0 where
   pub posted : posts ≡ []
   pub delivered : (fronted row.front).delivered ≡ []
   pub downed : (fronted row.front).downed ≡ []
   pub dropped : (fronted row.front).dropped ≡ []
+  pub sent : (fronted row.front).sent ≡ []
+  pub taken : (backed row.back).taken ≡ []
   pub let_go : HasLetGo (fronted row.front) (backed row.back) routed
   pub left : remaining ≡ []
 

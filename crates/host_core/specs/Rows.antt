@@ -1,10 +1,11 @@
 -- What the rows of a report tell.
-use Rattle.std.specs.Prelude.{◌≡◌, ◌⊎◌, ◌≤◌, ℕ, List, [], length, map, slice_get, Option, Some}
+use Rattle.std.specs.Prelude.{◌≡◌, ◌⊎◌, ◌≤◌, ℕ, List, [], length, map, slice_get, Option, Some, None}
 use Rattle.std.specs.List.{Contains}
 use Rattle.batch_journal.specs.Moments.{IsTold}
 use Rattle.do_tree.specs.Tree.{Script}
 use Rattle.lane.specs.Lanes.{StartsWith}
 use Rattle.mailbox.specs.Posting.{of_slot}
+use Rattle.object_core.specs.Classless.{HasDoneNothing}
 use Rattle.object_core.specs.Dropping.{AreFitting}
 use Rattle.object_core.specs.Drops.{DropsOnly}
 use Rattle.object_core.specs.Laws.{HasIntake}
@@ -13,9 +14,11 @@ use Rattle.object_core.specs.One.{Origin, class_in, messages}
 use Rattle.object_core.specs.Owing.{IsOwed}
 use Rattle.object_front.specs.Came.{AreCome}
 use Rattle.object_front.specs.Classed.{class_by}
+use Rattle.front_half.specs.Standing.{IsClass}
 use Rattle.object_messages.specs.Naming.{asked_in}
 use Rattle.object_messages.specs.Ends.{TellNoEnd}
 use Rattle.object_messages.specs.Unmoved.{AreAnswers}
+use Rattle.output_gate.specs.Kept.{RecoversTo}
 use Rattle.output_gate.specs.Telling.{HasTold, opened_map}
 use Rattle.placement.specs.Slots.{Slots, object_at}
 use Rattle.storage_map.specs.Limits.{Object}
@@ -31,10 +34,10 @@ use Rattle.host_core.specs.Quiet.{IsOfNoClass}
 use Rattle.host_core.specs.Slots.{IsBegun}
 use Rattle.host_core.specs.declared.report.SlotReport.{SlotReport}
 
--- The row's object is the one that the slot had at the opening, or one that was bound since.
+-- The row's object is the one that the slot had at the opening, or, where it had none, one that was bound since.
 abbrev pub IsObjectIn : {S : Type 0} → Option Object → SlotReport S → Type 0
 IsObjectIn named row = (row.identity ≡ named)
-    ⊎ ((bound : Object) × (row.identity ≡ Some bound) × Contains (map (λ (e : Entry). e.body) row.back.taken.items) (body.Bind bound))
+    ⊎ ((named ≡ None) × (bound : Object) × (row.identity ≡ Some bound) × Contains (map (λ (e : Entry). e.body) row.back.taken.items) (body.Bind bound))
 
 -- What was posted to the slot: the object got the first of it. Of what it got each event was delivered, answered by `Down`, dropped or kept,
 -- each once, and at most one was lost to it; and calls were delivered in the order in which they were posted.
@@ -46,23 +49,32 @@ pub record AreServed {S : Type 0} (posts : List Event) (row : SlotReport S) : Ty
   pub few : length lost ≤ 1
   pub come : AreCome got (fronted row.front) keeps lost
 
+-- What a crash leaves of a row's store, now or at any moment since the opening, recovers to what it recovered to at the opening.
+abbrev pub RecoversAsOpened : {S : Type 0} (left_since : S → ℕ → List ℕ → Type 0) → Origin → SlotReport S → Type 0
+RecoversAsOpened left_since origin row = (c : List ℕ) → left_since row.store origin.opening c → RecoversTo row.identity origin.start c
+
 -- What one row tells of its slot, whose file had this content, to which these events were posted, and from which these messages were routed.
 -- While its disk tells its content: what the object said is what its script tells over the delivered events, each incarnation over the map
--- with which it starts, and events were delivered through the input gate; what a crash leaves, now or at any moment since the opening,
--- recovers to a prefix of its whole batches, which since a release holds what the release needs; nobody was replied to more often than he
+-- with which it starts, and events were delivered through the input gate; as long as none of the delivered events gave it a class, it has done
+-- nothing; what a crash leaves, now or at any moment since the opening, recovers to a prefix of its whole batches, which since a release
+-- holds what the release needs, and where nothing was taken to what it recovered to at the opening; nobody was replied to more often than he
 -- called, and each call and fetch that left was sent; where no incarnation has stopped, no message that left tells of an end; where
--- what was posted fits, no call and no binding of it was dropped; and an object of no class of the script, to which nothing but answers was posted, asked nothing. Over any disk: an end by a full journal names this number of bytes, and came only where the frame would have passed it.
+-- what was posted fits, no call and no binding of it was dropped; and an object of no class of the script, to which nothing but answers was
+-- posted, asked nothing. Over any disk: an end by a full journal names this number of bytes, and tells more than these.
 pub record IsRow {S : Type 0} (moment_of : S → ℕ) (left_since : S → ℕ → List ℕ → Type 0) (told : S → Option (List ℕ)) (faults_of : S → ℕ)
     (limit : ℕ) (script : Script) (content : Option (List ℕ)) (named : Option Object) (posts : List Event) (routed : List Message) (row : SlotReport S) : Type 0 where
   pub origin : Origin
   pub begun : IsBegun limit content named origin
   pub object : IsObjectIn named row
-  pub history : IsTold (told row.store) → (class : ℕ) → class_by script (class_in script named) (fronted row.front) ≡ Some class
+  pub history : IsTold (told row.store) → (class : ℕ) → IsClass (class_by script (class_in script named) (fronted row.front)) class
       → IsHistory script class (opened_map origin.start) (fronted row.front) (backed row.back)
-  pub intake : IsTold (told row.store) → (class : ℕ) → class_by script (class_in script named) (fronted row.front) ≡ Some class
+  pub intake : IsTold (told row.store) → (class : ℕ) → IsClass (class_by script (class_in script named) (fronted row.front)) class
       → HasIntake script class (opened_map origin.start) (fronted row.front)
+  pub unbound : IsTold (told row.store) → class_by script (class_in script named) (fronted row.front) ≡ None
+      → HasDoneNothing (fronted row.front) (backed row.back)
   pub tells : IsTold (told row.store)
       → HasTold moment_of left_since faults_of row.identity origin.start origin.opening (fronted row.front) row.store (backed row.back)
+  pub unwritten : IsTold (told row.store) → (backed row.back).taken ≡ [] → RecoversAsOpened left_since origin row
   pub served : AreServed posts row
   pub routes : IsPrefix routed (messages row.back.released.items)
   pub owed : IsTold (told row.store) → IsOwed (fronted row.front) (messages row.back.released.items)

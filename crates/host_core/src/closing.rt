@@ -8,7 +8,7 @@ ghost use Rattle.placement.specs.Slots.{Slots};
 ghost use Rattle.batch_journal.specs.Moments.{IsTold};
 ghost use Rattle.object_core.specs.One.{CanRun, TellsNow};
 ghost use Rattle.object_front.specs.Evaluated.{seen};
-ghost use Rattle.object_front.specs.Turning.{CanTurn};
+ghost use Rattle.front_half.specs.Turning.{CanTurn};
 ghost use Rattle.output_gate.specs.Serving.{CanServe};
 ghost use Rattle.output_gate.specs.Storing.{IsDiskOf};
 ghost use Rattle.timeline.specs.Logs.{backed, fronted};

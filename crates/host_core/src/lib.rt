@@ -9,6 +9,7 @@ mod objects;
 mod opening;
 mod report;
 mod room;
+pub mod row_examples;
 mod serving;
 mod settings;
 mod settling;

@@ -6,7 +6,7 @@ use do_disk::{Fails, MemDepot, MemDisk, MemSink, MemSource};
 use serde_json::Value as Json;
 use std::alloc::Global;
 use std::test::Fail;
-use test_rows::{PUT_AND_READ, named};
+use test_rows::{PUT_AND_READ, Telling, named};
 
 // The number of a call that doesn't come.
 const NEVER: u64 = 0xffff_ffff_ffff_ffff;
@@ -134,21 +134,17 @@ fn add_piece(alloc: Global, input: &mut Vec<u8>, piece: &Json) -> Result<(), Fai
 const MOST: usize = 1024;
 
 /// Adds the bytes of a text to the line, each LF as a mark.
-pub(crate) fn tell_bytes(line: &mut String, bytes: &[u8]) -> Result<(), Fail> {
+pub(crate) fn tell_bytes(line: &mut Telling, bytes: &[u8]) {
     if bytes.len() > MOST {
-        let told = format!(in *line.allocator(); "({} bytes)", bytes.len())?;
-        line.push_str(told.as_str())?;
-        return Ok(());
+        return line.tell(format!(in line.alloc(); "({} bytes)", bytes.len()));
     }
     for byte in bytes {
-        let shown = if *byte == b'\n' { '⏎' } else { *byte as char };
-        line.push(shown)?;
+        line.letter(if *byte == b'\n' { '⏎' } else { *byte as char });
     }
-    Ok(())
 }
 
 /// Adds the lines of a text to the line, sorted, each with a mark behind it.
-pub(crate) fn tell_sorted(alloc: Global, line: &mut String, bytes: &[u8]) -> Result<(), Fail> {
+pub(crate) fn tell_sorted(alloc: Global, line: &mut Telling, bytes: &[u8]) -> Result<(), Fail> {
     let text = String::from_utf8(bytes.to_vec(alloc)?).unwrap_or(String::new(alloc));
     let mut lines = Vec::new(alloc);
     for each in text.lines() {
@@ -156,8 +152,8 @@ pub(crate) fn tell_sorted(alloc: Global, line: &mut String, bytes: &[u8]) -> Res
     }
     lines.sort()?;
     for each in lines {
-        line.push_str(each)?;
-        line.push('⏎')?;
+        line.say(each);
+        line.letter('⏎');
     }
     Ok(())
 }

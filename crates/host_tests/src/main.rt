@@ -13,7 +13,7 @@ use std::alloc::Global;
 use std::sync::Wait;
 use std::test::Fail;
 use std::thread::Threads;
-use test_rows::{row_of, word};
+use test_rows::{Telling, row_of, word};
 
 // What answers the cases behind it.
 #[derive(Drop)]
@@ -52,13 +52,14 @@ fn answer_host<T: Threads + Wait + Copy + Send + Sync>(
     runs: &mut Runs,
     row: &Json,
 ) -> Result<String, Fail> {
-    let mut line = String::new(alloc);
-    match word(row, 0) {
-        "lines" => requests::answer(alloc, row, &mut line)?,
-        "print" => requests::answer_print(alloc, row, &mut line)?,
-        _ => runs::answer(rt, alloc, runs, row, &mut line)?,
-    }
-    Ok(line)
+    let mut line = Telling::new(alloc);
+    let answered = match word(row, 0) {
+        "lines" => requests::answer(alloc, row, &mut line),
+        "print" => requests::answer_print(alloc, row, &mut line),
+        _ => runs::answer(rt, alloc, runs, row, &mut line),
+    };
+    answered?;
+    line.into_text()
 }
 
 fn answer<T: Threads + Wait + Copy + Send + Sync>(

@@ -5,7 +5,7 @@ use line_server::{LineFault, Lines, OutLine, Refusal, Request, print, put};
 use serde_json::Value as Json;
 use std::alloc::Global;
 use std::test::Fail;
-use test_rows::{number, value};
+use test_rows::{Telling, number, value};
 
 // The word of a request, or why it is refused.
 fn word_of(body: &Result<Request, Refusal>) -> &'static str {
@@ -22,24 +22,27 @@ fn word_of(body: &Result<Request, Refusal>) -> &'static str {
 }
 
 // Tells the next line, or the end: whether there may be one more.
-fn tell_next(alloc: Global, lines: &mut Lines<MemSource>, line: &mut String) -> Result<bool, Fail> {
-    let (told, more) = match lines.next() {
+fn tell_next(
+    alloc: Global,
+    lines: &mut Lines<MemSource>,
+    line: &mut Telling,
+) -> Result<bool, Fail> {
+    match lines.next() {
         Ok(Some(read)) => {
             let read = read.copy()?;
-            let told = format!(in alloc; "{} {}, ", read.number, word_of(&read.body))?;
-            (told, true)
+            line.tell(format!(in alloc; "{} {}, ", read.number, word_of(&read.body)));
+            return Ok(true);
         }
-        Ok(None) => (format!(in alloc; "end after {}", lines.count())?, false),
-        Err(LineFault::ReadFailed) => (String::from_str(alloc, "failed")?, false),
-        Err(LineFault::NoMemory) => (String::from_str(alloc, "no memory")?, false),
-    };
-    line.push_str(told.as_str())?;
-    Ok(more)
+        Ok(None) => line.tell(format!(in alloc; "end after {}", lines.count())),
+        Err(LineFault::ReadFailed) => line.say("failed"),
+        Err(LineFault::NoMemory) => line.say("no memory"),
+    }
+    Ok(false)
 }
 
 /// `lines GIVEN`: the lines that a source gives, each by its number and its word, then the end. With `once` the source is
 /// taken back after the first line, and read by other lines.
-pub(crate) fn answer(alloc: Global, row: &Json, line: &mut String) -> Result<(), Fail> {
+pub(crate) fn answer(alloc: Global, row: &Json, line: &mut Telling) -> Result<(), Fail> {
     let nothing = Json::Null;
     let given = row.get(1).unwrap_or(&nothing);
     let mut lines = Lines::new(alloc, source_of(alloc, given)?);
@@ -56,7 +59,7 @@ pub(crate) fn answer(alloc: Global, row: &Json, line: &mut String) -> Result<(),
 }
 
 /// `print NUMBER VALUE`: the text of that reply, in pieces of five bytes.
-pub(crate) fn answer_print(alloc: Global, row: &Json, line: &mut String) -> Result<(), Fail> {
+pub(crate) fn answer_print(alloc: Global, row: &Json, line: &mut Telling) -> Result<(), Fail> {
     let reply = OutLine::Reply {
         number: number(row, 1),
         value: value(alloc, row, 2)?,
@@ -64,5 +67,6 @@ pub(crate) fn answer_print(alloc: Global, row: &Json, line: &mut String) -> Resu
     let bytes = print(alloc, &reply.copy()?)?;
     let mut sink = sink_of(alloc, &Json::Null);
     put(&mut sink, &bytes)?;
-    tell_bytes(line, sink.taken())
+    tell_bytes(line, sink.taken());
+    Ok(())
 }

@@ -7,7 +7,7 @@ use std::alloc::Global;
 use std::sync::Wait;
 use std::test::Fail;
 use std::thread::Threads;
-use test_rows::{count, word};
+use test_rows::{Telling, count, word};
 
 /// How many slots there may be.
 const SLOTS: usize = 256;
@@ -55,19 +55,19 @@ pub(crate) fn answer<T: Threads + Wait + Copy + Send + Sync>(
     alloc: Global,
     runs: &mut Runs,
     row: &Json,
-    line: &mut String,
+    line: &mut Telling,
 ) -> Result<(), Fail> {
     match word(row, 0) {
         "empty" => runs.files = no_files(alloc)?,
         "file" => set_file(alloc, runs, row)?,
         "keep" => {
             crash(alloc, runs, row)?;
-            line.push_str("kept")?;
+            line.say("kept");
         }
         "crash" => {
             crash(alloc, runs, row)?;
             let file = runs.files.first().map_or(&[][..], |file| file.as_slice());
-            line.push_str(hex::encode(alloc, file)?.as_str())?;
+            line.tell(hex::encode(alloc, file));
         }
         _ => tell_run(rt, alloc, runs, row, line)?,
     }
@@ -130,7 +130,7 @@ fn tell_run<T: Threads + Wait + Copy + Send + Sync>(
     alloc: Global,
     runs: &mut Runs,
     row: &Json,
-    line: &mut String,
+    line: &mut Telling,
 ) -> Result<(), Fail> {
     let words = words_of(alloc, row)?;
     let nothing = Json::Null;
@@ -152,9 +152,9 @@ fn tell_run<T: Threads + Wait + Copy + Send + Sync>(
     );
     if given.get("hold").is_some() {
         tell_sorted(alloc, line, ran.out.taken())?;
-        line.push_str(if gate.met() { "met" } else { "not met" })?;
+        line.say(if gate.met() { "met" } else { "not met" });
     } else {
-        tell_end(alloc, &ran, &report, line)?;
+        tell_end(alloc, &ran, &report, line);
     }
     runs.disks = disks_of(alloc, report)?;
     Ok(())
@@ -164,11 +164,10 @@ fn tell_end(
     alloc: Global,
     ran: &Ran<MemSource, MemSink>,
     report: &Report<MemDisk>,
-    line: &mut String,
-) -> Result<(), Fail> {
-    let status = format!(in alloc; "{} over {} slots: ", ran.status, report.slots.len())?;
-    line.push_str(status.as_str())?;
-    tell_bytes(line, ran.out.taken())
+    line: &mut Telling,
+) {
+    line.tell(format!(in alloc; "{} over {} slots: ", ran.status, report.slots.len()));
+    tell_bytes(line, ran.out.taken());
 }
 
 // The disks of the slots after a run, that of the one that wasn't mounted last.

@@ -15,7 +15,7 @@ use std::fmt::Write;
 use std::sync::Wait;
 use std::test::Fail;
 use std::thread::Threads;
-use test_rows::{CABINET, PUT_AND_READ};
+use test_rows::{CABINET, PUT_AND_READ, Telling};
 
 // How many bytes are read or written at once.
 const PIECE: usize = 4_096;
@@ -104,14 +104,13 @@ pub(crate) fn answer<T: Threads + Wait + Copy + Send + Sync>(
     rt: &T,
     alloc: Global,
 ) -> Result<String, Fail> {
-    let mut told = one_worker(rt, alloc)?;
-    told.push_str("\n")?;
-    let met = two_workers_meet(rt, alloc)?;
-    told.push_str(met.as_str())?;
+    let mut line = Telling::new(alloc);
+    line.say(one_worker(rt, alloc)?.as_str());
+    line.say("\n");
+    line.say(two_workers_meet(rt, alloc)?.as_str());
     for _ in 0..10 {
-        told.push_str("\n")?;
-        let many = many_workers(rt, alloc, 10_000)?;
-        told.push_str(many.as_str())?;
+        line.say("\n");
+        line.say(many_workers(rt, alloc, 10_000)?.as_str());
     }
-    Ok(told)
+    line.into_text()
 }

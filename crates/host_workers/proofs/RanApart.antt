@@ -7,7 +7,7 @@ use Rattle.timeline.specs.declared.event.Event.{Event}
 use Rattle.timeline.specs.declared.message.Message.{Message as Sent}
 use Rattle.timeline.specs.declared.notice.Notice.{Notice}
 use Rattle.object_front.specs.declared.evaluated.Evaluated.{Evaluated}
-use Rattle.object_front.specs.declared.half.Half.{Half}
+use Rattle.front_half.specs.declared.half.Half.{Half}
 use Rattle.object_core.specs.Alone.{AreApart, IsFrontAlone}
 use Rattle.object_core.specs.One.{Origin, class_in}
 use Rattle.host_workers.specs.Apart.{AreEnded}

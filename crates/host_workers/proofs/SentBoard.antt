@@ -63,8 +63,11 @@ module _ (s : NamedLft) (L D R W T : RattleType) (n : names.Ghosts L.Denot) (l :
                 (
                   search parts depth 20 fits 4000,
                   (
-                    search (parts, book_send) depth 20 fits 4000,
-                    tt,
+                    search parts depth 20 fits 4000,
+                    (
+                      search (parts, book_send) depth 20 fits 4000,
+                      tt,
+                    ),
                   ),
                 ),
               ),

@@ -8,19 +8,19 @@ use Rattle.timeline.specs.Logs.{Fronted, fronted}
 use Rattle.timeline.specs.declared.entry.Entry.{Entry}
 use Rattle.timeline.specs.declared.event.Event.{Event}
 use Rattle.timeline.specs.declared.notice.Notice.{Notice}
-use Rattle.object_front.proofs.Items.{IsItemOf, takes_none, delivers_it, wants_it, event_item}
-use Rattle.object_front.proofs.Sent.{sent_more}
+use Rattle.front_half.proofs.Items.{IsItemOf, takes_none, delivers_it, wants_it, event_item}
+use Rattle.front_half.proofs.Sent.{sent_more}
 use Rattle.object_front.specs.Came.{events, HasGot, EventsCome}
 use Rattle.object_front.specs.Classed.{class_behind, class_by, ClassComes}
 use Rattle.object_front.specs.Evaluated.{seen}
-use Rattle.object_front.specs.Sending.{AreSentToo}
-use Rattle.object_front.specs.Standing.{Stood, IsClass, IsCutShort, IsHalf, IsTakenBy, fresh, is_stopped, kind_in, nothing_logged}
-use Rattle.object_front.specs.Taking.{Led, IsLedBy, fits, sticks_at, on_event, without}
-use Rattle.object_front.specs.Turning.{CanTurn, IsStill, IsTaken, IsEntered, Turns, Halts}
+use Rattle.front_half.specs.Sending.{AreSentToo}
+use Rattle.front_half.specs.Standing.{Stood, IsClass, IsCutShort, IsHalf, IsTakenBy, fresh, is_stopped, kind_in, nothing_logged}
+use Rattle.front_half.specs.Taking.{Led, IsLedBy, fits, sticks_at, on_event, without}
+use Rattle.front_half.specs.Turning.{CanTurn, IsStill, IsTaken, IsEntered, Turns, Halts}
 use Rattle.object_front.specs.declared.evaluated.Evaluated.{Evaluated}
-use Rattle.object_front.specs.declared.half.Half.{Half}
-use Rattle.object_front.specs.declared.turning.Turned.{Turned}
-use Rattle.object_front.specs.declared.turning.Turned.TheVariants.{Ran, Idle}
+use Rattle.front_half.specs.declared.half.Half.{Half}
+use Rattle.front_half.specs.declared.turning.Turned.{Turned}
+use Rattle.front_half.specs.declared.turning.Turned.TheVariants.{Ran, Idle}
 use Rattle.front_history.specs.Turns.{TurnSteps}
 use Rattle.object_core.proofs.Alike.{class_for}
 use Rattle.object_core.proofs.FitTaken.{events_logged, fit_more, taken_fit}

@@ -10,9 +10,9 @@ use Rattle.timeline.specs.declared.notice.Notice.{Notice}
 use Rattle.object_front.specs.Came.{HasGot}
 use Rattle.object_front.specs.Classed.{IsClassed}
 use Rattle.object_front.specs.Evaluated.{seen}
-use Rattle.object_front.specs.Standing.{Stood, IsClass, IsCutShort, IsHalf, IsTakenBy, is_stopped, kind_in}
+use Rattle.front_half.specs.Standing.{Stood, IsClass, IsCutShort, IsHalf, IsTakenBy, is_stopped, kind_in}
 use Rattle.object_front.specs.declared.evaluated.Evaluated.{Evaluated}
-use Rattle.object_front.specs.declared.half.Half.{Half}
+use Rattle.front_half.specs.declared.half.Half.{Half}
 use Rattle.object_core.specs.Apart.{FrontRuns}
 use Rattle.object_core.specs.Fitting.{IsFitIntake}
 use Rattle.host_workers.specs.declared.front_cell.FrontCell.{FrontCell}

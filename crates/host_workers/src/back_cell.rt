@@ -131,6 +131,11 @@ impl<D: Disk, T: Wait + Copy> BackCell<D, T> {
         self.back.log().taken.len()
     }
 
+    // How many messages it has let go.
+    pub(crate) fn count_released(&self) -> usize {
+        self.back.log().released.len()
+    }
+
     // Whether it has answered one of the entries behind so many.
     pub(crate) fn has_answered(&self, first: usize) -> bool {
         let taken = self.back.log().taken.as_slice();

@@ -6,8 +6,10 @@ ghost use Rattle.host_workers.specs.declared.jobs.Job.TheVariants.{Front, Back, 
 
 use crate::back_cell::BackCell;
 use crate::cells::{Cells, Held};
+use crate::crew::Crew;
+use crate::flow::Flow;
 use crate::front_cell::FrontCell;
-use crate::jobs::{Bounds, Found, Job, MOST_STEPS, WorkEnd};
+use crate::jobs::{Bounds, Found, Job, WorkEnd};
 use crate::lines_cell::LinesCell;
 use crate::marks::Marks;
 use crate::names::Names;
@@ -60,8 +62,8 @@ pub struct Board<'s, L: Names, D: Disk, R: Source, W: Sink, T: Wait> {
     reading: Reading,
     // What a worker has met that ends the work.
     halted: Option<WorkEnd>,
-    // How many workers sleep and weren't called, or more: one that woke by chance counts on.
-    asleep: u32,
+    crew: Crew,
+    flow: Flow,
     book: Book<L>,
 }
 
@@ -77,11 +79,14 @@ impl<'s, L: Names + Drop, D: Disk + Drop, R: Source + Drop, W: Sink + Drop, T: W
             next: _,
             reading: _,
             halted: _,
-            asleep: _,
+            crew,
+            flow,
             book,
         } = self;
         drop(cells);
         drop(marks);
+        drop(crew);
+        drop(flow);
         drop(book);
     }
 }
@@ -129,7 +134,8 @@ impl<'s, L: Names, D: Disk + Drop, R: Source + Drop, W: Sink + Drop, T: Wait + C
             next: 0,
             reading: Reading::Goes,
             halted: None,
-            asleep: 0,
+            crew: Crew::new(),
+            flow: Flow::new(),
             book,
         }
     }
@@ -147,10 +153,13 @@ impl<'s, L: Names, D: Disk + Drop, R: Source + Drop, W: Sink + Drop, T: Wait + C
             next: _,
             reading: _,
             halted: _,
-            asleep: _,
+            crew,
+            flow,
             book,
         } = self;
         drop(marks);
+        drop(crew);
+        drop(flow);
         drop(book);
         cells
     }
@@ -241,7 +250,7 @@ impl<'s, L: Names, D: Disk + Drop, R: Source + Drop, W: Sink + Drop, T: Wait + C
     fn look_at_lines(&self) -> Look
         ensures { IsLook self.now result }
     {
-        if self.has_lines() {
+        if self.has_lines() && self.flow.room() > 0 {
             Look::Do(Job::Lines)
         } else {
             Look::Wait
@@ -296,27 +305,44 @@ impl<'s, L: Names, D: Disk + Drop, R: Source + Drop, W: Sink + Drop, T: Wait + C
         self.cells.lines.is_some()
     }
 
+    // Counts a worker that has come.
+    pub(crate) fn come(&mut self)
+        ensures { self.new ≡ self.old }
+    {
+        self.crew.come();
+    }
+
     // Counts a worker that is about to sleep.
     pub(crate) fn sleep(&mut self)
         ensures { self.new ≡ self.old }
     {
-        self.asleep = self.asleep.saturating_add(1);
+        self.crew.sleep();
     }
 
-    // Whether a worker is to be called, since one sleeps and something is left to do; it counts as called then.
+    // Counts a worker that has woken.
+    pub(crate) fn wake(&mut self)
+        ensures { self.new ≡ self.old }
+    {
+        self.crew.wake();
+    }
+
+    // Whether a worker is to be called, since one sleeps and something is left to do; it counts as called then. For lines alone one is called
+    // where the last read had several at hand, or where nobody looks soon: so no line waits for a turn or for a disk while a worker sleeps.
     pub(crate) fn call_one(&mut self, me: u32) -> bool
         ensures { self.new ≡ self.old }
     {
-        if self.asleep == 0 {
+        if !self.crew.is_any_asleep() {
             return false;
         }
-        match self.look(me) {
-            Look::Do(_) => {
-                self.asleep -= 1;
-                true
-            }
+        let calls = match self.look(me) {
+            Look::Do(Job::Lines) => self.flow.had_several() || !self.crew.looks_any_soon(),
+            Look::Do(_) => true,
             _ => false,
+        };
+        if calls {
+            self.crew.call();
         }
+        calls
     }
 
     // How far the work on the cell of a place goes. A worker that is alone reads one line at a time: each is answered as far as it can be
@@ -327,7 +353,11 @@ impl<'s, L: Names, D: Disk + Drop, R: Source + Drop, W: Sink + Drop, T: Wait + C
                 Job::Back(slot) => self.marks.waits(slot),
                 _ => 0,
             },
-            lines: if self.workers == 1 { 1 } else { MOST_STEPS },
+            lines: if self.workers == 1 {
+                1
+            } else {
+                self.flow.room()
+            },
         }
     }
 
@@ -340,6 +370,7 @@ impl<'s, L: Names, D: Disk + Drop, R: Source + Drop, W: Sink + Drop, T: Wait + C
         ensures amount { share.new.amount ≡ share.old.amount + held_count result }
     {
         self.marks.set(job, false);
+        self.crew.begin(job);
         match job {
             Job::Front(slot) => {
                 let cell = self.take_front(share, slot);
@@ -433,34 +464,44 @@ impl<'s, L: Names, D: Disk + Drop, R: Source + Drop, W: Sink + Drop, T: Wait + C
         self.stop_at(found);
         match held {
             Held::Front { slot, cell } => {
-                self.marks.note(Job::Front(slot), found);
+                self.note(Job::Front(slot), found);
                 self.put_front(share, slot, cell);
             }
             Held::Back { slot, cell } => {
-                self.marks.note(Job::Back(slot), found);
+                self.note(Job::Back(slot), found);
                 self.put_back_half(share, slot, cell);
             }
             Held::Switch { cell } => {
-                self.marks.note(Job::Switch, found);
+                self.note(Job::Switch, found);
                 self.marks.follow_posts(cell.posts());
+                self.flow.accept(cell.count_accepted());
                 self.put_switch(share, cell);
             }
             Held::Lines { cell } => {
-                self.marks.note(Job::Lines, found);
+                self.note(Job::Lines, found);
+                self.flow.read(found.lines);
                 self.put_lines(share, cell);
             }
         }
+    }
+
+    // Notes that the cell of this place comes back, and what was found at it.
+    fn note(&mut self, place: Job, found: Found)
+        ensures { self.new ≡ self.old }
+    {
+        self.crew.end(place);
+        self.marks.note(place, found);
     }
 
     // Notes that the reading has stopped, or that the work has to.
     fn stop_at(&mut self, found: Found)
         ensures { self.new ≡ self.old }
     {
-        match found {
-            Found::Stopped(WorkEnd::Ended) => self.reading = Reading::Ended,
-            Found::Stopped(WorkEnd::ReadFailed) => self.reading = Reading::Failed,
-            Found::Stopped(end) => self.halted = Some(end),
-            _ => (),
+        match found.stopped {
+            Some(WorkEnd::Ended) => self.reading = Reading::Ended,
+            Some(WorkEnd::ReadFailed) => self.reading = Reading::Failed,
+            Some(end) => self.halted = Some(end),
+            None => (),
         }
     }
 

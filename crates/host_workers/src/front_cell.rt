@@ -4,9 +4,9 @@ ghost use Rattle.do_tree.specs.Checked.{tree_of as script_in};
 ghost use Rattle.lane.specs.Lanes.{StartsWith};
 ghost use Rattle.timeline.specs.Logs.{fronted};
 ghost use Rattle.object_front.specs.Evaluated.{seen};
-ghost use Rattle.object_front.specs.Standing.{Stood, IsHalf, fresh, is_stopped, nothing_logged};
-ghost use Rattle.object_front.specs.Turning.{IsQuiet, Turns};
-ghost use Rattle.object_front.specs.declared.turning.Turned.TheVariants.{Ran, Idle};
+ghost use Rattle.front_half.specs.Standing.{Stood, IsHalf, fresh, is_stopped, nothing_logged};
+ghost use Rattle.front_half.specs.Turning.{IsQuiet, Turns};
+ghost use Rattle.front_half.specs.declared.turning.Turned.TheVariants.{Ran, Idle};
 ghost use Rattle.host_workers.specs.Fronts.{IsFrontCell, KeepsFrontCell, SameLanes, script_of};
 
 use do_tree::Checked;

@@ -48,20 +48,28 @@ pub(crate) enum Job {
     Lines,
 }
 
-// What a worker found at a cell.
+// What a worker found at a cell, and for whom it has made something.
 #[derive(Clone, Copy, Debug, Drop)]
-pub(crate) enum Found {
-    // There was nothing to do.
-    Nothing,
-    // A back has answered its front, and left its flight for what the front writes next: so often in a row.
-    Waits(u8),
-    // It did all that there was to do, and what it made, if anything, is for the cell next to it: a back let no message go.
-    Told,
-    // It did all that there was to do.
-    Made,
-    // It did something, and there may be more to do.
-    More,
+pub(crate) struct Found {
+    // The cell next to it has got something: a front's back entries, a back's front notices, the lines' switch a line.
+    pub(crate) told: bool,
+    // A back let messages go to the switch.
+    pub(crate) freed: bool,
+    // There may be more to do at the cell itself.
+    pub(crate) more: bool,
+    // How often in a row a back has now answered its front and left its flight for what the front writes next.
+    pub(crate) waits: u8,
+    // How many lines were read.
+    pub(crate) lines: u32,
     // The input has ended, or it stands at this fault.
+    pub(crate) stopped: Option<WorkEnd>,
+}
+
+// What a step of the switch did.
+#[derive(Clone, Copy, Debug, Drop)]
+enum Step {
+    Did,
+    Nothing,
     Stopped(WorkEnd),
 }
 
@@ -75,31 +83,98 @@ pub(crate) struct Bounds {
 }
 
 impl Found {
-    // How much it says: a cell that stopped says most.
-    fn rank(&self) -> u8 {
-        match self {
-            Found::Nothing => 0,
-            Found::Waits(_) => 1,
-            Found::Told => 2,
-            Found::Made => 3,
-            Found::More => 4,
-            Found::Stopped(_) => 5,
+    fn nothing() -> Found {
+        Found {
+            told: false,
+            freed: false,
+            more: false,
+            waits: 0,
+            lines: 0,
+            stopped: None,
         }
     }
 
-    fn is_told(&self) -> bool {
-        match self {
-            Found::Told => true,
-            _ => false,
+    fn told() -> Found {
+        Found {
+            told: true,
+            ..Found::nothing()
         }
     }
 
-    // What was found in two things that were done.
+    // Whoever is next to it may have got something, and there may be more to do at it.
+    fn more() -> Found {
+        Found {
+            more: true,
+            ..Found::told()
+        }
+    }
+
+    // Lines that were read before their end are for the switch.
+    fn stopped(end: WorkEnd) -> Found {
+        Found {
+            stopped: Some(end),
+            ..Found::told()
+        }
+    }
+
+    // A back has answered its front so often in a row by now, and left its flight.
+    fn waits(count: u8) -> Found {
+        Found {
+            waits: count,
+            ..Found::nothing()
+        }
+    }
+
+    // A back let go what it held in so many steps, of which so many were messages.
+    fn left(steps: usize, messages: usize) -> Found {
+        Found {
+            told: messages < steps,
+            freed: messages > 0,
+            ..Found::nothing()
+        }
+    }
+
+    // So many lines are on their way to the switch.
+    fn read(lines: u32) -> Found {
+        Found {
+            lines,
+            ..Found::told()
+        }
+    }
+
+    // Whether something was done, and nothing is left.
+    fn is_whole(&self) -> bool {
+        self.told && !self.more && self.stopped.is_none()
+    }
+
+    // The same, where the front was told something just if this is so.
+    fn told_where(self, answered: bool) -> Found {
+        Found {
+            told: answered,
+            ..self
+        }
+    }
+
+    // What was taken behind the flight is for another look: what is let go meanwhile doesn't wait for it.
+    fn behind_flight(self, answered: bool) -> Found {
+        Found {
+            told: answered,
+            more: self.told,
+            ..self
+        }
+    }
+
+    // What was found in two things that a back did.
     fn and(self, other: Found) -> Found {
-        if self.rank() < other.rank() {
-            other
-        } else {
-            self
+        Found {
+            told: self.told || other.told,
+            freed: self.freed || other.freed,
+            more: self.more || other.more,
+            stopped: match self.stopped {
+                Some(end) => Some(end),
+                None => other.stopped,
+            },
+            ..self
         }
     }
 }
@@ -161,19 +236,21 @@ fn make_turns<'s, T: Wait + Copy>(alloc: Global, cell: &mut FrontCell<'s, T>) ->
     ensures lanes { SameFrontLanes cell.old cell.new }
     ensures cell { KeepsFrontCell cell.old cell.new }
 {
-    let mut found = Found::Nothing;
+    let mut found = Found::nothing();
     for _ in 0..MOST_STEPS {
         match cell.turn(alloc) {
-            Ok(Turned::Ran) => found = Found::Made,
+            Ok(Turned::Ran) => found = Found::told(),
             Ok(Turned::Idle) => return found,
-            Err(NoMemory) => return Found::Stopped(WorkEnd::NoMemory),
+            Err(NoMemory) => return Found::stopped(WorkEnd::NoMemory),
         }
     }
-    Found::More
+    Found::more()
 }
 
 // Takes all that has come, appends it as one flight, and lets go what may go. What that makes room for is taken by the next worker. Where
 // its front waits for what it was answered now, the flight may be left to the next look: so what the front writes next goes along.
+//
+// The front was told something where an entry was answered that a front waits for, where what was let go isn't a message, and by a mounting.
 fn step_back<D: Disk, T: Wait + Copy>(alloc: Global, cell: &mut BackCell<D, T>, waits: u8) -> Found
     requires { CanStep D.moment_of D.left_since D.told D.image D.faults_of cell.old }
     ensures lanes { SameBackLanes cell.old cell.new }
@@ -182,31 +259,18 @@ fn step_back<D: Disk, T: Wait + Copy>(alloc: Global, cell: &mut BackCell<D, T>, 
 {
     let first = cell.count_taken();
     let took = take_all(cell);
-    if waits < MOST_WAITS && took.is_told() && cell.has_answered(first) {
-        return Found::Waits(waits + 1);
+    let answered = cell.has_answered(first);
+    if waits < MOST_WAITS && answered && took.is_whole() {
+        return Found::waits(waits + 1);
     }
-    let flushed = flush(cell);
+    cell.flush();
     let released = release_all(cell);
     let mended = mend(alloc, cell);
+    let behind = cell.count_taken();
     let again = take_all(cell);
-    took.and(flushed).and(released).and(mended).and(more(again))
-}
-
-// What was taken behind the flight is for another look, and so is what a mounting brought: what is let go meanwhile doesn't wait for it.
-fn more(found: Found) -> Found {
-    match found {
-        Found::Nothing => Found::Nothing,
-        Found::Stopped(end) => Found::Stopped(end),
-        _ => Found::More,
-    }
-}
-
-// What a step found.
-fn found_of(stepped: Stepped) -> Found {
-    match stepped {
-        Stepped::Did => Found::Made,
-        Stepped::Nothing => Found::Nothing,
-    }
+    let taken = took.told_where(answered);
+    let behind = again.behind_flight(cell.has_answered(behind));
+    taken.and(released).and(mended).and(behind)
 }
 
 fn take_all<D: Disk, T: Wait + Copy>(cell: &mut BackCell<D, T>) -> Found
@@ -215,27 +279,15 @@ fn take_all<D: Disk, T: Wait + Copy>(cell: &mut BackCell<D, T>) -> Found
     ensures cell { KeepsBackCell D.moment_of D.left_since D.told D.image D.faults_of cell.old cell.new }
     ensures alone { KeepsCellAlone D.moment_of D.left_since D.told D.image D.faults_of cell.old cell.new }
 {
-    let mut found = Found::Nothing;
+    let mut found = Found::nothing();
     for _ in 0..MOST_STEPS {
         match cell.take() {
-            Ok(Stepped::Did) => found = Found::Told,
+            Ok(Stepped::Did) => found = Found::told(),
             Ok(Stepped::Nothing) => return found,
-            Err(NoMemory) => return Found::Stopped(WorkEnd::NoMemory),
+            Err(NoMemory) => return Found::stopped(WorkEnd::NoMemory),
         }
     }
-    Found::More
-}
-
-fn flush<D: Disk, T: Wait + Copy>(cell: &mut BackCell<D, T>) -> Found
-    requires { CanStep D.moment_of D.left_since D.told D.image D.faults_of cell.old }
-    ensures lanes { SameBackLanes cell.old cell.new }
-    ensures cell { KeepsBackCell D.moment_of D.left_since D.told D.image D.faults_of cell.old cell.new }
-    ensures alone { KeepsCellAlone D.moment_of D.left_since D.told D.image D.faults_of cell.old cell.new }
-{
-    match cell.flush() {
-        Stepped::Did => Found::Told,
-        Stepped::Nothing => Found::Nothing,
-    }
+    Found::more()
 }
 
 fn release_all<D: Disk, T: Wait + Copy>(cell: &mut BackCell<D, T>) -> Found
@@ -244,15 +296,18 @@ fn release_all<D: Disk, T: Wait + Copy>(cell: &mut BackCell<D, T>) -> Found
     ensures cell { KeepsBackCell D.moment_of D.left_since D.told D.image D.faults_of cell.old cell.new }
     ensures alone { KeepsCellAlone D.moment_of D.left_since D.told D.image D.faults_of cell.old cell.new }
 {
-    let mut found = Found::Nothing;
+    let before = cell.count_released();
+    let mut steps: usize = 0;
     for _ in 0..MOST_STEPS {
         match cell.release() {
-            Ok(Stepped::Did) => found = Found::Made,
-            Ok(Stepped::Nothing) => return found,
-            Err(NoMemory) => return Found::Stopped(WorkEnd::NoMemory),
+            Ok(Stepped::Did) => steps = steps.saturating_add(1),
+            Ok(Stepped::Nothing) => {
+                return Found::left(steps, cell.count_released().saturating_sub(before));
+            }
+            Err(NoMemory) => return Found::stopped(WorkEnd::NoMemory),
         }
     }
-    Found::More
+    Found::left(steps, cell.count_released().saturating_sub(before)).and(Found::more())
 }
 
 // Mounts the journal again, where an append has failed.
@@ -263,17 +318,19 @@ fn mend<D: Disk, T: Wait + Copy>(alloc: Global, cell: &mut BackCell<D, T>) -> Fo
     ensures alone { KeepsCellAlone D.moment_of D.left_since D.told D.image D.faults_of cell.old cell.new }
 {
     match cell.mend(alloc) {
-        Ok(stepped) => more(found_of(stepped)),
-        Err(NoMemory) => Found::Stopped(WorkEnd::NoMemory),
+        Ok(Stepped::Did) => Found::more(),
+        Ok(Stepped::Nothing) => Found::nothing(),
+        Err(NoMemory) => Found::stopped(WorkEnd::NoMemory),
     }
 }
 
-// What the switch found.
-fn found_in(answer: Result<Stepped, SwitchFault>) -> Found {
+// What a step of the switch did.
+fn step_of(answer: Result<Stepped, SwitchFault>) -> Step {
     match answer {
-        Ok(stepped) => found_of(stepped),
-        Err(SwitchFault::WriteFailed) => Found::Stopped(WorkEnd::WriteFailed),
-        Err(SwitchFault::NoMemory) => Found::Stopped(WorkEnd::NoMemory),
+        Ok(Stepped::Did) => Step::Did,
+        Ok(Stepped::Nothing) => Step::Nothing,
+        Err(SwitchFault::WriteFailed) => Step::Stopped(WorkEnd::WriteFailed),
+        Err(SwitchFault::NoMemory) => Step::Stopped(WorkEnd::NoMemory),
     }
 }
 
@@ -294,15 +351,14 @@ fn accept_all<'s, W: Sink, T: Wait + Copy>(cell: &mut SwitchCell<'s, W, T>) -> F
     ensures cell { KeepsSwitchCell cell.old cell.new }
     ensures printed { KeepsPrinted W.taken W.faults_of cell.old.switch cell.new.switch }
 {
-    let mut found = Found::Nothing;
     for _ in 0..MOST_STEPS {
-        match found_in(cell.accept()) {
-            Found::Nothing => return found,
-            Found::Stopped(end) => return Found::Stopped(end),
-            _ => found = Found::Made,
+        match step_of(cell.accept()) {
+            Step::Did => (),
+            Step::Nothing => return Found::nothing(),
+            Step::Stopped(end) => return Found::stopped(end),
         }
     }
-    Found::More
+    Found::more()
 }
 
 fn route_all<'s, W: Sink, T: Wait + Copy>(cell: &mut SwitchCell<'s, W, T>) -> Found
@@ -311,15 +367,14 @@ fn route_all<'s, W: Sink, T: Wait + Copy>(cell: &mut SwitchCell<'s, W, T>) -> Fo
     ensures cell { KeepsSwitchCell cell.old cell.new }
     ensures printed { KeepsPrinted W.taken W.faults_of cell.old.switch cell.new.switch }
 {
-    let mut found = Found::Nothing;
     for _ in 0..MOST_STEPS {
-        match found_in(cell.route()) {
-            Found::Nothing => return found,
-            Found::Stopped(end) => return Found::Stopped(end),
-            _ => found = Found::Made,
+        match step_of(cell.route()) {
+            Step::Did => (),
+            Step::Nothing => return Found::nothing(),
+            Step::Stopped(end) => return Found::stopped(end),
         }
     }
-    Found::More
+    Found::more()
 }
 
 // Reads the next line, and so many at most with those behind it that are at hand, and sends them to the switch.
@@ -329,15 +384,17 @@ fn read_lines<R: Source, T: Wait + Copy>(cell: &mut LinesCell<R, T>, most: u32) 
     ensures lane { cell.new.send.lane ≡ cell.old.send.lane }
     ensures numbers { IsNumbered cell.old → IsNumbered cell.new }
 {
+    let mut lines: u32 = 0;
     for _ in 0..most {
         if let Some(end) = read_line(cell) {
-            return Found::Stopped(end);
+            return Found::stopped(end);
         }
+        lines = lines.saturating_add(1);
         if !cell.is_ready() {
-            break;
+            return Found::read(lines);
         }
     }
-    Found::Made
+    Found::read(lines)
 }
 
 // Reads the next line and sends it to the switch, or says what has ended the reading.

@@ -130,17 +130,17 @@ impl Marks {
     // Marks what may have something to do after work on the cell of a place. So does the place itself, where more is left to do.
     pub(crate) fn note(&mut self, place: Job, found: Found) {
         self.end_wait(place);
-        match found {
-            Found::Nothing => (),
-            // Lines that were read before their end are for the switch.
-            Found::Stopped(_) => self.follow(place),
-            Found::Waits(waits) => self.wait(place, waits),
-            Found::Told => self.follow(place),
-            Found::Made => self.follow_out(place),
-            Found::More => {
-                self.follow_out(place);
-                self.set(place, true);
-            }
+        if found.waits > 0 {
+            self.wait(place, found.waits);
+        }
+        if found.told {
+            self.follow(place);
+        }
+        if found.freed {
+            self.switch = true;
+        }
+        if found.more {
+            self.set(place, true);
         }
     }
 
@@ -180,14 +180,6 @@ impl Marks {
             Job::Back(slot) => self.set(Job::Front(slot), true),
             Job::Switch => (),
             Job::Lines => self.switch = true,
-        }
-    }
-
-    // A back has also let messages go to the switch.
-    fn follow_out(&mut self, place: Job) {
-        self.follow(place);
-        if let Job::Back(_) = place {
-            self.switch = true;
         }
     }
 

@@ -53,6 +53,12 @@ impl<'s, L: Names, D: Disk + Drop, R: Source + Drop, W: Sink + Drop, T: Wait + C
         board
     }
 
+    // Counts a worker that has come.
+    fn come(&self, rt: &T) {
+        let mut board = self.lock.lock(rt);
+        board.come();
+    }
+
     // Takes the next cell with something to do out of its place, and wakes one worker where more is left to do. It waits where another
     // worker may still make some: as long as a cell that is there is marked, or a line may be read, one worker is awake and looks.
     fn next(
@@ -88,6 +94,7 @@ impl<'s, L: Names, D: Disk + Drop, R: Source + Drop, W: Sink + Drop, T: Wait + C
                 Look::Wait => {
                     board.sleep();
                     board = self.changed.wait(rt, board);
+                    board.wake();
                 }
             }
         }
@@ -129,6 +136,7 @@ pub fn work<
     ensures { (result.share.parts ≡ share.parts) × (result.share.amount ≡ 0) }
 {
     let mut share = share;
+    shared.come(rt);
     for _ in rt.forever() {
         match shared.next(rt, &mut share, me) {
             Ok((held, bounds)) => {

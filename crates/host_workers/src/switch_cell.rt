@@ -172,6 +172,11 @@ impl<'s, W: Sink, T: Wait + Copy> SwitchCell<'s, W, T> {
         self.switch.log().posts.as_slice()
     }
 
+    // How many lines it has accepted.
+    pub(crate) fn count_accepted(&self) -> usize {
+        self.switch.log().accepted.len()
+    }
+
     /// Its parts. It takes no memory.
     pub fn into_parts(self) -> SwitchParts<W, T>
         ensures half { (result.switch ≡ self.entry.switch) × (result.kept ≡ self.entry.kept) }

@@ -1,12 +1,9 @@
 -- The first line of bytes.
 use Rattle.std.proofs.Common.{◌≡◌, ◌<◌, ◌+◌, ◌-◌, ℕ, List, [], ◌∷◌, ◌++◌, length, refl, ◌∙◌, arith, Bool, true, false, not, ◌==◌}
 use Rattle.std.proofs.lemmas.Grind.{common_steps}
-use Rattle.std.specs.List.{onto_first, list_all}
+use Rattle.std.specs.List.{onto_first}
 use Rattle.line_server.specs.Cut.{lines_within, ended_within, line_end}
-
--- no byte of the line is an LF
-abbrev pub has_no_end : List ℕ → Bool
-has_no_end = list_all (λ b. not (b == line_end))
+use Rattle.line_server.specs.Ends.{has_no_end}
 
 step_on : (most room b : ℕ) (bs : List ℕ) → (b == line_end) ≡ false → 1 < room → lines_within most room (b ∷ bs) ≡ onto_first b (lines_within most (room - 1) bs)
 step_on most room b bs other more = let not_last : (room == 1) ≡ false = grind (arith, common_steps) in rw (other, not_last) refl
@@ -43,10 +40,6 @@ last_line most room b (c ∷ bs) all short =
     let parts : ((b == line_end) ≡ false) × (has_no_end (c ∷ bs) ≡ true) = not_end b (c ∷ bs) all in
     let rest : lines_within most (room - 1) (c ∷ bs) ≡ (c ∷ bs) ∷ [] = last_line most (room - 1) c bs parts.1 (omega arith) in
     step_on most room b (c ∷ bs) parts.0 (omega arith) ∙ rw rest refl
-
--- a byte that isn't an LF
-pub other_byte : (b : ℕ) → (b ≡ line_end → ⊥) → (b == line_end) ≡ false
-other_byte b other = grind (arith, common_steps)
 
 -- ---- how many lines are ended
 

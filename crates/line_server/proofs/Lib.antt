@@ -1,6 +1,8 @@
 pub mod Reading
 pub mod Cutting
+pub mod Finding
 pub mod Taking
+pub mod Giving
 pub mod Counts
 pub mod Keeping
 pub mod Given

@@ -1,18 +1,20 @@
 -- A line that is being read.
-use Rattle.std.proofs.Common.{◌≡◌, ◌<◌, ℕ, List, [], ◌∷◌, ◌++◌, length, Option, Some, refl, sym, ap, ◌∙◌, inl, inr, arith, append_assoc, true, false, ◌==◌}
+use Rattle.std.proofs.Common.{◌≡◌, ◌<◌, ◌+◌, ℕ, List, [], ◌∷◌, ◌++◌, length, Option, Some, Bool, refl, sym, ap, subst, ◌∙◌, inl, inr, arith, append_assoc, length-append, nat_lt, Ok, true, false}
+use Rattle.std.proofs.lemmas.Grind.{common_steps}
 use Rattle.std.proofs.lemmas.List.{append-nil}
 use Rattle.std.proofs.lemmas.List.Folds.{list_all-append}
 use Rattle.line_server.specs.Reader.{Moved}
-use Rattle.line_server.specs.Given.{Gives, IsAtEnd}
+use Rattle.line_server.specs.Given.{Gives, GoesTo, IsAtEnd}
 use Rattle.line_server.specs.Raw.{IsRaw}
 use Rattle.line_server.specs.Cut.{lines, ended, line_end}
-use Rattle.line_server.specs.Taken.{IsLine, TakesLine, StopsAmid}
+use Rattle.line_server.specs.Ends.{has_no_end}
+use Rattle.line_server.specs.Taken.{IsLine, ReadsLine, TakesLine, StopsAmid}
 use Rattle.line_server.specs.declared.bytes.Bytes.{Bytes}
 use Rattle.line_server.specs.declared.fault.LineFault.{LineFault}
-use Rattle.line_server.specs.declared.fault.LineFault.TheVariants.{ReadFailed, NoMemory}
+use Rattle.line_server.specs.declared.fault.LineFault.TheVariants.{ReadFailed}
 use Rattle.line_server.specs.declared.raw_line.RawLine.{RawLine}
 use Rattle.line_server.specs.Limits.{most_cut_bytes}
-use Rattle.line_server.proofs.Cutting.{has_no_end, line_before_end, line_of_room, last_line, other_byte, ended_before_end, ended_of_room, none_ended}
+use Rattle.line_server.proofs.Cutting.{line_before_end, line_of_room, last_line, ended_before_end, ended_of_room, none_ended}
 
 -- two moves, one after the other
 pub moved_on : (before : List ℕ) (mid after : Option (List ℕ)) (held given holds more has : List ℕ) → Moved before mid held given holds
@@ -25,9 +27,13 @@ moved_on before mid after held given holds more has one two =
       reader = sym (append_assoc held one.piece next.piece) ∙ ap (λ r. r ++ next.piece) one.reader ∙ append_assoc given holds next.piece ∙ ap (λ r. given ++ r) next.reader ∙ sym (append_assoc given more has);
     }
 
--- one byte more that is no LF
-more_no_end : (line : List ℕ) (b : ℕ) → has_no_end line ≡ true → (b == line_end) ≡ false → has_no_end (line ++ b ∷ []) ≡ true
-more_no_end line b all other = rw list_all-append (rw (all, other) refl)
+-- more bytes that are no LF
+more_no_end : (line bytes : List ℕ) → has_no_end line ≡ true → has_no_end bytes ≡ true → has_no_end (line ++ bytes) ≡ true
+more_no_end line bytes all others = rw list_all-append (rw (all, others) refl)
+
+-- a reader that reads on isn't at the end
+pub still_going : {P : Type 0} (b : Bool) → b ≡ false → b ≡ true → P
+still_going b going gone = absurd cc
 
 -- the line with its LF, whatever follows
 with_end : (line : List ℕ) → has_no_end line ≡ true → length line < most_cut_bytes → IsLine (line ++ line_end ∷ []) line
@@ -63,53 +69,43 @@ module _ {S : Type 0} (left : S → Option (List ℕ)) where
   pub taking_starts : (bytes : Bytes S) (raw : RawLine) → IsRaw [] raw → IsTaking bytes bytes raw
   taking_starts bytes raw is = record { line = []; raw_is = is; gives = gives_none bytes; no_end = refl }
 
-  pub taking_on : (old mid new : Bytes S) (raw more : RawLine) (b : ℕ) → IsTaking old mid raw → Gives left mid new (b ∷ []) → (b ≡ line_end → ⊥)
-      → ((line : List ℕ) → IsRaw line raw → IsRaw (line ++ b ∷ []) more) → IsTaking old new more
-  taking_on old mid new raw more b taking gives other push = record {
-    line = taking.line ++ b ∷ [];
-    raw_is = push taking.line taking.raw_is;
-    gives = gives_on old mid new taking.line (b ∷ []) taking.gives gives;
-    no_end = more_no_end taking.line b taking.no_end (other_byte b other);
+  pub taking_on : (old mid new : Bytes S) (raw more : RawLine) (bytes : List ℕ) → IsTaking old mid raw → Gives left mid new bytes → GoesTo raw more bytes → IsTaking old new more
+  taking_on old mid new raw more bytes taking gives goes = record {
+    line = taking.line ++ bytes;
+    raw_is = goes.more taking.line taking.raw_is;
+    gives = gives_on old mid new taking.line bytes taking.gives gives;
+    no_end = more_no_end taking.line bytes taking.no_end goes.no_end;
   }
 
-  -- the source fails
-  pub stops_failed : (old mid new : Bytes S) (raw : RawLine) (fault : LineFault) → IsTaking old mid raw → Gives left mid new [] → new.buffer ≡ [] → raw.length < most_cut_bytes → StopsAmid left old new fault
-  stops_failed old mid new raw fault taking gives held short = record {
+  -- nothing more is given, since the source fails or memory is wanting
+  pub stops : (old mid new : Bytes S) (raw : RawLine) (fault : LineFault) → IsTaking old mid raw → Gives left mid new [] → (fault ≡ ReadFailed → new.buffer ≡ []) → new.ended ≡ false → raw.length < most_cut_bytes
+      → StopsAmid left old new fault
+  stops old mid new raw fault taking gives held going short = record {
     bytes = taking.line;
     gives = let all : Gives left old new (taking.line ++ []) = gives_on old mid new taking.line [] taking.gives gives in rw append-nil at all;
-    none_held = λ failed. held;
+    none_held = held;
     none_ended = λ failed. none_ended most_cut_bytes most_cut_bytes taking.line taking.no_end (rw (sym taking.raw_is.length_is) short);
+    going = going;
   }
-
-  -- memory is wanting
-  pub stops_wanting : (old mid new : Bytes S) (raw : RawLine) (more : List ℕ) (fault : LineFault) → IsTaking old mid raw → Gives left mid new more → fault ≡ NoMemory → StopsAmid left old new fault
-  stops_wanting old mid new raw more fault taking gives wanting = record {
-    bytes = taking.line ++ more;
-    gives = gives_on old mid new taking.line more taking.gives gives;
-    none_held = λ failed. absurd (apart (sym wanting ∙ failed));
-    none_ended = λ failed. absurd (apart (sym wanting ∙ failed));
-  }
-    where
-      apart : NoMemory ≡ ReadFailed → ⊥
-      apart e = cc
 
   -- an LF ends it
-  pub takes_at_end : (old mid new : Bytes S) (raw : RawLine) → IsTaking old mid raw → Gives left mid new (line_end ∷ []) → raw.length < most_cut_bytes
-      → (line : List ℕ) × IsRaw line raw × TakesLine left old new line
-  takes_at_end old mid new raw taking gives short = (
-    taking.line,
-    taking.raw_is,
+  pub takes_at_end : (old mid new : Bytes S) (raw more : RawLine) (bytes : List ℕ) → IsTaking old mid raw → GoesTo raw more bytes → Gives left mid new (bytes ++ line_end ∷ []) → raw.length + length bytes < most_cut_bytes → new.ended ≡ false
+      → (line : List ℕ) × IsRaw line more × TakesLine left old new line
+  takes_at_end old mid new raw more bytes taking goes gives short going = (
+    taking.line ++ bytes,
+    goes.more taking.line taking.raw_is,
     record {
-      bytes = taking.line ++ line_end ∷ [];
-      gives = gives_on old mid new taking.line (line_end ∷ []) taking.gives gives;
-      first = inl (with_end taking.line taking.no_end (rw (sym taking.raw_is.length_is) short));
+      bytes = (taking.line ++ bytes) ++ line_end ∷ [];
+      gives = subst (λ r. Gives left old new r) (sym (append_assoc taking.line bytes (line_end ∷ []))) (gives_on old mid new taking.line (bytes ++ line_end ∷ []) taking.gives gives);
+      first = inl (with_end (taking.line ++ bytes) (more_no_end taking.line bytes taking.no_end goes.no_end) (omega (arith, short, taking.raw_is.length_is, length-append taking.line bytes)));
+      at_end = still_going new.ended going;
     },
   )
 
   -- it has no room for another byte
-  pub takes_room : (old new : Bytes S) (raw : RawLine) → IsTaking old new raw → raw.length ≡ most_cut_bytes
+  pub takes_room : (old new : Bytes S) (raw : RawLine) → IsTaking old new raw → raw.length ≡ most_cut_bytes → new.ended ≡ false
       → (line : List ℕ) × IsRaw line raw × TakesLine left old new line
-  takes_room old new raw taking full = (
+  takes_room old new raw taking full going = (
     taking.line,
     taking.raw_is,
     record {
@@ -119,6 +115,7 @@ module _ {S : Type 0} (left : S → Option (List ℕ)) where
         first = λ more. line_of_room most_cut_bytes most_cut_bytes taking.line more taking.no_end (sym taking.raw_is.length_is ∙ full) (omega arith);
         one_ended = λ more. ended_of_room most_cut_bytes most_cut_bytes taking.line more taking.no_end (sym taking.raw_is.length_is ∙ full) (omega arith);
       });
+      at_end = still_going new.ended going;
     },
   )
 
@@ -132,6 +129,7 @@ module _ {S : Type 0} (left : S → Option (List ℕ)) where
       bytes = taking.line;
       gives = let all : Gives left old new (taking.line ++ []) = gives_on old mid new taking.line [] taking.gives gives in rw append-nil at all;
       first = inr (last taking.line taking.no_end (rw (sym taking.raw_is.length_is) some) (rw (sym taking.raw_is.length_is) short), at_end);
+      at_end = λ _. at_end;
     },
   )
 
@@ -142,3 +140,17 @@ module _ {S : Type 0} (left : S → Option (List ℕ)) where
       let all : Gives left old new (taking.line ++ []) = gives_on old mid new taking.line [] taking.gives gives in
       let same : taking.line ++ [] ≡ [] = append-nil taking.line ∙ nil in
       (rw same at all, at_end)
+
+  -- where the input ends there is a line if it has a byte
+  pub takes_end : (old mid new : Bytes S) (raw : RawLine) (some : Bool) → some ≡ nat_lt 0 raw.length → IsTaking old mid raw → Gives left mid new [] → IsAtEnd left new → new.ended ≡ true → raw.length < most_cut_bytes
+      → ReadsLine left old new raw (Ok some)
+  takes_end old mid new raw true is taking gives at_end ended short = takes_last old mid new raw taking gives at_end (above is) short
+    where
+      above : true ≡ nat_lt 0 raw.length → 0 < raw.length
+      above e = grind (arith, common_steps)
+  takes_end old mid new raw false is taking gives at_end ended short =
+      let none = takes_none old mid new raw taking gives at_end (zero is) in
+      (none.0, none.1, ended)
+    where
+      zero : false ≡ nat_lt 0 raw.length → raw.length ≡ 0
+      zero e = grind (arith, common_steps)

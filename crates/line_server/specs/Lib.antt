@@ -1,6 +1,8 @@
 pub mod Limits
 pub mod Cut
+pub mod Ends
 pub mod Reader
+pub mod Front
 pub mod Raw
 pub mod Given
 pub mod Taken

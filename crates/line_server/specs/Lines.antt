@@ -1,8 +1,9 @@
 -- What contracts see of a reader of lines.
-use Rattle.std.specs.Prelude.{◌≡◌, ◌≤◌, ◌⊎◌, ℕ, List, [], ◌∷◌, ◌++◌, Option, Some, None, Result, Ok, Err, OnOk, min, length}
+use Rattle.std.specs.Prelude.{◌≡◌, ◌≤◌, ◌⊎◌, ℕ, List, [], ◌∷◌, ◌++◌, Bool, true, false, Option, Some, None, Result, Ok, Err, OnOk, min, length}
 use Rattle.do_disk.specs.Disk.{IfTold}
 use Rattle.line_server.specs.Requests.{SeenLine, requests, through}
 use Rattle.line_server.specs.Cut.{lines as lines_of}
+use Rattle.line_server.specs.Given.{IsAtEnd}
 use Rattle.line_server.specs.Going.{HasGiven, HasLookedAt, HasReadAll, GoesOn}
 use Rattle.line_server.specs.Seen.{seen}
 use Rattle.line_server.specs.declared.fault.LineFault.{LineFault}
@@ -40,10 +41,20 @@ module _ {S : Type 0} where
   abbrev pub fault_of : Lines S → Option LineFault
   fault_of lines = lines.fault
 
+  -- the bytes that were read and not given yet
+  abbrev pub held_of : Lines S → List ℕ
+  held_of lines = lines.bytes.buffer
+
+  -- whether a read gave no byte, so that nothing more is read
+  abbrev pub has_ended : Lines S → Bool
+  has_ended lines = lines.bytes.ended
+
 module _ {S : Type 0} (left : S → Option (List ℕ)) where
-  -- It stands at no fault, and it has given these lines of the whole input, which goes on with the lines still to come.
+  -- It stands at no fault, and it has given these lines of the whole input, which goes on with the lines still to come. Where it
+  -- reads no more, nothing is left.
   abbrev pub IsReading : List ℕ → List SeenLine → Lines S → Type 0
-  IsReading whole given lines = (lines.fault ≡ None) × GoesOn whole given lines.count lines.bytes.buffer (left lines.bytes.source)
+  IsReading whole given lines =
+      (lines.fault ≡ None) × GoesOn whole given lines.count lines.bytes.buffer (left lines.bytes.source) × (has_ended lines ≡ true → IsAtEnd left lines.bytes)
 
   -- The lines given are the first ones of the bytes that its source was read of.
   abbrev pub IsFirstOf : List ℕ → List SeenLine → Lines S → Type 0
@@ -65,5 +76,6 @@ module _ {S : Type 0} (left : S → Option (List ℕ)) where
     pub exact : result ≡ Err ReadFailed → (whole : List ℕ) (given : List SeenLine) → IsReading whole given old → IsAllRead whole given new
     pub all : result ≡ Ok None → (whole : List ℕ) (given : List SeenLine) → IsReading whole given old → given ≡ through most_lines (requests whole)
     pub total : result ≡ Ok None → (whole : List ℕ) (given : List SeenLine) → IsReading whole given old → count_of new ≡ min most_lines (length (lines_of whole))
-    pub end : result ≡ Ok None → (count_of new ≡ most_lines) ⊎ IfTold (left (source_of new)) (λ rest. rest ≡ [])
+    pub end : result ≡ Ok None → (count_of new ≡ most_lines) ⊎ (has_ended new ≡ true)
+    pub met_end : has_ended old ≡ false → has_ended new ≡ true → IfTold (left (source_of new)) (λ rest. rest ≡ [])
     pub count : count_of old ≤ count_of new

@@ -1,11 +1,10 @@
-// A piece of the input, given byte by byte.
-ghost use Rattle.std.specs.Prelude.{◌≡◌, ◌<◌, ◌++◌, [], List, ℕ, None, OnOk, OnErr, length};
+// A piece of the input, given to lines.
+ghost use Rattle.std.specs.Prelude.{◌≡◌, ◌<◌, ◌≤◌, [], List, ℕ, true, false, OnOk, OnErr, length, drop};
 ghost use Rattle.do_disk.specs.Disk.{IfTold};
 ghost use Rattle.line_server.specs.Given.{CountsReads};
-ghost use Rattle.line_server.specs.Reader.{bytes_of, StartsWith};
+ghost use Rattle.line_server.specs.Reader.{StartsWith};
 
 use crate::fault::LineFault;
-use crate::raw_line::is_blank;
 use do_disk::{Failed, Source};
 use do_value::{Mem, NoMemory};
 use std::alloc::Global;
@@ -56,30 +55,27 @@ impl Buffer {
         }
     }
 
-    // Whether it holds a line that isn't blank, with its LF.
-    pub(crate) fn has_line(&self) -> bool {
-        let mut begun = false;
-        for byte in self.bytes[self.at..self.end].iter() {
-            if *byte != b'\n' {
-                begun = begun || !is_blank(*byte);
-            } else if begun {
-                return true;
-            }
-        }
-        false
+    // Whether it holds nothing.
+    pub(crate) fn is_empty(&self) -> bool
+        ensures none { result ≡ true → self.now ≡ [] }
+        ensures some { result ≡ false → 0 < length self.now }
+    {
+        self.at == self.end
     }
 
-    // The next byte that it holds.
-    pub(crate) fn take(&mut self) -> Option<u8>
-        ensures taken { self.old ≡ bytes_of result ++ self.new }
-        ensures none { result ≡ None → self.old ≡ [] }
+    // What it holds.
+    pub(crate) fn held(&self) -> &[u8]
+        ensures { result.now ≡ self.now }
     {
-        if self.at == self.end {
-            return None;
-        }
-        let byte = self.bytes[self.at];
-        self.at += 1;
-        Some(byte)
+        &self.bytes[self.at..self.end]
+    }
+
+    // So many of its bytes are given.
+    pub(crate) fn pass(&mut self, count: usize)
+        requires { count ≤ length self.old }
+        ensures { self.new ≡ drop count self.old }
+    {
+        self.at += count;
     }
 
     // Reads the next piece; none is the input's end.

@@ -6,6 +6,7 @@ mod bytes;
 mod cut;
 mod error_text;
 mod fault;
+mod front;
 mod line;
 mod lines;
 mod out_line;

@@ -1,5 +1,5 @@
 //! The lines of the input.
-ghost use Rattle.std.specs.Prelude.{◌≡◌, ◌<◌, ◌≤◌, ◌⊎◌, ◌++◌, [], List, ℕ, Ok, Err, None, Some, IfOk, IfSome, OnOk, length, min};
+ghost use Rattle.std.specs.Prelude.{◌≡◌, ◌<◌, ◌≤◌, ◌⊎◌, ◌++◌, [], List, ℕ, Ok, Err, None, Some, true, false, IfOk, IfSome, OnOk, length, min};
 ghost use Rattle.do_disk.specs.Disk.{IfTold};
 ghost use Rattle.line_server.specs.Limits.{most_lines};
 
@@ -7,7 +7,9 @@ use crate::MOST_LINES;
 use crate::bytes::Bytes;
 use crate::cut::cut;
 use crate::fault::LineFault;
+use crate::front::has_line;
 use crate::line::Line;
+use crate::raw_line::RawLine;
 use do_disk::Source;
 use std::alloc::Global;
 
@@ -15,6 +17,8 @@ use std::alloc::Global;
 pub struct Lines<R> {
     alloc: Global,
     bytes: Bytes<R>,
+    // The line that was read last, whose memory is that of the next.
+    raw: RawLine,
     count: u64,
     fault: Option<LineFault>,
     ghost counted: { count ≤ most_lines },
@@ -26,19 +30,22 @@ impl<R: Drop> Drop for Lines<R> {
         let Lines {
             alloc: _,
             bytes,
+            raw,
             count: _,
             fault,
         } = self;
         drop(bytes);
+        drop(raw);
         drop(fault);
     }
 }
 
 impl<R: Source> Lines<R> {
     ghost use Rattle.line_server.specs.Cut.{lines as all_lines};
+    ghost use Rattle.line_server.specs.Ends.{has_line as ends_line};
     ghost use Rattle.line_server.specs.Given.{CountsReads};
     ghost use Rattle.line_server.specs.Requests.{SeenLine, requests, through};
-    ghost use Rattle.line_server.specs.Lines.{lines_in, fault_in, source_of, count_of, fault_of, most_left, IsReading, IsFirstOf, LooksAt, IsAllRead, ReadsOn};
+    ghost use Rattle.line_server.specs.Lines.{lines_in, fault_in, source_of, count_of, fault_of, has_ended, held_of, most_left, IsReading, IsFirstOf, LooksAt, IsAllRead, ReadsOn};
 
     /// The lines of the source from its first byte on. It takes no memory and reads nothing.
     pub fn new(alloc: Global, source: R) -> Lines<R>
@@ -46,17 +53,20 @@ impl<R: Source> Lines<R> {
         ensures source { source_of result ≡ source }
         ensures count { count_of result ≡ 0 }
         ensures fault { fault_of result ≡ None }
+        ensures ended { has_ended result ≡ false }
     {
         Lines {
             alloc,
             bytes: Bytes::new(alloc, source),
+            raw: RawLine::new(alloc),
             count: 0,
             fault: None,
         }
     }
 
     /// The next line that isn't blank. `None` comes at the input's end and after line [`MOST_LINES`]. After a fault every
-    /// further call gives that fault and reads nothing.
+    /// further call gives that fault and reads nothing. Once a read gave no byte the source isn't read any more, also where
+    /// `next` is called again.
     pub fn next(&mut self) -> Result<Option<Line>, LineFault>
         ensures reading { OnOk result ((whole : List ℕ) (given : List SeenLine) → IsReading R.left whole given self.old
             → IsReading R.left whole (given ++ lines_in result) self.new) }
@@ -71,7 +81,9 @@ impl<R: Source> Lines<R> {
             → given ≡ through most_lines (requests whole) }
         ensures total { result ≡ Ok None → (whole : List ℕ) (given : List SeenLine) → IsReading R.left whole given self.old
             → count_of self.new ≡ min most_lines (length (all_lines whole)) }
-        ensures end { result ≡ Ok None → (count_of self.new ≡ most_lines) ⊎ IfTold (R.left (source_of self.new)) (λ rest. rest ≡ []) }
+        ensures end { result ≡ Ok None → (count_of self.new ≡ most_lines) ⊎ (has_ended self.new ≡ true) }
+        ensures met_end { has_ended self.old ≡ false → has_ended self.new ≡ true → IfTold (R.left (source_of self.new)) (λ rest. rest ≡ []) }
+        ensures ended { has_ended self.old ≡ true → fault_of self.old ≡ None → (result ≡ Ok None) × (self.new ≡ self.old) }
         ensures number { IfOk result (λ o. IfSome o (λ line. line.number ≡ count_of self.new)) }
         ensures further { IfOk result (λ o. IfSome o (λ line. count_of self.old < count_of self.new)) }
         ensures count { (count_of self.old ≤ count_of self.new) × (count_of self.new ≤ most_lines) }
@@ -91,10 +103,12 @@ impl<R: Source> Lines<R> {
         }
     }
 
-    /// Whether a line that isn't blank is at hand as a whole: then `next` asks the source for nothing, which no clause says. It costs a look at
-    /// the bytes that are held, to that line's end at most.
-    pub fn is_ready(&self) -> bool {
-        self.bytes.buffer.has_line()
+    /// Whether a line that isn't blank is at hand as a whole: then `next` asks the source for nothing, which no clause says. It costs a look
+    /// at the bytes that are held, to that line's end at most.
+    pub fn is_ready(&self) -> bool
+        ensures { result ≡ ends_line (held_of self.now) }
+    {
+        has_line(self.bytes.buffer.held())
     }
 
     /// How many lines were read, blank ones included.
@@ -111,11 +125,17 @@ impl<R: Source> Lines<R> {
     {
         let Lines {
             alloc: _,
-            bytes: Bytes { source, buffer },
+            bytes: Bytes {
+                source,
+                buffer,
+                ended: _,
+            },
+            raw,
             count: _,
             fault: _,
         } = self;
         drop(buffer);
+        drop(raw);
         source
     }
 
@@ -125,19 +145,27 @@ impl<R: Source> Lines<R> {
         ensures number { IfOk result (λ o. IfSome o (λ line. line.number ≡ count_of self.new)) }
         ensures further { IfOk result (λ o. IfSome o (λ line. count_of self.old < count_of self.new)) }
         ensures fault { fault_of self.new ≡ None }
+        ensures ended { has_ended self.old ≡ true → (result ≡ Ok None) × (self.new ≡ self.old) }
         ensures reads { CountsReads (R.faults_of (source_of self.old)) (R.faults_of (source_of self.new)) result }
     {
+        if self.bytes.ended {
+            return Ok(None);
+        }
         while self.count < MOST_LINES {
-            let Some(raw) = cut(self.alloc, &mut self.bytes)? else {
+            let some = cut(&mut self.bytes, &mut self.raw)?;
+            if !some {
                 return Ok(None);
-            };
+            }
             self.count += 1;
-            if !raw.blank {
-                let body = raw.body(self.alloc)?;
+            if !self.raw.blank {
+                let body = self.raw.body(self.alloc)?;
                 return Ok(Some(Line {
                     number: self.count,
                     body,
                 }));
+            }
+            if self.bytes.ended {
+                return Ok(None);
             }
         }
         Ok(None)

@@ -1,9 +1,10 @@
 // A line as it is read, of which no more is kept than the limit allows.
-ghost use Rattle.std.specs.Prelude.{◌≡◌, ◌+◌, ◌<◌, ◌≤◌, ◌^◌, ◌++◌, ◌∷◌, [], List, ℕ, OnOk, IfOk, IsTrue, take, vec_len};
-ghost use Rattle.line_server.specs.Cut.{is_blank_byte};
+ghost use Rattle.std.specs.Prelude.{◌≡◌, ◌+◌, ◌<◌, ◌≤◌, ◌^◌, ◌++◌, [], List, ℕ, OnOk, IfOk, IsTrue, length, take, vec_len};
+ghost use Rattle.line_server.specs.Cut as spec;
 ghost use Rattle.line_server.specs.Limits.{most_line_bytes};
 
 use crate::MOST_LINE_BYTES;
+use crate::front::fitting;
 use crate::read_line::read_body;
 use crate::refusal::Refusal;
 use crate::request::Request;
@@ -36,14 +37,25 @@ impl RawLine {
         }
     }
 
-    pub(crate) fn push(&mut self, byte: u8) -> Result<(), AllocError>
-        requires { self.old.length + 1 < 2 ^ 64 }
-        ensures more { OnOk result ((line : List ℕ) → IsRaw line self.old → IsRaw (line ++ byte ∷ []) self.new) }
-        ensures length { OnOk result (self.new.length ≡ self.old.length + 1) }
+    // It has no byte any more. Its memory stays.
+    pub(crate) fn clear(&mut self)
+        ensures raw { IsRaw [] self.new }
+        ensures length { self.new.length ≡ 0 }
     {
-        keep(&mut self.kept, byte)?;
-        self.length += 1;
-        self.blank &= is_blank(byte);
+        self.kept.clear();
+        self.length = 0;
+        self.blank = true;
+    }
+
+    // It has these bytes too. Where memory is wanting it stays.
+    pub(crate) fn add(&mut self, bytes: &[u8]) -> Result<(), AllocError>
+        requires { self.old.length + length bytes.now < 2 ^ 64 }
+        ensures more { OnOk result ((line : List ℕ) → IsRaw line self.old → IsRaw (line ++ bytes.now) self.new) }
+        ensures length { OnOk result (self.new.length ≡ self.old.length + length bytes.now) }
+    {
+        keep(&mut self.kept, bytes)?;
+        self.length += bytes.len() as u64;
+        self.blank &= are_blank(bytes);
         Ok(())
     }
 
@@ -59,22 +71,27 @@ impl RawLine {
     }
 }
 
-// Adds the byte unless there are as many as are read.
-fn keep(kept: &mut Vec<u8>, byte: u8) -> Result<(), AllocError>
+// Adds the bytes, but for those past as many as are read.
+fn keep(kept: &mut Vec<u8>, bytes: &[u8]) -> Result<(), AllocError>
     requires { vec_len kept.old ≤ most_line_bytes }
-    ensures kept { OnOk result (kept.new.items ≡ take most_line_bytes (kept.old.items ++ byte ∷ [])) }
+    ensures kept { OnOk result (kept.new.items ≡ take most_line_bytes (kept.old.items ++ bytes.now)) }
     ensures bounded { vec_len kept.new ≤ most_line_bytes }
 {
-    if kept.len() as u64 >= MOST_LINE_BYTES {
-        return Ok(());
-    }
-    kept.push(byte)?;
+    let room = MOST_LINE_BYTES as usize - kept.len();
+    kept.extend_from_slice(fitting(bytes, room))?;
     Ok(())
+}
+
+// Whether a line of these bytes is blank.
+fn are_blank(bytes: &[u8]) -> bool
+    ensures { result ≡ spec.is_blank bytes.now }
+{
+    bytes.iter().all(|byte| is_blank(*byte))
 }
 
 // Whether a line with this byte may still be blank.
 pub(crate) fn is_blank(byte: u8) -> bool
-    ensures { result ≡ is_blank_byte byte }
+    ensures { result ≡ spec.is_blank_byte byte }
 {
     matches!(byte, b' ' | b'\t' | b'\r')
 }

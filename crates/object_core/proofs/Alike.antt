@@ -15,11 +15,11 @@ use Rattle.front_turns.specs.declared.object.Held.{Held}
 use Rattle.front_turns.specs.declared.object.Object.{Object}
 use Rattle.front_turns.specs.declared.object.State.{State}
 use Rattle.front_turns.specs.declared.object.State.TheVariants as state
-use Rattle.object_front.specs.Standing.{Stood, IsHalf, IsClass, IsMode}
-use Rattle.object_front.specs.Taking.{may_enter, waits, waits_in}
-use Rattle.object_front.specs.declared.half.Half.{Half}
-use Rattle.object_front.specs.declared.half.Mode.{Mode as HeldMode}
-use Rattle.object_front.specs.declared.half.Mode.TheVariants as held
+use Rattle.front_half.specs.Standing.{Stood, IsHalf, IsClass, IsMode}
+use Rattle.front_half.specs.Taking.{may_enter, waits, waits_in}
+use Rattle.front_half.specs.declared.half.Half.{Half}
+use Rattle.front_half.specs.declared.half.Mode.{Mode as HeldMode}
+use Rattle.front_half.specs.declared.half.Mode.TheVariants as held
 
 -- Tasks that are held alike have their blocks open alike.
 found : (here : Bool) (t u : OpenTask) (x y : Option OpenTask) → t.block ≡ u.block → has_block x ≡ has_block y

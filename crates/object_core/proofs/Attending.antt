@@ -9,12 +9,12 @@ use Rattle.timeline.specs.Logs.{Fronted, fronted}
 use Rattle.timeline.specs.declared.entry.Entry.{Entry}
 use Rattle.timeline.specs.declared.event.Event.{Event}
 use Rattle.timeline.specs.declared.notice.Notice.{Notice}
-use Rattle.object_front.proofs.Intakes.{front_after-snoc}
+use Rattle.front_half.proofs.Intakes.{front_after-snoc}
 use Rattle.object_front.specs.Evaluated.{seen}
-use Rattle.object_front.specs.Standing.{Stood, IsClass, IsTakenBy, is_stopped, kind_in}
-use Rattle.object_front.specs.Turning.{Turns}
+use Rattle.front_half.specs.Standing.{Stood, IsClass, IsTakenBy, is_stopped, kind_in}
+use Rattle.front_half.specs.Turning.{Turns}
 use Rattle.object_front.specs.declared.evaluated.Evaluated.{Evaluated}
-use Rattle.object_front.specs.declared.half.Half.{Half}
+use Rattle.front_half.specs.declared.half.Half.{Half}
 use Rattle.object_history.proofs.Fitting.{notices_fit}
 use Rattle.object_history.proofs.Growing.{logs_grow}
 use Rattle.object_history.proofs.WellSaid.{delivers_well, answers_well}

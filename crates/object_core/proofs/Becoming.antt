@@ -27,13 +27,13 @@ use Rattle.timeline.specs.declared.notice.Notice.TheVariants as notice
 use Rattle.object_front.specs.Came.{events, kept, wanting}
 use Rattle.object_front.specs.Classed.{class_behind}
 use Rattle.object_front.specs.Evaluated.{seen}
-use Rattle.object_front.specs.Standing.{Stood, IsHalf, IsTakenBy, fresh, kind_in}
-use Rattle.object_front.specs.Taking.{Led, IsLedBy, fits, sticks_at, at_down, at_mode, class_after, delivers_to, does, due_at, leads, on_event, stale, waits, without}
-use Rattle.object_front.specs.Turning.{IsEntered, IsTaken}
+use Rattle.front_half.specs.Standing.{Stood, IsHalf, IsTakenBy, fresh, kind_in}
+use Rattle.front_half.specs.Taking.{Led, IsLedBy, fits, sticks_at, at_down, at_mode, class_after, delivers_to, does, due_at, leads, on_event, stale, waits, without}
+use Rattle.front_half.specs.Turning.{IsEntered, IsTaken}
 use Rattle.object_front.specs.declared.evaluated.Evaluated.{Evaluated}
-use Rattle.object_front.specs.declared.half.Half.{Half}
+use Rattle.front_half.specs.declared.half.Half.{Half}
 use Rattle.object_history.specs.Pair.{Held, IsPair, IsSilentAt, Rear, Stand, Together, answered, falls, halts, mends, misses, silent, syncs, unreached, wants}
-use Rattle.object_front.specs.Kinds.{is_call}
+use Rattle.front_half.specs.Kinds.{is_call}
 use Rattle.object_core.proofs.Sticking.{first_there}
 use Rattle.object_history.specs.Stepping as back
 use Rattle.object_messages.specs.Dropped.{DropsAreAnswered}

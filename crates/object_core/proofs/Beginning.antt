@@ -14,11 +14,11 @@ use Rattle.timeline.specs.declared.entry.Entry.{Entry}
 use Rattle.timeline.specs.declared.event.Event.{Event}
 use Rattle.timeline.specs.declared.message.Message.{Message as Sent}
 use Rattle.timeline.specs.declared.notice.Notice.{Notice}
-use Rattle.object_front.specs.Standing.{IsTakenBy, kind_in, fresh, nothing_logged}
+use Rattle.front_half.specs.Standing.{IsTakenBy, kind_in, fresh, nothing_logged}
 use Rattle.object_front.specs.Came.{EventsCome}
 use Rattle.object_front.specs.Classed.{class_by}
 use Rattle.object_front.specs.declared.evaluated.Evaluated.{Evaluated}
-use Rattle.object_front.specs.declared.half.Half.{Half}
+use Rattle.front_half.specs.declared.half.Half.{Half}
 use Rattle.output_gate.specs.Serving.{IsBack, IsBackAs}
 use Rattle.output_gate.specs.Telling.{opened_map}
 use Rattle.output_gate.specs.declared.back.Back.{Back}
@@ -27,6 +27,7 @@ use Rattle.output_gate.specs.declared.held.Held.{Held as BackHeld}
 use Rattle.object_history.specs.Seen.{held_of, stand_of}
 use Rattle.front_history.specs.Turns.{FrontBegins}
 use Rattle.object_core.proofs.Due.{seen_is_rear}
+use Rattle.object_core.proofs.Dropping.{none_said}
 use Rattle.object_core.proofs.Rebuilding.{One, due_now}
 use Rattle.object_core.specs.Dropping.{IsFitFor, MayDrop}
 use Rattle.object_core.specs.Fitting.{known_over}
@@ -97,6 +98,7 @@ module _ {D : Type 0} (moment_of : D → ℕ) (left_since : D → ℕ → List �
     limited = record { kept = refl; journal = are.limit; full = λ stop has. no_stop stop (ap (λ (x : Backed). x.stops) are.back_log) has };
     drops = λ tells. record {
       unbound = λ on none. (ap (λ (x : Option ℕ). fresh x back.cache.alarm) none, ap (λ (x : Fronted). x.sent) are.front_log);
+      unsaid = λ none. none_said (fronted front.log) are.front_log;
       keeps = λ on class is. All-nil (IsFitFor script class);
       class = λ on fit. refl;
       dropped = λ fit. subst (λ (x : Fronted). All (MayDrop x back.log.downs.items) x.dropped) (sym are.front_log) (All-nil (MayDrop nothing_logged back.log.downs.items));

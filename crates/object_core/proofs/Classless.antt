@@ -1,5 +1,5 @@
--- A front that got nothing but answers was delivered nothing, and so has sent no message; and one without a class that got nothing has taken
--- nothing, so that nothing passes and nothing is left.
+-- A front that got nothing but answers was delivered nothing, and so has sent no message. One without a class by its log has said nothing, so
+-- that nothing passes; and one without a class that got nothing has taken nothing, so that nothing is left.
 use Rattle.std.proofs.Common.{◌≡◌, ◌∙◌, sym, refl, ap, subst, ℕ, zero, suc, List, [], ◌∷◌, ◌++◌, map, length, arith, Option, None}
 use Rattle.std.proofs.lemmas.List.Elements.{All-contains, All-contains_itself, All-weaker, Contains-append_left, Contains-append_right, Contains-push}
 use Rattle.std.proofs.lemmas.List.Sorted.{Contains-permutation, IsPermutation-sym}
@@ -16,20 +16,22 @@ use Rattle.timeline.specs.declared.entry.Entry.{Entry}
 use Rattle.timeline.specs.declared.event.Event.{Event}
 use Rattle.timeline.specs.declared.message.Message.{Message as Sent}
 use Rattle.object_front.specs.Came.{events, kept}
-use Rattle.object_front.specs.Classed.{class_behind}
-use Rattle.object_front.specs.Remaining.{left_at}
-use Rattle.object_front.specs.Standing.{fresh, is_stopped, kind_in}
+use Rattle.object_front.specs.Classed.{class_behind, class_by}
+use Rattle.front_half.specs.Remaining.{left_at}
+use Rattle.front_half.specs.Standing.{fresh, is_stopped, kind_in}
 use Rattle.output_gate.specs.Serving as serving
 use Rattle.output_gate.specs.Telling.{opened_map}
 use Rattle.object_messages.proofs.Unmoved.{answers_move_nothing}
 use Rattle.object_messages.specs.Naming.{messages_of}
 use Rattle.object_messages.specs.Unmoved.{AreAnswers, is_answer}
 use Rattle.object_core.proofs.Alike.{class_for}
+use Rattle.object_core.proofs.Dropping.{none_stopped}
 use Rattle.object_core.proofs.Emptied.{all_durable}
 use Rattle.object_core.proofs.Owing.{messages_begin}
 use Rattle.object_core.proofs.Telling.{has_told}
 use Rattle.object_core.proofs.Unmoved.{first_of_none, no_events}
-use Rattle.object_core.specs.Classless.{IsUnmoved}
+use Rattle.object_core.specs.Classless.{HasDoneNothing, IsUnmoved}
+use Rattle.object_core.specs.Dropping.{HasSaidNothing}
 use Rattle.object_core.specs.Laws.{HasLetGo, HasNothingToDo}
 use Rattle.object_core.specs.One.{IsOne, Origin, TellsNow, class_in}
 use Rattle.object_core.specs.declared.object.Core.{Core}
@@ -90,6 +92,24 @@ module _ {D : Type 0} (moment_of : D → ℕ) (left_since : D → ℕ → List �
       let begun = messages_begin log.sent said_so (pair.unsent, pair.by.sent) in
       first_of_none (messages_of log.sent) begun.0 (begun.1 ∙ nothing)
 
+  -- Of what wasn't sent nothing was taken, and so nothing was released.
+  passed_none : back.taken ≡ [] → passed (history log back) ≡ []
+  passed_none none = none_passes log back (suc (length back.stops)) none
+
+  pub has_done_nothing : TellsNow told core.back → class_by script (class_in script origin.object) log ≡ None → HasDoneNothing log back
+  has_done_nothing tells none =
+      let said : HasSaidNothing log = (one.drops tells).unsaid none in
+      let taken_none : back.taken ≡ [] =
+      first_of_none back.taken one.lost (first_of_none (back.taken ++ one.lost) core.line.waiting (sym one.is_line ∙ said.sent)) in
+      record {
+        said = said;
+        taken = taken_none;
+        released =
+            none_begins release_of back.released (map pass_of (passed (history log back)))
+            (has_told moment_of left_since told image faults_of core script origin one tells.0 tells.1 tells.2).passes (ap (map pass_of) (passed_none taken_none));
+        stops = none_stopped moment_of left_since told image faults_of origin.start origin.opening _ core.back one.back_stands taken_none;
+      }
+
   module _ (tells : TellsNow told core.back) (none : class_in script origin.object ≡ None) (got : core.inbox.got ≡ []) (on : is_stopped core.front.half ≡ false)
       (nothing : HasNothingToDo script core) (none_left : origin.left ≡ []) where
     none_came : come ≡ []
@@ -113,31 +133,21 @@ module _ {D : Type 0} (moment_of : D → ℕ) (left_since : D → ℕ → List �
     kept_none : kept one.st ≡ []
     kept_none = first_of_none (kept one.st) one.has_got.lost (second_of_none log.dropped _ dropped_on)
 
-    -- Its class is none, so that it stands fresh and has sent nothing.
-    class_none : one.st.class ≡ None
-    class_none =
-        one.classed.now on ∙ ap (λ (items : List (ℕ × Event)). class_behind script (class_in script origin.object) (events items)) delivered_none ∙ none
+    -- Its class is none, so that it stands fresh and has done nothing.
+    class_none : class_by script (class_in script origin.object) log ≡ None
+    class_none = ap (λ (items : List (ℕ × Event)). class_behind script (class_in script origin.object) (events items)) delivered_none ∙ none
 
-    stands_fresh : (one.st ≡ fresh None one.alarm) × (core.front.half.log.sent.items ≡ [])
-    stands_fresh = (one.drops tells).unbound on class_none
+    did_nothing : HasDoneNothing log back
+    did_nothing = has_done_nothing tells class_none
 
-    taken_none : back.taken ≡ []
-    taken_none =
-        first_of_none back.taken one.lost (first_of_none (back.taken ++ one.lost) core.line.waiting (sym one.is_line ∙ stands_fresh.1))
-
-    passed_none : passed (history log back) ≡ []
-    passed_none = none_passes log back (suc (length back.stops)) taken_none
-
-    released_none : back.released ≡ []
-    released_none =
-        none_begins release_of back.released (map pass_of (passed (history log back)))
-        (has_told moment_of left_since told image faults_of core script origin one tells.0 tells.1 tells.2).passes (ap (map pass_of) passed_none)
+    stands_fresh : one.st ≡ fresh None one.alarm
+    stands_fresh = ((one.drops tells).unbound on (one.classed.now on ∙ class_none)).0
 
     has_let_go : HasLetGo log back (sent_on core.out)
     has_let_go = record {
-      taken = taken_none ∙ sym stands_fresh.1;
+      taken = did_nothing.taken ∙ sym did_nothing.said.sent;
       durable = all_durable moment_of left_since told image faults_of origin.start origin.opening (not (serving.is_stopped core.back)) log core.back one.back_stands nothing.flush;
-      released = ap (map release_of) released_none ∙ sym (ap (map pass_of) passed_none);
+      released = ap (map release_of) did_nothing.released ∙ sym (ap (map pass_of) (passed_none did_nothing.taken));
       left = sym (one.left ∙ ap (λ (left : List Sent). left ++ sent_on core.out) none_left);
     }
 
@@ -147,6 +157,8 @@ module _ {D : Type 0} (moment_of : D → ℕ) (left_since : D → ℕ → List �
       delivered = delivered_none;
       downed = no_events log.downed (first_of_none (events log.downed) _ behind);
       dropped = first_of_none log.dropped _ dropped_on;
+      sent = did_nothing.said.sent;
+      taken = did_nothing.taken;
       kept = kept_none;
-      left = ap (left_at script) stands_fresh.0;
+      left = ap (left_at script) stands_fresh;
     }

@@ -10,7 +10,7 @@ use Rattle.timeline.specs.declared.message.Message.{Message as Sent}
 use Rattle.timeline.specs.declared.notice.Notice.{Notice}
 use Rattle.object_front.specs.Came.{HasGot}
 use Rattle.object_front.specs.declared.evaluated.Evaluated.{Evaluated}
-use Rattle.object_front.specs.declared.half.Half.{Half}
+use Rattle.front_half.specs.declared.half.Half.{Half}
 use Rattle.output_gate.specs.declared.back.Back.{Back}
 use Rattle.object_core.specs.Dropping.{IsDropping}
 use Rattle.object_core.specs.One.{IsOneOf, Origin, SticksAtAnswers, class_in}

@@ -17,15 +17,16 @@ use Rattle.timeline.specs.declared.caller.Cause.{Cause}
 use Rattle.timeline.specs.declared.entry.Entry.{Entry}
 use Rattle.timeline.specs.declared.event.Event.{Event}
 use Rattle.timeline.specs.declared.notice.Notice.{Notice}
+use Rattle.object_front.proofs.Classes.{grown_class}
 use Rattle.object_front.proofs.Coming.{grown_by}
 use Rattle.object_front.specs.Came.{events, kept}
-use Rattle.object_front.specs.Classed.{class_behind}
+use Rattle.object_front.specs.Classed.{IsClassed, class_behind, class_by}
 use Rattle.object_front.specs.Evaluated.{seen}
-use Rattle.object_front.specs.Standing.{Stood, IsClass, IsHalf, IsTakenBy, fresh, is_stopped, kind_in}
-use Rattle.object_front.specs.Taking.{Led, class_after}
-use Rattle.object_front.specs.Turning.{Halts, IsTaken, TakesDeferred, TakesEvent, Turns}
+use Rattle.front_half.specs.Standing.{Stood, IsClass, IsCutShort, IsHalf, IsTakenBy, fresh, is_stopped, kind_in, nothing_logged}
+use Rattle.front_half.specs.Taking.{Led, class_after}
+use Rattle.front_half.specs.Turning.{Halts, IsTaken, TakesDeferred, TakesEvent, Turns}
 use Rattle.object_front.specs.declared.evaluated.Evaluated.{Evaluated}
-use Rattle.object_front.specs.declared.half.Half.{Half}
+use Rattle.front_half.specs.declared.half.Half.{Half}
 use Rattle.output_gate.specs.Ended.{AreInOrder, newest_of}
 use Rattle.output_gate.specs.Serving.{IsBackAs}
 use Rattle.output_gate.specs.declared.back.Back.{Back}
@@ -34,7 +35,7 @@ use Rattle.object_history.specs.Stepping as back
 use Rattle.object_history.specs.Stepping.{BackSteps}
 use Rattle.object_messages.specs.Dropped.{DropsAreAnswered}
 use Rattle.object_core.proofs.Becoming.{StartsBy, behind_last, class_stays, ends_more, fitting_first, fitting_last, may_downs, may_more, pair_silent, taken_class, taken_keeps, taken_may, taken_starts}
-use Rattle.object_core.specs.Dropping.{AreFitting, IsDropping, IsFitFor, MayDrop}
+use Rattle.object_core.specs.Dropping.{AreFitting, HasSaidNothing, IsDropping, IsFitFor, MayDrop}
 
 -- A class that some front has isn't another, nor none.
 some_not : {A : Type 0} (class : Option ℕ) (c : ℕ) → class ≡ Some c → class ≡ None → A
@@ -43,13 +44,28 @@ some_not class c is none = absurd (true≢false (sym (ap is_some is) ∙ ap is_s
 same_some : (class : Option ℕ) (c other : ℕ) → class ≡ Some c → class ≡ Some other → c ≡ other
 same_some class c other is so = ap (λ (x : Option ℕ). unwrap_or x 0) (sym is ∙ so)
 
+-- Nothing is logged of a front that was just made.
+pub none_said : (log : Fronted) → log ≡ nothing_logged → HasSaidNothing log
+none_said log is = subst HasSaidNothing (sym is) record { delivered = refl; downed = refl; sent = refl; ends = refl }
+
+-- What was logged of all that was taken is so where memory was wanting for none of it.
+all_sent : (k : Kind) (from : intake.Front) (taken : List Taken) (front : intake.Front) (log : Fronted) → IsTakenBy k from taken front log → IsCutShort k from taken log
+all_sent k from taken front log by =
+    record { gate = by.gate; sent = ([], append-nil log.sent ∙ by.sent); delivered = by.delivered; downed = by.downed; ends = by.ends }
+
+-- No more of nothing.
+pub first_none : {X : Type 0} (first rest : List X) → [] ≡ first ++ rest → first ≡ []
+first_none [] rest is = refl
+first_none (x ∷ first) rest is = absurd cc
+
 -- A front that turns: it goes on, or is stopped.
 module _ (laws : DropsAreAnswered) (script : Script) (first : Option ℕ) (class : ℕ) (opened_map : Contents) (alarm : Option (ℤ × ℕ)) (old : Half Evaluated) (st : Stood)
     (rear : Rear) (line : List Entry) (notices : List Notice) (taken : List Taken) (half : IsHalf seen script old st)
     (pair : IsPair (kind_in script class) opened_map st.front (fronted old.log) rear line notices)
     (by : IsTakenBy (kind_in script class) (opened alarm) taken st.front (fronted old.log)) (on : is_stopped old ≡ false)
     (before got : List Event) (got_before got_now told later : List Notice) (way : got_before ++ notices ≡ got_now ++ later)
-    (drops : IsDropping script first alarm old st rear.log.downs before) (none_ended : old.log.sent.items ≡ [] → rear.log.stops ≡ []) where
+    (drops : IsDropping script first alarm old st rear.log.downs before) (none_ended : old.log.sent.items ≡ [] → rear.log.stops ≡ [])
+    (classed : IsClassed script first old st) where
   abbrev k : Kind
   k = kind_in script class
 
@@ -104,6 +120,30 @@ module _ (laws : DropsAreAnswered) (script : Script) (first : Option ℕ) (class
       (All-weaker (MayDrop was rear.log.downs) (MayDrop new rear.log.downs) goes was.dropped (drops.dropped (fitting_before led t fit)))
       (All-weaker (MayDrop was rear.log.downs) (MayDrop new rear.log.downs) goes led.dropped (led_may led t fit)))
 
+  -- A log that has no class behind this: nothing was taken, and nothing was said before.
+  logs_unsaid : (new : Fronted) (led : Led) → IsTaken script st before got got_before got_now told led → IsCutShort k (opened alarm) (taken ++ led.item) new
+      → class_by script first new ≡ None → HasSaidNothing new
+  logs_unsaid new led t cut none = by_class st.class refl
+    where
+      class_then : led.stood.class ≡ None
+      class_then =
+          grown_class script k first (opened alarm) taken st before got got_before got_now told led (fronted old.log) new t by cut.delivered (classed.now on) ∙ none
+
+      by_class : (x : Option ℕ) → st.class ≡ x → HasSaidNothing new
+      by_class (Some c) so = some_not led.stood.class c (taken_class script c st before got got_before got_now told led t so) class_then
+      by_class None so =
+          let was : HasSaidNothing (fronted old.log) = drops.unsaid (sym (classed.now on) ∙ so) in
+          let s = starts led t so in
+          let r = s.2.rests class_then in
+          let same : taken ++ led.item ≡ taken = ap (λ (item : List Taken). taken ++ item) r.1 ∙ append-nil taken in
+          let none_sent : intake.sent_by k (opened alarm) (taken ++ led.item) ≡ [] = ap (intake.sent_by k (opened alarm)) same ∙ sym by.sent ∙ was.sent in
+          record {
+            delivered = cut.delivered ∙ ap (intake.delivered_in k (opened alarm)) same ∙ sym by.delivered ∙ was.delivered;
+            downed = cut.downed ∙ ap (intake.downed_in k (opened alarm)) same ∙ sym by.downed ∙ was.downed;
+            sent = first_none new.sent cut.sent.0 (sym (cut.sent.1 ∙ none_sent));
+            ends = cut.ends ∙ ap (ends_in k (opened alarm)) same ∙ sym by.ends ∙ was.ends;
+          }
+
   pub turn_drops : (new : Half Evaluated) (turns : Turns seen script old new st before got got_before got_now told) → IsClass turns.led.stood.class class
       → IsDropping script first alarm new turns.led.stood rear.log.downs got
   turn_drops new turns is =
@@ -111,6 +151,7 @@ module _ (laws : DropsAreAnswered) (script : Script) (first : Option ℕ) (class
       let now = turns.moves.taken class (opened alarm) taken is by in
       record {
         unbound = λ on_then none. unbound_as none now.sent st.class refl;
+        unsaid = λ none. logs_unsaid (fronted new.log) led turns.taken (all_sent k (opened alarm) (taken ++ led.item) led.stood.front (fronted new.log) now) none;
         keeps = λ on_then c so. keeps_as c so st.class refl;
         class = λ on_then fit. class_as fit st.class refl;
         dropped = λ fit. all_may (fronted new.log) led turns.taken now.delivered now.ends turns.moves.dropped fit;
@@ -161,6 +202,10 @@ module _ (laws : DropsAreAnswered) (script : Script) (first : Option ℕ) (class
       → IsDropping script first alarm new stops.led.stood rear.log.downs got
   halt_drops new stops is = record {
     unbound = λ on_then none. absurd (true≢false (sym stops.stops.stopped ∙ on_then));
+    unsaid = λ none. ⊎_elim
+        (λ (same : fronted new.log ≡ fronted old.log). subst HasSaidNothing (sym same) (drops.unsaid (ap (class_by script first) (sym same) ∙ none)))
+        (λ cut. logs_unsaid (fronted new.log) stops.led stops.taken (cut.1 class (opened alarm) taken is by) none)
+        stops.stops.cut;
     keeps = λ on_then c so. absurd (true≢false (sym stops.stops.stopped ∙ on_then));
     class = λ on_then fit. absurd (true≢false (sym stops.stops.stopped ∙ on_then));
     dropped = λ fit. ⊎_elim
@@ -182,6 +227,7 @@ pub downs_drops : (script : Script) (first : Option ℕ) (alarm : Option (ℤ ×
     → (old ≢ [] → new ≢ []) → IsDropping script first alarm half st old got → IsDropping script first alarm half st new got
 downs_drops script first alarm half st old new got more drops = record {
   unbound = drops.unbound;
+  unsaid = drops.unsaid;
   keeps = drops.keeps;
   class = drops.class;
   dropped = λ fit. All-weaker (MayDrop (fronted half.log) old) (MayDrop (fronted half.log) new) (may_downs (fronted half.log) old new more) half.log.dropped.items
@@ -201,7 +247,7 @@ steps_downs r _ _ _ (back.takes_own e map mounted own) some = some
 steps_downs r _ _ _ (back.takes_down e c map stand own fits_it) some = some
 steps_downs r _ _ _ (back.takes_late e map late) some = some
 steps_downs r _ _ _ (back.flies count map) some = some
-steps_downs r _ _ _ (back.stops stop held map stand less flights is) some = some
+steps_downs r _ _ _ (back.stops stop held map stand less flights by_append is) some = some
 steps_downs r _ _ _ (back.sends release map) some = some
 steps_downs r _ _ _ (back.syncs number needs rest map is) some = some
 steps_downs r _ _ _ (back.halts c needs rest stop end held stand flights is) some = some
@@ -209,10 +255,6 @@ steps_downs r _ _ _ (back.begins c end before map stand) some = some
 steps_downs r _ _ _ (back.misses c counts_before counts_after stand) some = λ none. pushed_not r.log.downs _ none
 
 -- No incarnation has ended of which nothing was taken.
-pub first_none : {X : Type 0} (first rest : List X) → [] ≡ first ++ rest → first ≡ []
-first_none [] rest is = refl
-first_none (x ∷ first) rest is = absurd cc
-
 none_ends : (taken : List Entry) (stops : List Stop) → AreInOrder taken stops → taken ≡ [] → stops ≡ []
 none_ends taken [] ordered none = refl
 none_ends taken (stop ∷ stops) ordered none =

@@ -11,7 +11,7 @@ use Rattle.timeline.specs.declared.back_log.Missed.{Missed}
 use Rattle.timeline.specs.declared.entry.Entry.{Entry}
 use Rattle.timeline.specs.declared.notice.Notice.{Notice}
 use Rattle.timeline.specs.declared.notice.Notice.TheVariants as notice
-use Rattle.object_front.specs.Standing.{nothing_logged}
+use Rattle.front_half.specs.Standing.{nothing_logged}
 use Rattle.output_gate.proofs.Noted.{sound_as}
 use Rattle.output_gate.proofs.Orderly.{is_ordered}
 use Rattle.output_gate.proofs.Telling.{map_is}
@@ -68,7 +68,7 @@ steps_as_due opened r _ _ _ (takes_own e map stand is) due after =
 steps_as_due opened r _ _ _ (takes_down e c map stand is fits) due after = takes_down e c _ stand is fits
 steps_as_due opened r _ _ _ (takes_late e map is) due after = takes_late e _ is
 steps_as_due opened r _ _ _ (flies count map) due after = flies count _
-steps_as_due opened r _ _ _ (stops stop held map stand less flown is_held) due after = stops stop held _ stand less flown is_held
+steps_as_due opened r _ _ _ (stops stop held map stand less flown by_append is_held) due after = stops stop held _ stand less flown by_append is_held
 steps_as_due opened r _ _ _ (sends release map) due after = sends release _
 steps_as_due opened r _ _ _ (syncs number needs rest map is_held) due after = syncs number needs rest _ is_held
 steps_as_due opened r _ _ _ (halts c needs rest stop end is_held stand flown by_halt) due after =
@@ -95,7 +95,7 @@ steps_unheard opened r _ _ _ (takes_own e map stand is) no_halt = (_, takes_own 
 steps_unheard opened r _ _ _ (takes_down e c map stand is fits) no_halt = (_, takes_down e c _ stand is fits)
 steps_unheard opened r _ _ _ (takes_late e map is) no_halt = (_, takes_late e _ is)
 steps_unheard opened r _ _ _ (flies count map) no_halt = (_, flies count _)
-steps_unheard opened r _ _ _ (stops stop held map stand less flown is_held) no_halt = (_, stops stop held _ stand less flown is_held)
+steps_unheard opened r _ _ _ (stops stop held map stand less flown by_append is_held) no_halt = (_, stops stop held _ stand less flown by_append is_held)
 steps_unheard opened r _ _ _ (sends release map) no_halt = (_, sends release _)
 steps_unheard opened r _ _ _ (syncs number needs rest map is_held) no_halt = (_, syncs number needs rest _ is_held)
 steps_unheard opened r _ _ _ (halts c needs rest stop end is_held stand flown by_halt) no_halt =
@@ -119,7 +119,7 @@ module _ {D : Type 0} (moment_of : D → ℕ) (left_since : D → ℕ → List �
       record {
         logs = o.logs;
         followed = followed_as back o back.mode refl;
-        begun = o.missed;
+        begun = λ i m is. (o.missed i m is).within;
         map = λ stand front i older is. due_of (opened_map start) (backed back.log) front i older is;
         owns = o.unflown;
         kept = λ front i older count is kept. (subst KeepsWithin is (o.kept front)) count kept;

@@ -29,10 +29,10 @@ use Rattle.front_history.specs.Turns.{HalvesAreWhole}
 use Rattle.front_turns.specs.Held.{life_in}
 use Rattle.object_front.specs.Came.{AreCome, events, kept}
 use Rattle.object_front.specs.Evaluated.{seen}
-use Rattle.object_front.specs.Kinds.{is_call}
-use Rattle.object_front.specs.Remaining.{left_at, object_at}
-use Rattle.object_front.specs.Standing.{IsHalf, IsTakenBy, Stood, kind_in}
-use Rattle.object_front.specs.Taking.{class_after, waits as stays}
+use Rattle.front_half.specs.Kinds.{is_call}
+use Rattle.front_half.specs.Remaining.{left_at, object_at}
+use Rattle.front_half.specs.Standing.{IsHalf, IsTakenBy, Stood, kind_in}
+use Rattle.front_half.specs.Taking.{class_after, waits as stays}
 use Rattle.object_messages.proofs.FrontsFetching.{IsOwn, answers_own, left_open}
 use Rattle.object_messages.proofs.PassedWhole.{newest_whole}
 use Rattle.object_messages.specs.Fetches.{IsOpenFetch, sent_in}

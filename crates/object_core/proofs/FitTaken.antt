@@ -6,12 +6,12 @@ use Rattle.timeline.specs.Eligible.{is_fit}
 use Rattle.timeline.specs.Intake.{Kind, Front, Taken, delivered, noticed, wanted, takes, delivered_in, events_in}
 use Rattle.timeline.specs.declared.event.Event.{Event}
 use Rattle.timeline.specs.declared.notice.Notice.{Notice}
-use Rattle.object_front.proofs.Items.{IsItemOf, takes_none, delivers_it, wants_it, event_item}
+use Rattle.front_half.proofs.Items.{IsItemOf, takes_none, delivers_it, wants_it, event_item}
 use Rattle.object_front.specs.Came.{events}
 use Rattle.object_front.specs.Classed.{class_behind}
-use Rattle.object_front.specs.Standing.{Stood}
-use Rattle.object_front.specs.Taking.{Led, IsLedBy, fits, sticks_at, at_mode, class_after, does, on_event, stale, without}
-use Rattle.object_front.specs.Turning.{IsTaken, IsEntered}
+use Rattle.front_half.specs.Standing.{Stood}
+use Rattle.front_half.specs.Taking.{Led, IsLedBy, fits, sticks_at, at_mode, class_after, does, on_event, stale, without}
+use Rattle.front_half.specs.Turning.{IsTaken, IsEntered}
 use Rattle.object_core.specs.Fitting.{IsFitIntake}
 
 item_fit : (script : Script) (class : Option ℕ) (e : Event) (item : List Taken) → IsItemOf e item → is_fit script class e ≡ true → IsFitIntake script class item

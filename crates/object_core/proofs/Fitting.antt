@@ -11,10 +11,10 @@ use Rattle.timeline.specs.declared.entry.Entry.{Entry}
 use Rattle.timeline.specs.declared.event.Event.{Event}
 use Rattle.timeline.specs.declared.message.Message.{Message as Sent}
 use Rattle.timeline.specs.declared.notice.Notice.{Notice}
-use Rattle.object_front.specs.Standing as standing
-use Rattle.object_front.specs.Standing.{kind_in}
+use Rattle.front_half.specs.Standing as standing
+use Rattle.front_half.specs.Standing.{kind_in}
 use Rattle.object_front.specs.declared.evaluated.Evaluated.{Evaluated}
-use Rattle.object_front.specs.declared.half.Half.{Half}
+use Rattle.front_half.specs.declared.half.Half.{Half}
 use Rattle.output_gate.specs.Entering.{is_unfit, identity_after}
 use Rattle.output_gate.specs.Serving.{is_stopped}
 use Rattle.output_gate.specs.Taking.{fit_of, is_wanted, may_take}

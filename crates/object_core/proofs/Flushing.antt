@@ -13,7 +13,7 @@ use Rattle.timeline.specs.declared.notice.Notice.{Notice}
 use Rattle.timeline.specs.declared.notice.Stepped.{Stepped}
 use Rattle.timeline.specs.declared.notice.Stepped.TheVariants.{Did, Nothing}
 use Rattle.object_front.specs.declared.evaluated.Evaluated.{Evaluated}
-use Rattle.object_front.specs.declared.half.Half.{Half}
+use Rattle.front_half.specs.declared.half.Half.{Half}
 use Rattle.output_gate.specs.Flushing.{Flushes}
 use Rattle.output_gate.specs.Serving.{KeepsBack, is_stopped}
 use Rattle.output_gate.specs.Storing.{KeepsLimit, KeepsTelling}

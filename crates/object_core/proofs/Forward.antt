@@ -8,11 +8,11 @@ use Rattle.timeline.specs.declared.entry.Entry.{Entry}
 use Rattle.timeline.specs.declared.event.Event.{Event}
 use Rattle.timeline.specs.declared.notice.Notice.{Notice}
 use Rattle.object_front.specs.Evaluated.{seen}
-use Rattle.object_front.specs.Standing.{Stood, IsHalf, fresh, is_stopped, nothing_logged}
-use Rattle.object_front.specs.Taking.{Led}
-use Rattle.object_front.specs.Turning.{IsTaken, Turns, Halts}
+use Rattle.front_half.specs.Standing.{Stood, IsHalf, fresh, is_stopped, nothing_logged}
+use Rattle.front_half.specs.Taking.{Led}
+use Rattle.front_half.specs.Turning.{IsTaken, Turns, Halts}
 use Rattle.object_front.specs.declared.evaluated.Evaluated.{Evaluated}
-use Rattle.object_front.specs.declared.half.Half.{Half}
+use Rattle.front_half.specs.declared.half.Half.{Half}
 use Rattle.object_history.specs.Pair.{Rear}
 use Rattle.object_history.specs.Stepping.{BackSteps, IsRear}
 use Rattle.object_core.proofs.Due.{IsDue, due_of, steps_as_due}

@@ -33,7 +33,7 @@ wanted_step rear _ _ _ (takes_own e map stand is) want none n after rest told on
 wanted_step rear _ _ _ (takes_down e c map stand is fits) want none n after rest told on = absurd (subst IsWanted stand want)
 wanted_step rear _ _ _ (takes_late e map is) want none n after rest told on = on want none told
 wanted_step rear _ _ _ (flies count map) want none n after rest told on = on want none told
-wanted_step rear _ _ _ (stops stop held map stand less flown is_held) want none n after rest told on = absurd (subst IsWanted stand want)
+wanted_step rear _ _ _ (stops stop held map stand less flown by_append is_held) want none n after rest told on = absurd (subst IsWanted stand want)
 wanted_step rear _ _ _ (sends release map) want none n after rest told on = on want none told
 wanted_step rear _ _ _ (syncs number needs others map is_held) want none n after rest told on = absurd (not_none _ others (sym is_held ∙ none))
 wanted_step rear _ _ _ (halts c needs others stop end is_held stand flown by_halt) want none n after rest told on =
@@ -155,7 +155,7 @@ module _ (opened : Contents) (last : Rear) (number needs : ℕ) (rest_told : Lis
       frees_on rear _ (e ∷ []) count more rest rest known due_then (takes_late e map is) (on rest held all less told)
   frees_step rear _ _ _ (flies flown map) due count more after known due_then goes rest held all less told on =
       frees_on rear _ [] count more rest rest known due_then (flies flown map) (on rest held all less told)
-  frees_step rear _ _ _ (stops stop held_then map stand fewer flown is_held) due count more after known due_then goes rest held all less told on =
+  frees_step rear _ _ _ (stops stop held_then map stand fewer flown by_append is_held) due count more after known due_then goes rest held all less told on =
       kept_as (nat_le needs rear.durable) refl
     where
       others : List Held
@@ -166,7 +166,7 @@ module _ (opened : Contents) (last : Rear) (number needs : ℕ) (rest_told : Lis
 
       kept_as : (kept : Bool) → nat_le needs rear.durable ≡ kept → Freed (suc count) rear rest more
       kept_as true is =
-          frees_on rear _ [] count more rest others known due_then (stops stop others map stand fewer flown refl)
+          frees_on rear _ [] count more rest others known due_then (stops stop others map stand fewer flown by_append refl)
           (on others (is_then ∙ ap (λ (b : Bool). cond b (sync_of number needs ∷ others) others) is)
           (All-filter (kept_at rear.durable) (λ h. needs ≤ h.needs) rest all) (leb-true needs rear.durable is) told)
       kept_as false is =

@@ -7,9 +7,9 @@ use Rattle.batch_journal.specs.declared.mount.Mounted.{Mounted}
 use Rattle.timeline.specs.Logs.{fronted}
 use Rattle.object_front.proofs.Coming.{mode_goes}
 use Rattle.object_front.specs.Evaluated.{seen}
-use Rattle.object_front.specs.Standing.{IsClass, IsHalf, fresh, nothing_logged}
+use Rattle.front_half.specs.Standing.{IsClass, IsHalf, fresh, nothing_logged}
 use Rattle.object_front.specs.declared.evaluated.Evaluated.{Evaluated}
-use Rattle.object_front.specs.declared.half.Half.{Half}
+use Rattle.front_half.specs.declared.half.Half.{Half}
 use Rattle.output_gate.specs.Logs.{IsFresh}
 use Rattle.output_gate.specs.declared.back.Back.{Back}
 use Rattle.object_core.specs.One.{AreFresh, class_in}

@@ -16,7 +16,7 @@ use Rattle.timeline.specs.declared.entry.Body.TheVariants as body
 use Rattle.timeline.specs.declared.entry.Entry.{Entry}
 use Rattle.timeline.specs.declared.event.Event.{Event}
 use Rattle.timeline.specs.declared.notice.Notice.{Notice}
-use Rattle.object_front.specs.Taking.{waits}
+use Rattle.front_half.specs.Taking.{waits}
 use Rattle.output_gate.proofs.Histories.{entries_none}
 use Rattle.output_gate.specs.Taking.{notice_of}
 use Rattle.object_history.proofs.Asked.{is_asked_for}
@@ -281,7 +281,7 @@ back_heard well k opened f front r _ _ line _ notices (flies count map) pair hea
   news = λ differs. news_stays notices [] r.stand (heard.news differs);
   answer = λ so. still_answer well k opened f front r line notices _ [] refl refl (heard.answer so);
 }
-back_heard well k opened f front r _ _ line _ notices (stops stop held map stand less flown is_held) pair heard = record {
+back_heard well k opened f front r _ _ line _ notices (stops stop held map stand less flown by_append is_held) pair heard = record {
   news = λ differs. inr tt;
   answer = λ so. by_mounting tt;
 }

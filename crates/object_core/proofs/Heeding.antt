@@ -23,7 +23,7 @@ use Rattle.timeline.specs.declared.event.Event.{Event}
 use Rattle.timeline.specs.declared.notice.Notice.{Notice}
 use Rattle.timeline.specs.declared.notice.Notice.TheVariants as notice
 use Rattle.timeline.specs.Intake.{answer_in}
-use Rattle.object_front.specs.Taking.{waits, waits_in}
+use Rattle.front_half.specs.Taking.{waits, waits_in}
 use Rattle.object_history.proofs.Entries.{entries_own}
 use Rattle.object_history.specs.Laws.{StepsSayWell}
 use Rattle.object_history.specs.Pair.{Held, Stand, Rear, newest, Together, unreached, answered, syncs, halts, falls, wants, mends, misses, silent, IsPair, IsPhase}

@@ -11,17 +11,19 @@ use Rattle.timeline.specs.Logs.{Fronted, fronted}
 use Rattle.timeline.specs.declared.entry.Entry.{Entry}
 use Rattle.timeline.specs.declared.event.Event.{Event}
 use Rattle.timeline.specs.declared.notice.Notice.{Notice}
+use Rattle.object_front.proofs.Classes.{class_comes}
 use Rattle.object_front.specs.Came.{HasGot, EventsCome}
+use Rattle.object_front.specs.Classed.{IsClassed, class_by}
 use Rattle.object_front.specs.Evaluated.{seen}
-use Rattle.object_front.specs.Standing.{Stood, IsClass, IsHalf, IsTakenBy, fresh, is_stopped, kind_in, nothing_logged}
+use Rattle.front_half.specs.Standing.{Stood, IsClass, IsHalf, IsTakenBy, fresh, is_stopped, kind_in, nothing_logged}
 use Rattle.object_front.specs.declared.evaluated.Evaluated.{Evaluated}
-use Rattle.object_front.specs.declared.half.Half.{Half}
+use Rattle.front_half.specs.declared.half.Half.{Half}
 use Rattle.object_history.specs.Pair.{Rear, IsPair, newest}
 use Rattle.object_history.specs.Stepping.{BackSteps, IsRear, takes_own, takes_down, takes_late, flies, stops, sends, syncs, halts, begins, misses}
 use Rattle.front_history.specs.Turns.{BackStepsKeep, FrontBegins, TurnSteps}
 use Rattle.object_messages.specs.Dropped.{DropsAreAnswered}
 use Rattle.object_messages.specs.Laws.{EarlyIsUnasked}
-use Rattle.object_core.proofs.Dropping.{downs_drops, first_none, halt_drops, steps_downs, turn_drops}
+use Rattle.object_core.proofs.Dropping.{downs_drops, first_none, halt_drops, none_said, steps_downs, turn_drops}
 use Rattle.object_core.proofs.Forward.{FrontSteps, HasDue, turned, halted}
 use Rattle.object_core.proofs.Hearing.{not_none, some_last}
 use Rattle.object_core.proofs.Joining.{Keeps}
@@ -46,7 +48,7 @@ step_untaken opened r _ _ _ (takes_own e map stand is) known was none = absurd (
 step_untaken opened r _ _ _ (takes_down e c map stand is fits) known was none = absurd (some_last r.log.taken e [] none)
 step_untaken opened r _ _ _ (takes_late e map is) known was none = absurd (some_last r.log.taken e [] none)
 step_untaken opened r _ _ _ (flies count map) known was none = record { none_ended = (was none).none_ended; none_held = (was none).none_held }
-step_untaken opened r _ _ _ (stops stop held map stand less flown is_held) known was none =
+step_untaken opened r _ _ _ (stops stop held map stand less flown by_append is_held) known was none =
     absurd (known.owns less (ap (λ (taken : List Entry). batches_in (entries_of (newest r.log) taken)) none))
 step_untaken opened r _ _ _ (sends release map) known was none = record { none_ended = (was none).none_ended; none_held = (was none).none_held }
 step_untaken opened r _ _ _ (syncs number needs rest map is_held) known was none = absurd (not_none _ rest (sym is_held ∙ (was none).none_held))
@@ -67,6 +69,7 @@ module _ (front_begins : FrontBegins) (laws : TurnSteps) (back_keeps : BackSteps
   record Joint (half : Half Evaluated) (st : Stood) (events : List Event) (rear : Rear) (line : List Entry) (notices : List Notice) : Type 0 where
     joined : Joined script class first opened half st events rear line notices
     stands : is_stopped half ≡ false → IsHalf seen script half st
+    classed : IsClassed script first half st
     has_got : HasGot half st events
     untaken : Untaken rear
 
@@ -102,9 +105,10 @@ module _ (front_begins : FrontBegins) (laws : TurnSteps) (back_keeps : BackSteps
           drops =
               turn_drops answered script first class opened opened.alarm old st rear line (heard ++ left) taken (joint.stands on)
               (pair old new st events heard left rear line sent on joint) was on events later before got told left way.told joint.joined.drops
-              (none_ended old new st events heard left rear line sent on joint) new turns is_class;
+              (none_ended old new st events heard left rear line sent on joint) joint.classed new turns is_class;
         };
         stands = λ on_then. turns.moves.half;
+        classed = class_comes.goes_on script class first from taken old new st events later before got told on joint.classed was turns is_class;
         has_got = come.goes_on script class from taken old new st events later before got told on joint.has_got was turns is_class;
         untaken = joint.untaken;
       }
@@ -121,9 +125,10 @@ module _ (front_begins : FrontBegins) (laws : TurnSteps) (back_keeps : BackSteps
           drops =
               halt_drops answered script first class opened opened.alarm old st rear line (heard ++ left) taken (joint.stands on)
               (pair old new st events heard left rear line sent on joint) was on events later before got told left way.told joint.joined.drops
-              (none_ended old new st events heard left rear line sent on joint) new stopped is_class;
+              (none_ended old new st events heard left rear line sent on joint) joint.classed new stopped is_class;
         };
         stands = λ on_then. absurd (true≢false (sym stopped.stops.stopped ∙ on_then));
+        classed = class_comes.halts script class first from taken old new st events later before got told on joint.classed was stopped is_class;
         has_got = come.halts script class from taken old new st events later before got told on joint.has_got was stopped is_class;
         untaken = joint.untaken;
       }
@@ -140,6 +145,7 @@ module _ (front_begins : FrontBegins) (laws : TurnSteps) (back_keeps : BackSteps
           downs_drops script first opened.alarm half st rear.log.downs next.log.downs events (steps_downs rear next got told step) joint.joined.drops;
     };
     stands = joint.stands;
+    classed = joint.classed;
     has_got = joint.has_got;
     untaken = step_untaken opened rear next got told step known joint.untaken;
   }
@@ -153,12 +159,17 @@ module _ (front_begins : FrontBegins) (laws : TurnSteps) (back_keeps : BackSteps
       sticks = λ on stuck. absurd (true≢false (sym stuck ∙ stands.stuck));
       drops = record {
         unbound = λ on none. (ap (λ (x : Option ℕ). fresh x opened.alarm) none, ap (λ (x : Fronted). x.sent) unlogged);
+        unsaid = λ none. none_said (fronted half.log) unlogged;
         keeps = λ on c so. All-nil (IsFitFor script c);
         class = λ on fit. refl;
         dropped = λ fit. subst (λ (x : Fronted). All (MayDrop x rear.log.downs) x.dropped) (sym unlogged) (All-nil (MayDrop nothing_logged rear.log.downs));
       };
     };
     stands = λ on. stands;
+    classed = record {
+      now = λ on. ap (λ (x : Fronted). class_by script first x) (sym unlogged);
+      stays = λ c is. ap (λ (x : Fronted). class_by script first x) (sym unlogged) ∙ is;
+    };
     has_got = come.begins half first opened.alarm unlogged;
     untaken = λ none. record { none_ended = is.stops; none_held = is.held };
   }

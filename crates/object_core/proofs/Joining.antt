@@ -12,11 +12,11 @@ use Rattle.timeline.specs.declared.entry.Entry.{Entry}
 use Rattle.timeline.specs.declared.event.Event.{Event}
 use Rattle.timeline.specs.declared.notice.Notice.{Notice}
 use Rattle.timeline.specs.declared.notice.Notice.TheVariants as notice
-use Rattle.object_front.specs.Standing.{Stood, IsClass, IsTakenBy, is_stopped, kind_in}
-use Rattle.object_front.specs.Taking.{Led}
-use Rattle.object_front.specs.Turning.{IsTaken}
+use Rattle.front_half.specs.Standing.{Stood, IsClass, IsTakenBy, is_stopped, kind_in}
+use Rattle.front_half.specs.Taking.{Led}
+use Rattle.front_half.specs.Turning.{IsTaken}
 use Rattle.object_front.specs.declared.evaluated.Evaluated.{Evaluated}
-use Rattle.object_front.specs.declared.half.Half.{Half}
+use Rattle.front_half.specs.declared.half.Half.{Half}
 use Rattle.object_history.specs.Pair.{Rear}
 use Rattle.object_history.specs.Stepping.{BackSteps, IsRear, takes_own, takes_down, takes_late, flies, stops, sends, syncs, halts, begins, misses}
 use Rattle.front_history.specs.Paired.{ArePaired}
@@ -49,7 +49,7 @@ step_takes rear _ _ _ (takes_own e map stand is) = inr (e, refl, own stand is)
 step_takes rear _ _ _ (takes_down e c map stand is fits) = inr (e, refl, fell c stand is)
 step_takes rear _ _ _ (takes_late e map is) = inr (e, refl, late is)
 step_takes rear _ _ _ (flies count map) = inl refl
-step_takes rear _ _ _ (stops stop held map stand less flown is_held) = inl refl
+step_takes rear _ _ _ (stops stop held map stand less flown by_append is_held) = inl refl
 step_takes rear _ _ _ (sends release map) = inl refl
 step_takes rear _ _ _ (syncs number needs rest map is_held) = inl refl
 step_takes rear _ _ _ (halts c needs rest stop end is_held stand flown by_halt) = inl refl

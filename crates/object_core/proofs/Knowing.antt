@@ -9,7 +9,7 @@ use Rattle.timeline.specs.Logs.{Fronted, Backed, backed}
 use Rattle.timeline.specs.declared.entry.Body.{Body}
 use Rattle.timeline.specs.declared.entry.Body.TheVariants as body
 use Rattle.timeline.specs.declared.entry.Entry.{Entry}
-use Rattle.object_front.specs.Standing.{nothing_logged}
+use Rattle.front_half.specs.Standing.{nothing_logged}
 use Rattle.output_gate.proofs.Unfit.{fit_taken}
 use Rattle.output_gate.specs.Ended.{newest_as, newest_of}
 use Rattle.output_gate.specs.Entering.{Enters, is_unfit, identity_by, identity_after}

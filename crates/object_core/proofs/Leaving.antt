@@ -16,9 +16,9 @@ use Rattle.timeline.specs.declared.event.Event.TheVariants as event
 use Rattle.front_turns.specs.Held.{life_in}
 use Rattle.object_front.specs.Came.{events}
 use Rattle.object_front.specs.Classed.{class_behind}
-use Rattle.object_front.specs.Remaining.{left_at, object_at, object_in}
-use Rattle.object_front.specs.Standing.{IsClass, Stood}
-use Rattle.object_front.specs.Taking.{waits}
+use Rattle.front_half.specs.Remaining.{left_at, object_at, object_in}
+use Rattle.front_half.specs.Standing.{IsClass, Stood}
+use Rattle.front_half.specs.Taking.{waits}
 use Rattle.object_history.specs.Pair.{IsNewest, serving, falling}
 use Rattle.object_core.specs.Fitting.{IsFitIntake}
 

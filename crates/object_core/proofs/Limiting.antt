@@ -19,7 +19,7 @@ use Rattle.output_gate.proofs.Steps.{can_append, flushed_back}
 use Rattle.output_gate.proofs.Stored.{same_journal, still_limit}
 use Rattle.output_gate.proofs.Unfit.{stops_still}
 use Rattle.output_gate.specs.Entering.{Enters}
-use Rattle.output_gate.specs.Fits.{is_halting}
+use Rattle.timeline.specs.History.{is_halting}
 use Rattle.output_gate.specs.Flushing.{Ends, Flushes}
 use Rattle.output_gate.specs.Held.{HaltsLast, halts_well, has_halt, is_held_halt}
 use Rattle.output_gate.specs.Mending.{Remounts}

@@ -10,9 +10,9 @@ use Rattle.timeline.specs.declared.entry.Entry.{Entry}
 use Rattle.timeline.specs.declared.event.Event.{Event}
 use Rattle.timeline.specs.declared.notice.Notice.{Notice}
 use Rattle.object_front.specs.Evaluated.{seen}
-use Rattle.object_front.specs.Standing.{Stood, IsClass, IsHalf, fresh, is_stopped, kind_in, nothing_logged}
+use Rattle.front_half.specs.Standing.{Stood, IsClass, IsHalf, fresh, is_stopped, kind_in, nothing_logged}
 use Rattle.object_front.specs.declared.evaluated.Evaluated.{Evaluated}
-use Rattle.object_front.specs.declared.half.Half.{Half}
+use Rattle.front_half.specs.declared.half.Half.{Half}
 use Rattle.object_history.proofs.WellSaid.{delivers_well, answers_well}
 use Rattle.object_history.specs.Pair.{Rear, IsPair}
 use Rattle.object_history.specs.Stepping.{BackSteps, IsRear}

@@ -14,7 +14,7 @@ use Rattle.timeline.specs.declared.notice.Notice.{Notice}
 use Rattle.timeline.specs.declared.notice.Stepped.{Stepped}
 use Rattle.timeline.specs.declared.notice.Stepped.TheVariants.{Did, Nothing}
 use Rattle.object_front.specs.declared.evaluated.Evaluated.{Evaluated}
-use Rattle.object_front.specs.declared.half.Half.{Half}
+use Rattle.front_half.specs.declared.half.Half.{Half}
 use Rattle.output_gate.specs.Mending.{IsIdleMend, Mends, LosesMend, Remounts, may_mend}
 use Rattle.output_gate.specs.Storing.{HasLimit, KeepsTelling}
 use Rattle.output_gate.specs.Serving.{IsBack, IsAsBefore, KeepsBack, StopsBy, is_stopped}

@@ -9,13 +9,13 @@ use Rattle.timeline.specs.declared.entry.Body.{Body}
 use Rattle.timeline.specs.declared.entry.Entry.{Entry}
 use Rattle.timeline.specs.declared.event.Event.{Event}
 use Rattle.timeline.specs.declared.notice.Notice.{Notice}
-use Rattle.object_front.proofs.Items.{IsItemOf, takes_none, delivers_it, wants_it, event_item}
-use Rattle.object_front.specs.Moving.{Stops}
-use Rattle.object_front.specs.Standing.{Stood, IsClass, IsCutShort, IsTakenBy, is_stopped, kind_in}
-use Rattle.object_front.specs.Taking.{Led, IsLedBy, fits, sticks_at, on_event, without}
-use Rattle.object_front.specs.Turning.{IsEntered, IsTaken}
+use Rattle.front_half.proofs.Items.{IsItemOf, takes_none, delivers_it, wants_it, event_item}
+use Rattle.front_half.specs.Moving.{Stops}
+use Rattle.front_half.specs.Standing.{Stood, IsClass, IsCutShort, IsTakenBy, is_stopped, kind_in}
+use Rattle.front_half.specs.Taking.{Led, IsLedBy, fits, sticks_at, on_event, without}
+use Rattle.front_half.specs.Turning.{IsEntered, IsTaken}
 use Rattle.object_front.specs.declared.evaluated.Evaluated.{Evaluated}
-use Rattle.object_front.specs.declared.half.Half.{Half}
+use Rattle.front_half.specs.declared.half.Half.{Half}
 use Rattle.object_history.proofs.Growing.{logs_grow}
 use Rattle.front_history.proofs.Items.{turn_class}
 use Rattle.object_core.proofs.Forward.{FrontGoes, stays, moves, FrontSteps, turned, halted}

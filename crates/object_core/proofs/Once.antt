@@ -19,9 +19,9 @@ use Rattle.front_history.specs.Turns.{HalvesAreWhole}
 use Rattle.front_turns.specs.Held.{life_in}
 use Rattle.object_front.specs.Came.{AreCome, events, kept}
 use Rattle.object_front.specs.Evaluated.{seen}
-use Rattle.object_front.specs.Remaining.{left_at, object_at}
-use Rattle.object_front.specs.Standing.{IsClass, IsHalf, IsTakenBy, Stood, kind_in}
-use Rattle.object_front.specs.Taking.{waits}
+use Rattle.front_half.specs.Remaining.{left_at, object_at}
+use Rattle.front_half.specs.Standing.{IsClass, IsHalf, IsTakenBy, Stood, kind_in}
+use Rattle.front_half.specs.Taking.{waits}
 use Rattle.object_messages.proofs.Leaving.{left_each, object_leaves}
 use Rattle.object_messages.specs.Exact.{IsServedOnce, callers}
 use Rattle.object_messages.specs.Laws.{gone}

@@ -6,9 +6,9 @@ use Rattle.timeline.specs.Intake.{Kind, Front}
 use Rattle.timeline.specs.Logs.{Fronted, fronted}
 use Rattle.timeline.specs.declared.entry.Entry.{Entry}
 use Rattle.timeline.specs.declared.notice.Notice.{Notice}
-use Rattle.object_front.specs.Standing.{Stood, IsTakenBy, is_stopped}
+use Rattle.front_half.specs.Standing.{Stood, IsTakenBy, is_stopped}
 use Rattle.object_front.specs.declared.evaluated.Evaluated.{Evaluated}
-use Rattle.object_front.specs.declared.half.Half.{Half}
+use Rattle.front_half.specs.declared.half.Half.{Half}
 use Rattle.object_history.specs.Pair.{Rear, IsPair}
 use Rattle.object_history.specs.Stepping.{IsRear, BackSteps, AreGiven}
 use Rattle.front_history.specs.Paired.{ArePaired, logged_with}

@@ -1,6 +1,7 @@
 -- An object in which nothing is to be done has let go all that passes; and it is quiet, unless its front stands still.
 use Rattle.std.proofs.Common.{◌≡◌, ◌≢◌, ◌∙◌, ap, sym, refl, subst, inl, inr, ⊎_elim, true≢false, ℕ, suc, List, [], ◌∷◌, ◌++◌, length, map, append-nil, append_assoc, arith, Option, Some, None}
 use Rattle.std.proofs.lemmas.Bool.{cases_eq, lt-ltb}
+use Rattle.std.proofs.lemmas.List.{take_all}
 use Rattle.std.proofs.lemmas.List.Elements.{All-nil, All-cons, All-contains, All-contains_itself, All-weaker, Contains-append_cases}
 use Rattle.std.proofs.lemmas.List.Sorted.{Contains-permutation}
 use Rattle.std.specs.Prelude.{Bool, true, false, not, ◌&&◌, ◌||◌, ◌⊎◌, nat_lt}
@@ -18,6 +19,7 @@ use Rattle.timeline.specs.Logs.{Fronted, Backed, fronted, backed}
 use Rattle.timeline.specs.Object.{Object, State, idle, waiting, ended}
 use Rattle.timeline.specs.Passed.{passed}
 use Rattle.timeline.specs.declared.back_log.Release.{Release}
+use Rattle.timeline.specs.declared.back_log.Stop.{Stop}
 use Rattle.timeline.specs.declared.entry.Body.{Body}
 use Rattle.timeline.specs.declared.entry.Entry.{Entry}
 use Rattle.timeline.specs.declared.event.Event.{Event}
@@ -27,10 +29,10 @@ use Rattle.front_turns.specs.Held.{life_in}
 use Rattle.object_front.specs.Came.{events, wanting, kept}
 use Rattle.object_front.specs.Classed.{class_behind}
 use Rattle.object_front.specs.Evaluated.{seen}
-use Rattle.object_front.specs.Remaining.{left_at, object_in}
-use Rattle.object_front.specs.Standing as standing
-use Rattle.object_front.specs.Standing.{Stood, IsClass, IsHalf, kind_in}
-use Rattle.object_front.specs.Taking.{may_enter, waits}
+use Rattle.front_half.specs.Remaining.{left_at, object_in}
+use Rattle.front_half.specs.Standing as standing
+use Rattle.front_half.specs.Standing.{Stood, IsClass, IsHalf, kind_in}
+use Rattle.front_half.specs.Taking.{may_enter, waits}
 use Rattle.output_gate.proofs.Stored.{head_same}
 use Rattle.output_gate.specs.Releasing.{is_ready}
 use Rattle.output_gate.specs.Serving.{is_stopped}
@@ -255,11 +257,17 @@ module _ {D : Type 0} (moment_of : D → ℕ) (left_since : D → ℕ → List �
     same_below : is_pair.below ≡ length log.stops
     same_below = omega (arith, is_pair.number, is_newest)
 
+    -- So its front knows of each end.
+    knows_ends : front.ends ≡ map (λ (stop : Stop). stop.cause) log.stops
+    knows_ends =
+        is_pair.ends
+        ∙ ap (λ (stops : List Stop). map (λ (stop : Stop). stop.cause) stops) (take_all is_pair.below log.stops (omega (arith, same_below)))
+
     -- Where it serves, the object of the definition stands as the front does.
     state_is : (o : Object) → mode ≡ serves (idle o) → state_of script class opened (incarnation_at front log (length log.stops)) (incarnations front log (length log.stops)) ≡ idle o
     state_is o so =
         subst (λ (n : ℕ). state_of script class opened (incarnation_at front log n) (incarnations front log n) ≡ idle o) same_below
-        (pair_state (kind_in script class) opened one.st.front front rear (one.lost ++ core.line.waiting) core.notices.waiting is_pair o so)
+        (pair_state (kind_in script class) opened one.st.front front rear (one.lost ++ core.line.waiting) core.notices.waiting is_pair (idle o) so tt)
 
     -- What its newest incarnation was delivered and has said is logged.
     pub was_delivered : of_number (suc (length log.stops)) front.delivered ≡ one.st.front.events
@@ -347,6 +355,7 @@ module _ {D : Type 0} (moment_of : D → ℕ) (left_since : D → ℕ → List �
     is_quiet none = (
       none_takes.1,
       record {
+        ends = knows_ends;
         taken = taken_is_sent;
         said = (is_whole moment_of left_since told image faults_of core script origin one laws tells class is front_goes (length log.stops) is_newest).whole (rests mode waits_not);
         durable = is_durable;

@@ -13,9 +13,9 @@ use Rattle.timeline.specs.declared.entry.Entry.{Entry}
 use Rattle.timeline.specs.declared.event.Event.{Event}
 use Rattle.timeline.specs.declared.message.Message.{Message as Sent}
 use Rattle.timeline.specs.declared.notice.Notice.{Notice}
-use Rattle.object_front.specs.Standing.{kind_in}
+use Rattle.front_half.specs.Standing.{kind_in}
 use Rattle.object_front.specs.declared.evaluated.Evaluated.{Evaluated}
-use Rattle.object_front.specs.declared.half.Half.{Half}
+use Rattle.front_half.specs.declared.half.Half.{Half}
 use Rattle.output_gate.proofs.Steps.{told_before}
 use Rattle.output_gate.specs.Serving.{IsBack, IsBackAs, is_stopped}
 use Rattle.output_gate.specs.Storing.{IsDiskOf, KeepsTelling}

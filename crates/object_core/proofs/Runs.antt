@@ -1,8 +1,11 @@
--- Runs that follow one another.
-use Rattle.std.proofs.Common.{◌≡◌, refl, ℕ, List, [], ◌∷◌, ◌++◌}
+-- Runs that follow one another, and what the disk tells behind them.
+use Rattle.std.proofs.Common.{◌≡◌, ◌∙◌, refl, ℕ, List, [], ◌∷◌, ◌++◌, Option}
 use Rattle.std.specs.Prelude.{Bool, Result, Ok, Err, IsErr}
 use Rattle.do_tree.specs.Tree.{Script}
 use Rattle.do_value.specs.declared.fault.NoMemory.{NoMemory}
+use Rattle.output_gate.specs.Storing.{KeepsTelling}
+use Rattle.object_core.proofs.Rebuilding.{disk_of}
+use Rattle.object_core.specs.One.{CanRun}
 use Rattle.object_core.specs.Running.{Runs, ends, goes_on, halts}
 use Rattle.object_core.specs.Stepping.{Steps}
 use Rattle.object_core.specs.declared.choice.Choice.{Choice}
@@ -37,3 +40,11 @@ module _ {D : Type 0} (moment_of faults_of : D → ℕ) (script : Script) where
       → Runs moment_of faults_of script old new choices (Err fault) → Runs moment_of faults_of script old new choices result
   runs_stop old new choices fault (Ok done) is runs = absurd cc
   runs_stop old new choices fault (Err other) is runs = runs
+
+-- What a disk tells before two runs and behind them.
+pub told_on : {D : Type 0} (moment_of : D → ℕ) (left_since : D → ℕ → List ℕ → Type 0) (told : D → Option (List ℕ)) (image : D → List ℕ → Type 0) (faults_of : D → ℕ)
+    (script : Script) (old middle new : Core D) → CanRun moment_of left_since told image faults_of script middle → KeepsTelling told old.back.store middle.back.store
+    → KeepsTelling told middle.back.store new.back.store → KeepsTelling told old.back.store new.back.store
+told_on moment_of left_since told image faults_of script old middle new can first later disk left at into =
+    let between = disk_of moment_of left_since told image faults_of script can.0 middle.front.half middle.inbox _ middle.back can.1.back_stands in
+    later between.0 left between.1 into ∙ first disk between.0 at between.1

@@ -8,6 +8,7 @@ use Rattle.do_tree.specs.Lookup.{class_named}
 use Rattle.do_tree.specs.Tree.{Script}
 use Rattle.script_mean.specs.declared.answer.Answer.{Answer}
 use Rattle.timeline.specs.Eligible.{is_fit}
+use Rattle.timeline.specs.History.{is_halting}
 use Rattle.timeline.specs.Intake.{Kind, Front, Mode, serves, life, delivered, takes, steps_to, numbered, down_replies, IsStorageWait}
 use Rattle.timeline.specs.Object.{Object, OpenTask, State, idle, waiting, ended, Step}
 use Rattle.timeline.specs.Replies.{reset_of, resets_of}
@@ -21,8 +22,8 @@ use Rattle.timeline.specs.declared.entry.Entry.{Entry}
 use Rattle.timeline.specs.declared.event.Event.{Event}
 use Rattle.timeline.specs.declared.event.Event.TheVariants as event
 use Rattle.timeline.specs.declared.message.Message.{Message as Sent}
-use Rattle.object_front.specs.Taking.{class_after}
-use Rattle.output_gate.specs.Fits.{is_halt, is_halting, comes_behind}
+use Rattle.front_half.specs.Taking.{class_after}
+use Rattle.output_gate.specs.Fits.{is_halt, comes_behind}
 use Rattle.object_history.proofs.Growing.{numbered_behind}
 use Rattle.object_history.proofs.WellSaid.{delivers_inner, answers_inner}
 use Rattle.object_history.specs.Saying.{is_inner, is_asked, LeadBy}

@@ -16,7 +16,7 @@ use Rattle.timeline.specs.declared.entry.Body.TheVariants as body
 use Rattle.timeline.specs.declared.entry.Entry.{Entry}
 use Rattle.timeline.specs.declared.event.Event.{Event}
 use Rattle.timeline.specs.declared.notice.Notice.TheVariants as notice
-use Rattle.object_front.specs.Taking.{class_after}
+use Rattle.front_half.specs.Taking.{class_after}
 use Rattle.object_core.proofs.DownSaid.{served, called}
 use Rattle.object_core.proofs.Sending.{fit_append, Fitted, at, easy_fitted, mode_fitted, next_fitted, event_fitted, answer_fitted, Easy, resets_easy, replies_easy}
 use Rattle.object_core.specs.Fitting.{known_over, last_over, AreFit, IsFitIntake}

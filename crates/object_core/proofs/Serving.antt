@@ -20,7 +20,7 @@ use Rattle.timeline.specs.declared.message.Message.{Message as Sent}
 use Rattle.timeline.specs.declared.notice.Notice.TheVariants as notice
 use Rattle.timeline.specs.declared.notice.Waits.{Waits}
 use Rattle.object_front.specs.Came.{AreCome, events}
-use Rattle.object_front.specs.Standing.{IsTakenBy}
+use Rattle.front_half.specs.Standing.{IsTakenBy}
 use Rattle.object_messages.proofs.Counts.{times-append, times-flat_map}
 use Rattle.object_messages.proofs.Exactly.{replies_exact}
 use Rattle.object_messages.proofs.FrontsWhose.{replies_name}

@@ -20,11 +20,11 @@ use Rattle.timeline.specs.declared.event.Event.TheVariants as event
 use Rattle.timeline.specs.declared.notice.Notice.{Notice}
 use Rattle.object_front.specs.Came.{events, wanting, kept, HasGot}
 use Rattle.object_front.specs.Evaluated.{seen}
-use Rattle.object_front.specs.Standing.{Stood, IsTakenBy, is_stopped, kind_in}
-use Rattle.object_front.specs.Taking.{Led, IsFirst, IsLedBy, fits, sticks_at, at_down, at_mode, does, on_event, stale, without}
-use Rattle.object_front.specs.Turning.{IsEntered, IsTaken, Turns}
+use Rattle.front_half.specs.Standing.{Stood, IsTakenBy, is_stopped, kind_in}
+use Rattle.front_half.specs.Taking.{Led, IsFirst, IsLedBy, fits, sticks_at, at_down, at_mode, does, on_event, stale, without}
+use Rattle.front_half.specs.Turning.{IsEntered, IsTaken, Turns}
 use Rattle.object_front.specs.declared.evaluated.Evaluated.{Evaluated}
-use Rattle.object_front.specs.declared.half.Half.{Half}
+use Rattle.front_half.specs.declared.half.Half.{Half}
 use Rattle.object_history.proofs.Fitting.{notices_fit}
 use Rattle.object_history.specs.Pair.{Rear, IsPair}
 use Rattle.front_history.specs.Paired.{ArePaired}

@@ -13,9 +13,9 @@ use Rattle.timeline.specs.declared.message.Message.{Message as Sent}
 use Rattle.timeline.specs.declared.notice.Notice.{Notice}
 use Rattle.timeline.specs.declared.notice.Stepped.{Stepped}
 use Rattle.timeline.specs.declared.notice.Stepped.TheVariants.{Did, Nothing}
-use Rattle.object_front.specs.Standing as standing
+use Rattle.front_half.specs.Standing as standing
 use Rattle.object_front.specs.declared.evaluated.Evaluated.{Evaluated}
-use Rattle.object_front.specs.declared.half.Half.{Half}
+use Rattle.front_half.specs.declared.half.Half.{Half}
 use Rattle.output_gate.proofs.Stored.{still_tells}
 use Rattle.output_gate.proofs.Unfit.{unfit_identity, unfit_log, unfit_held, unfit_notice, unfit_mode, unfit_before, fit_taken, released_still}
 use Rattle.output_gate.specs.Entering.{identity_after, Enters, IsIdle, Takes, LosesEntry, is_unfit, notice_at}

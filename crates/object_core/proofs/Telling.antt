@@ -6,8 +6,8 @@ use Rattle.do_tree.specs.Tree.{Script}
 use Rattle.storage_map.specs.declared.op.Op.{Op}
 use Rattle.timeline.specs.Headline.{IsHistory}
 use Rattle.timeline.specs.Logs.{fronted, backed}
-use Rattle.object_front.specs.Standing as standing
-use Rattle.object_front.specs.Standing.{IsClass, kind_in}
+use Rattle.front_half.specs.Standing as standing
+use Rattle.front_half.specs.Standing.{IsClass, kind_in}
 use Rattle.output_gate.proofs.Telling.{tells_all}
 use Rattle.output_gate.specs.Serving.{is_stopped}
 use Rattle.output_gate.specs.Storing.{IsDiskOf}
@@ -33,10 +33,13 @@ module _ {D : Type 0} (moment_of : D → ℕ) (left_since : D → ℕ → List �
       (seen_is_rear moment_of left_since told image faults_of origin.start origin.opening core.back one.back_stands) (one.pair tells class is) in
       let h = has_told tells.0 tells.1 tells.2 in
       record {
-        said = s.0;
+        said = s.said;
         taken = (one.lost ++ core.line.waiting, sym (append_assoc core.back.log.taken.items one.lost core.line.waiting) ∙ sym one.is_line);
         kept = h.kept;
-        ends = s.1;
+        halted = s.halted;
+        mounted = s.mounted;
+        unmounted = s.unmounted;
+        ends = s.ends;
         followed = h.followed;
         released = h.passes;
       }

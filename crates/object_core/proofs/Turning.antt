@@ -14,14 +14,14 @@ use Rattle.timeline.specs.declared.notice.Notice.{Notice}
 use Rattle.object_front.specs.Came.{events, HasGot, EventsCome}
 use Rattle.object_front.specs.Classed.{class_behind, ClassComes, IsClassed}
 use Rattle.object_front.specs.Evaluated.{seen}
-use Rattle.object_front.specs.Sending.{AreSentToo}
-use Rattle.object_front.specs.Standing.{Stood, IsClass, IsHalf, IsTakenBy, is_stopped, kind_in}
-use Rattle.object_front.specs.Taking.{Led}
-use Rattle.object_front.specs.Turning.{CanTurn, IsStill, IsQuiet, IsTaken, Turns, Halts}
+use Rattle.front_half.specs.Sending.{AreSentToo}
+use Rattle.front_half.specs.Standing.{Stood, IsClass, IsHalf, IsTakenBy, is_stopped, kind_in}
+use Rattle.front_half.specs.Taking.{Led}
+use Rattle.front_half.specs.Turning.{CanTurn, IsStill, IsQuiet, IsTaken, Turns, Halts}
 use Rattle.object_front.specs.declared.evaluated.Evaluated.{Evaluated}
-use Rattle.object_front.specs.declared.half.Half.{Half}
-use Rattle.object_front.specs.declared.turning.Turned.{Turned}
-use Rattle.object_front.specs.declared.turning.Turned.TheVariants.{Ran, Idle}
+use Rattle.front_half.specs.declared.half.Half.{Half}
+use Rattle.front_half.specs.declared.turning.Turned.{Turned}
+use Rattle.front_half.specs.declared.turning.Turned.TheVariants.{Ran, Idle}
 use Rattle.output_gate.specs.Telling.{opened_map}
 use Rattle.output_gate.specs.declared.back.Back.{Back}
 use Rattle.front_history.proofs.Lanes.{under_way}
@@ -197,7 +197,7 @@ module _ {D : Type 0} (moment_of : D → ℕ) (left_since : D → ℕ → List �
         turn_drops answered script (class_in script origin.object) k.0 (opened_map origin.start) one.alarm old one.st (seen_of (opened_map origin.start) back)
         (one.lost ++ line.waiting) notices.waiting had.0 (one.front_stands on)
         (pair_of on k.0 (one.pair tells k.0 (laws.class script k.0 one.st inbox.got later_inbox.got notices.got later.got (sent_on notices) turns.led turns.taken k.1)))
-        had.1 on inbox.got later_inbox.got notices.got later.got (sent_on notices) later.waiting way.told (one.drops tells) none_ended new turns k.1)
+        had.1 on inbox.got later_inbox.got notices.got later.got (sent_on notices) later.waiting way.told (one.drops tells) none_ended one.classed new turns k.1)
 
     halts : is_stopped old ≡ false → Halts script old new one.st inbox.got later_inbox.got notices.got later.got (sent_on notices) → After
     halts on stops =
@@ -216,7 +216,7 @@ module _ {D : Type 0} (moment_of : D → ℕ) (left_since : D → ℕ → List �
         halt_drops answered script (class_in script origin.object) k.0 (opened_map origin.start) one.alarm old one.st (seen_of (opened_map origin.start) back)
         (one.lost ++ line.waiting) notices.waiting had.0 (one.front_stands on)
         (pair_of on k.0 (one.pair tells k.0 (laws.class script k.0 one.st inbox.got later_inbox.got notices.got later.got (sent_on notices) stops.led stops.taken k.1)))
-        had.1 on inbox.got later_inbox.got notices.got later.got (sent_on notices) later.waiting way.told (one.drops tells) none_ended new stops k.1)
+        had.1 on inbox.got later_inbox.got notices.got later.got (sent_on notices) later.waiting way.told (one.drops tells) none_ended one.classed new stops k.1)
 
   ran : is_stopped old ≡ false → (result : Result Turned NoMemory) → TurnsBy script old new inbox later_inbox line later_line notices later result → After
   ran on (Ok Ran) by = goes (Ok Ran) by on (by.ran refl one.st (one.front_stands on))

@@ -9,14 +9,14 @@ use Rattle.timeline.specs.declared.entry.Entry.{Entry}
 use Rattle.timeline.specs.declared.event.Event.{Event}
 use Rattle.timeline.specs.declared.notice.Notice.{Notice}
 use Rattle.object_front.specs.Evaluated.{seen}
-use Rattle.object_front.specs.Standing.{Stood, IsHalf, is_stopped}
-use Rattle.object_front.specs.Taking.{Led, may_enter, waits}
-use Rattle.object_front.specs.Turning.{IsStill, IsQuiet, IsEntered, IsTaken}
+use Rattle.front_half.specs.Standing.{Stood, IsHalf, is_stopped}
+use Rattle.front_half.specs.Taking.{Led, may_enter, waits}
+use Rattle.front_half.specs.Turning.{IsStill, IsQuiet, IsEntered, IsTaken}
 use Rattle.object_front.specs.declared.evaluated.Evaluated.{Evaluated}
-use Rattle.object_front.specs.declared.half.Half.{Half}
+use Rattle.front_half.specs.declared.half.Half.{Half}
 use Rattle.object_front.specs.declared.front.Front.{Front}
-use Rattle.object_front.specs.declared.turning.Turned.{Turned}
-use Rattle.object_front.specs.declared.turning.Turned.TheVariants.{Ran, Idle}
+use Rattle.front_half.specs.declared.turning.Turned.{Turned}
+use Rattle.front_half.specs.declared.turning.Turned.TheVariants.{Ran, Idle}
 use Rattle.object_core.proofs.Choosing.{none_waits, sent_none, true_not, false_not, fault_not, no_first}
 use Rattle.object_core.proofs.Lanes.{took_first, took_none}
 use Rattle.object_core.proofs.Rebuilding.{same_queue}

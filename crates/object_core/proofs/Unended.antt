@@ -12,7 +12,7 @@ use Rattle.timeline.specs.declared.back_log.Stop.{Stop}
 use Rattle.timeline.specs.declared.caller.Cause.{Cause}
 use Rattle.timeline.specs.declared.entry.Entry.{Entry}
 use Rattle.timeline.specs.declared.message.Message.{Message as Sent}
-use Rattle.object_front.specs.Standing.{kind_in}
+use Rattle.front_half.specs.Standing.{kind_in}
 use Rattle.output_gate.specs.Telling.{opened_map}
 use Rattle.front_history.specs.Turns.{HalvesAreSaid}
 use Rattle.object_messages.specs.Ends.{EndsAreNeeded, TellNoEnd, UnendedPassAsTaken, tells_end}

@@ -7,9 +7,9 @@ use Rattle.timeline.specs.declared.caller.Cause.{Cause}
 use Rattle.timeline.specs.declared.entry.Body.{Body}
 use Rattle.timeline.specs.declared.entry.Entry.{Entry}
 use Rattle.timeline.specs.declared.notice.Notice.{Notice}
-use Rattle.object_front.specs.Standing.{Stood}
+use Rattle.front_half.specs.Standing.{Stood}
 use Rattle.object_front.specs.declared.evaluated.Evaluated.{Evaluated}
-use Rattle.object_front.specs.declared.half.Half.{Half}
+use Rattle.front_half.specs.declared.half.Half.{Half}
 use Rattle.object_history.specs.Pair.{Held, Stand, mounted, wanted, fallen, Rear, IsSilentAt, IsNews, IsLeftOver, Behind, Together, unreached, answered, syncs, halts, falls, wants, mends, misses, silent, IsPair}
 use Rattle.front_history.specs.Paired.{ArePaired, logged_with}
 use Rattle.object_core.proofs.Hearing.{some_last}
@@ -74,6 +74,7 @@ module _ (start next : Contents) (below : ℕ) (f : Front) (unread : List Body) 
     none_held = behind.none_held;
     stop = behind.stop;
     stopped = behind.stopped;
+    halted = behind.halted;
     left = left;
     told = told;
     under_way = is;
@@ -111,6 +112,7 @@ pair_unheard k opened f front rear line notices n pair = record {
   lined = pair.lined;
   ends = pair.ends;
   older_said = pair.older_said;
+  older_halted = pair.older_halted;
   start = pair.start;
   starts = pair.starts;
   newest_said = pair.newest_said;

@@ -10,7 +10,7 @@ use Rattle.timeline.specs.declared.entry.Entry.{Entry}
 use Rattle.timeline.specs.declared.event.Event.{Event}
 use Rattle.timeline.specs.declared.message.Message.{Message as Sent}
 use Rattle.object_front.specs.Came.{events, kept}
-use Rattle.object_front.specs.Standing.{kind_in}
+use Rattle.front_half.specs.Standing.{kind_in}
 use Rattle.output_gate.specs.Telling.{opened_map}
 use Rattle.object_messages.specs.Naming.{messages_of}
 use Rattle.object_messages.specs.Unmoved.{UnmovedSaysNothing}

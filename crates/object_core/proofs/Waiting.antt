@@ -14,7 +14,7 @@ use Rattle.timeline.specs.declared.entry.Entry.{Entry}
 use Rattle.timeline.specs.declared.event.Event.{Event}
 use Rattle.timeline.specs.declared.notice.Notice.{Notice}
 use Rattle.timeline.specs.declared.notice.Notice.TheVariants as notice
-use Rattle.object_front.specs.Taking.{waits}
+use Rattle.front_half.specs.Taking.{waits}
 use Rattle.object_history.specs.Pair.{Held, Stand, mounted, wanted, fallen, sync, Rear, newest, awaited, IsSilentAt, Together, unreached, answered, syncs, halts, falls, wants, mends, misses, silent, IsPair, IsPhase}
 use Rattle.object_core.proofs.Hearing.{not_none}
 use Rattle.object_core.proofs.Serving.{takes_on}

@@ -12,10 +12,10 @@ use Rattle.timeline.specs.declared.notice.Notice.{Notice}
 use Rattle.object_front.specs.Came.{HasGot}
 use Rattle.object_front.specs.Classed.{IsClassed}
 use Rattle.object_front.specs.Evaluated.{seen}
-use Rattle.object_front.specs.Standing as standing
-use Rattle.object_front.specs.Standing.{Stood, IsHalf}
+use Rattle.front_half.specs.Standing as standing
+use Rattle.front_half.specs.Standing.{Stood, IsHalf}
 use Rattle.object_front.specs.declared.evaluated.Evaluated.{Evaluated}
-use Rattle.object_front.specs.declared.half.Half.{Half}
+use Rattle.front_half.specs.declared.half.Half.{Half}
 use Rattle.output_gate.specs.Entering.{is_unfit}
 use Rattle.output_gate.specs.Serving.{IsBack, is_stopped}
 use Rattle.output_gate.specs.Taking.{fit_of, may_take}

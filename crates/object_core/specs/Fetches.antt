@@ -3,7 +3,7 @@ use Rattle.std.specs.Prelude.{◌≡◌, ℕ, List, [], Option}
 use Rattle.std.specs.List.{Contains}
 use Rattle.do_tree.specs.Tree.{Script}
 use Rattle.lane.specs.Lanes.{sent_on}
-use Rattle.object_front.specs.Remaining.{left_at}
+use Rattle.front_half.specs.Remaining.{left_at}
 use Rattle.object_messages.specs.Naming.{answered_in, fetched_in}
 use Rattle.timeline.specs.declared.caller.Caller.{Caller}
 use Rattle.timeline.specs.declared.event.Event.{Event}

@@ -2,13 +2,14 @@
 use Rattle.std.specs.Prelude.{◌≡◌, Bool, true, false, List, [], ◌∷◌, Option, Some, ℕ}
 use Rattle.do_tree.specs.Tree.{Script}
 use Rattle.timeline.specs.Eligible.{is_fit}
+use Rattle.timeline.specs.History.{is_halting}
 use Rattle.timeline.specs.Intake.{Taken, delivered, noticed, wanted}
 use Rattle.timeline.specs.declared.entry.Body.{Body}
 use Rattle.timeline.specs.declared.entry.Body.TheVariants as body
 use Rattle.timeline.specs.declared.entry.Entry.{Entry}
-use Rattle.object_front.specs.Kinds.{is_call}
-use Rattle.object_front.specs.Taking.{class_after}
-use Rattle.output_gate.specs.Fits.{is_halting, comes_behind}
+use Rattle.front_half.specs.Kinds.{is_call}
+use Rattle.front_half.specs.Taking.{class_after}
+use Rattle.output_gate.specs.Fits.{comes_behind}
 
 -- Whether the slot's object is known behind an entry.
 abbrev pub known_by : Body → Bool → Bool

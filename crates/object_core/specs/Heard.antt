@@ -6,7 +6,7 @@ use Rattle.timeline.specs.Intake.{Front}
 use Rattle.timeline.specs.declared.entry.Entry.{Entry}
 use Rattle.timeline.specs.declared.notice.Notice.{Notice}
 use Rattle.timeline.specs.declared.notice.Notice.TheVariants as notice
-use Rattle.object_front.specs.Taking.{waits}
+use Rattle.front_half.specs.Taking.{waits}
 use Rattle.object_history.specs.Pair.{Rear, Stand, wanted, newest}
 
 -- A notice of an end, or of a mounting that failed.

@@ -19,9 +19,9 @@ use Rattle.timeline.specs.declared.message.Message.{Message}
 use Rattle.object_front.specs.Came.{HasGot}
 use Rattle.object_front.specs.Classed.{IsClassed}
 use Rattle.object_front.specs.Evaluated.{seen}
-use Rattle.object_front.specs.Standing.{Stood, IsClass, IsHalf, IsTakenBy, fresh, is_stopped, kind_in, nothing_logged}
+use Rattle.front_half.specs.Standing.{Stood, IsClass, IsHalf, IsTakenBy, fresh, is_stopped, kind_in, nothing_logged}
 use Rattle.object_front.specs.declared.evaluated.Evaluated.{Evaluated}
-use Rattle.object_front.specs.declared.half.Half.{Half}
+use Rattle.front_half.specs.declared.half.Half.{Half}
 use Rattle.output_gate.specs.Logs.{IsFresh}
 use Rattle.output_gate.specs.Serving as serving
 use Rattle.output_gate.specs.Storing.{IsDiskOf}

@@ -2,9 +2,9 @@
 use Rattle.std.specs.Prelude.{◌≡◌, ℕ, false, List, [], ◌∷◌, Option}
 use Rattle.do_tree.specs.Tree.{Script}
 use Rattle.object_front.specs.Came.{kept}
-use Rattle.object_front.specs.Remaining.{left_at, object_in}
-use Rattle.object_front.specs.Standing.{IsClass}
-use Rattle.object_front.specs.Taking.{waits}
+use Rattle.front_half.specs.Remaining.{left_at, object_in}
+use Rattle.front_half.specs.Standing.{IsClass}
+use Rattle.front_half.specs.Taking.{waits}
 use Rattle.output_gate.specs.Telling.{opened_map}
 use Rattle.storage_map.specs.Contents.{Contents}
 use Rattle.timeline.specs.Headline.{life_of, state_of}

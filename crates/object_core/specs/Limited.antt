@@ -7,8 +7,8 @@ use Rattle.timeline.specs.declared.caller.Cause.TheVariants as cause
 use Rattle.output_gate.specs.Storing.{HasLimit}
 use Rattle.output_gate.specs.declared.back.Back.{Back}
 
--- An end by a full journal names its limit, and comes only where the frame would pass it; the bytes that it would need are told up to the
--- greatest number.
+-- An end by a full journal names its limit and tells more bytes than it, up to the greatest number. That the frame would have needed these is
+-- said of the step at which it ends, and not here.
 abbrev pub IsFullAt : ℕ → Cause → Type 0
 IsFullAt limit (cause.Full needed most) = (most ≡ limit) × (limit < 2 ^ 64 - 1 → limit < needed)
 IsFullAt limit c = Unit {0}

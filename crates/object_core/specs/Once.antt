@@ -2,7 +2,7 @@
 use Rattle.std.specs.Prelude.{◌≡◌, ℕ, List, [], Option}
 use Rattle.do_tree.specs.Tree.{Script}
 use Rattle.lane.specs.Lanes.{sent_on}
-use Rattle.object_front.specs.Remaining.{left_at}
+use Rattle.front_half.specs.Remaining.{left_at}
 use Rattle.object_messages.specs.Exact.{IsServedOnce, callers}
 use Rattle.object_messages.specs.Naming.{called_in, replied_in}
 use Rattle.timeline.specs.Logs.{fronted}

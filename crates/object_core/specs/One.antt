@@ -18,10 +18,10 @@ use Rattle.timeline.specs.declared.back_log.Release.{Release}
 use Rattle.object_front.specs.Came.{HasGot}
 use Rattle.object_front.specs.Classed.{IsClassed}
 use Rattle.object_front.specs.Evaluated.{seen}
-use Rattle.object_front.specs.Standing as standing
-use Rattle.object_front.specs.Standing.{Stood, IsHalf, IsClass, IsTakenBy, fresh, kind_in, nothing_logged}
+use Rattle.front_half.specs.Standing as standing
+use Rattle.front_half.specs.Standing.{Stood, IsHalf, IsClass, IsTakenBy, fresh, kind_in, nothing_logged}
 use Rattle.object_front.specs.declared.evaluated.Evaluated.{Evaluated}
-use Rattle.object_front.specs.declared.half.Half.{Half}
+use Rattle.front_half.specs.declared.half.Half.{Half}
 use Rattle.output_gate.specs.Logs.{no_log}
 use Rattle.output_gate.specs.Serving as serving
 use Rattle.output_gate.specs.Serving.{IsBack}
@@ -115,10 +115,10 @@ pub record Origin : Type 0 where
 abbrev pub mounted_at : {D : Type 0} → (start : List (List Op)) → (opening : ℕ) → Back D → Origin
 mounted_at start opening back = record { start = start; opening = opening; object = back.identity; left = []; limit = back.limit }
 
--- The back knows the slot's object: that of the opening, or one whose binding it has taken.
+-- The back knows the slot's object: that of the opening, or, where it had none, one whose binding it has taken.
 abbrev pub IsNamed : {D : Type 0} → Option Object → Back D → Type 0
 IsNamed object back = (back.identity ≡ object)
-    ⊎ ((bound : Object) × (back.identity ≡ Some bound) × Contains (map (λ (e : Entry). e.body) back.log.taken.items) (body.Bind bound))
+    ⊎ ((object ≡ None) × (bound : Object) × (back.identity ≡ Some bound) × Contains (map (λ (e : Entry). e.body) back.log.taken.items) (body.Bind bound))
 
 -- Both halves, with the lanes between them: the back stands, and the front at what it has taken unless memory was wanting; its class is
 -- that of the slot's object at the opening, or of the one that was bound since, which the back knows once it has taken the binding; all

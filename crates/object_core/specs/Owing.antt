@@ -3,7 +3,7 @@ use Rattle.std.specs.Prelude.{◌≡◌, ◌≤◌, ℕ, true, false, List, ◌+
 use Rattle.std.specs.List.{Contains}
 use Rattle.do_tree.specs.Tree.{Script}
 use Rattle.object_front.specs.Came.{events}
-use Rattle.object_front.specs.Standing.{is_stopped}
+use Rattle.front_half.specs.Standing.{is_stopped}
 use Rattle.object_messages.specs.Naming.{asked_in, called_in, messages_of, replied_in, times, times_of}
 use Rattle.timeline.specs.Logs.{Fronted, fronted}
 use Rattle.timeline.specs.declared.caller.Caller.{Caller}

@@ -3,7 +3,7 @@ use Rattle.storage_map.specs.Contents.{Contents}
 use Rattle.timeline.specs.History.{said_in, start_after}
 use Rattle.timeline.specs.Logs.{Backed}
 use Rattle.timeline.specs.Told.{written}
-use Rattle.object_front.specs.Standing.{nothing_logged}
+use Rattle.front_half.specs.Standing.{nothing_logged}
 use Rattle.output_gate.specs.Standing.{older_of, own_entries}
 use Rattle.output_gate.specs.declared.back.Back.{Back}
 use Rattle.object_history.specs.Pair.{Rear}

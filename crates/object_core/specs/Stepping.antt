@@ -8,12 +8,12 @@ use Rattle.timeline.specs.declared.event.Event.{Event}
 use Rattle.timeline.specs.declared.notice.Stepped.{Stepped}
 use Rattle.timeline.specs.declared.notice.Stepped.TheVariants.{Did, Nothing}
 use Rattle.object_front.specs.Evaluated.{seen}
-use Rattle.object_front.specs.Standing as standing
-use Rattle.object_front.specs.Standing.{Stood, IsHalf}
-use Rattle.object_front.specs.Taking.{may_enter, waits}
-use Rattle.object_front.specs.Turning as turning
-use Rattle.object_front.specs.declared.turning.Turned.{Turned}
-use Rattle.object_front.specs.declared.turning.Turned.TheVariants.{Ran, Idle}
+use Rattle.front_half.specs.Standing as standing
+use Rattle.front_half.specs.Standing.{Stood, IsHalf}
+use Rattle.front_half.specs.Taking.{may_enter, waits}
+use Rattle.front_half.specs.Turning as turning
+use Rattle.front_half.specs.declared.turning.Turned.{Turned}
+use Rattle.front_half.specs.declared.turning.Turned.TheVariants.{Ran, Idle}
 use Rattle.output_gate.specs.Entering as entering
 use Rattle.output_gate.specs.Flushing as flushing
 use Rattle.output_gate.specs.Mending as mending

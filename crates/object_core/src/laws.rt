@@ -185,7 +185,7 @@ pub fn fresh_are_one<D: Disk>()
     front_laws::events_come();
 }
 
-/// What an object says and leaves whose class its script hasn't.
+/// What an object says and leaves that has no class, and one whose class its script hasn't.
 pub fn one_without_class<D: Disk>(core: &Core<D>)
     ensures { OneWithoutClass D.moment_of D.left_since D.told D.image D.faults_of core.now }
 {

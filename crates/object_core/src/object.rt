@@ -128,6 +128,7 @@ impl<D: Disk> Core<D> {
         ensures runs { Runs D.moment_of D.faults_of (script_in checked.now) self.old self.new choices.items result }
         ensures again { CanRun D.moment_of D.left_since D.told D.image D.faults_of (script_in checked.now) self.new }
         ensures one { KeepsOne D.moment_of D.left_since D.told D.image D.faults_of (script_in checked.now) self.old self.new }
+        ensures tells { KeepsTelling D.told self.old.back.store self.new.back.store }
     {
         for choice in choices {
             self.step(alloc, checked, choice)?;

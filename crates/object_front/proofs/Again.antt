@@ -4,11 +4,11 @@ use Rattle.do_tree.specs.Tree.{Script}
 use Rattle.timeline.specs.declared.event.Event.{Event}
 use Rattle.timeline.specs.declared.notice.Notice.{Notice}
 use Rattle.front_turns.specs.Paused.{Paused}
-use Rattle.object_front.specs.Standing.{Stood, IsHalf, is_stopped}
-use Rattle.object_front.specs.Turning.{CanTurn, Lanes, IsStill, Turns, Halts}
-use Rattle.object_front.specs.declared.half.Half.{Half}
-use Rattle.object_front.specs.declared.turning.Turned.{Turned}
-use Rattle.object_front.specs.declared.turning.Turned.TheVariants.{Ran, Idle}
+use Rattle.front_half.specs.Standing.{Stood, IsHalf, is_stopped}
+use Rattle.front_half.specs.Turning.{CanTurn, Lanes, IsStill, Turns, Halts}
+use Rattle.front_half.specs.declared.half.Half.{Half}
+use Rattle.front_half.specs.declared.turning.Turned.{Turned}
+use Rattle.front_half.specs.declared.turning.Turned.TheVariants.{Ran, Idle}
 
 -- From what a turn says of each of its answers.
 pub can_turn_again : {T E : Type 0} (see : T → Paused) (script : Script) (old new : Half T) (before after : Lanes)

@@ -11,12 +11,12 @@ use Rattle.timeline.specs.Object.{Object, idle, waiting, ended, is_blocked}
 use Rattle.timeline.specs.declared.caller.Caller.{Caller}
 use Rattle.timeline.specs.declared.event.Event.{Event}
 use Rattle.timeline.specs.declared.event.Event.TheVariants as event
-use Rattle.object_front.specs.Kinds.{is_call}
-use Rattle.object_front.specs.Standing.{Stood}
-use Rattle.object_front.specs.Taking.{IsFirst, stale, at_mode, doing, may_enter, waits, without}
-use Rattle.object_front.specs.declared.testing.Doing.TheVariants.{Delivers, Wants, Defers, Drops, Sticks}
-use Rattle.object_front.proofs.Decided.{IsDelivery, delivery_of, mode_of_wanted}
-use Rattle.object_front.proofs.Doings.{no_defers, of_two, of_stale, of_down}
+use Rattle.front_half.specs.Kinds.{is_call}
+use Rattle.front_half.specs.Standing.{Stood}
+use Rattle.front_half.specs.Taking.{IsFirst, stale, at_mode, doing, may_enter, waits, without}
+use Rattle.front_half.specs.declared.testing.Doing.TheVariants.{Delivers, Wants, Defers, Drops, Sticks}
+use Rattle.front_half.proofs.Decided.{IsDelivery, delivery_of, mode_of_wanted}
+use Rattle.front_half.proofs.Doings.{no_defers, of_two, of_stale, of_down}
 use Rattle.object_front.proofs.Accounted.{all_of, part_itself, part_behind, part_more, part_longer, part_trans, out_of_kept, keeps_as}
 use Rattle.object_front.specs.Came.{IsPartOf, skips, calls, wanting, kept}
 use Rattle.std.proofs.lemmas.List.Sorted.{IsPermutation-to_front, IsPermutation-trans, IsPermutation-cons, IsPermutation-middle}

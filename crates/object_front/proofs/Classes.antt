@@ -9,13 +9,13 @@ use Rattle.timeline.specs.declared.event.Event.{Event}
 use Rattle.timeline.specs.declared.event.Event.TheVariants as event
 use Rattle.timeline.specs.declared.notice.Notice.{Notice}
 use Rattle.object_front.specs.Evaluated.{seen}
-use Rattle.object_front.specs.Standing.{Stood, IsClass, IsTakenBy, IsCutShort, kind_in, is_stopped}
-use Rattle.object_front.specs.Taking.{Led, IsLedBy, fits, sticks_at, doing, does, class_after, on_event, without}
-use Rattle.object_front.specs.Turning.{IsTaken, TakesDeferred, TakesEvent, TakesNone, TakesNotice, Turns, Halts}
+use Rattle.front_half.specs.Standing.{Stood, IsClass, IsTakenBy, IsCutShort, kind_in, is_stopped}
+use Rattle.front_half.specs.Taking.{Led, IsLedBy, fits, sticks_at, doing, does, class_after, on_event, without}
+use Rattle.front_half.specs.Turning.{IsTaken, TakesDeferred, TakesEvent, TakesNone, TakesNotice, Turns, Halts}
 use Rattle.object_front.specs.declared.evaluated.Evaluated.{Evaluated}
-use Rattle.object_front.specs.declared.half.Half.{Half}
-use Rattle.object_front.specs.declared.testing.Doing.{Doing}
-use Rattle.object_front.specs.declared.testing.Doing.TheVariants.{Delivers, Wants, Defers, Drops, Sticks}
+use Rattle.front_half.specs.declared.half.Half.{Half}
+use Rattle.front_half.specs.declared.testing.Doing.{Doing}
+use Rattle.front_half.specs.declared.testing.Doing.TheVariants.{Delivers, Wants, Defers, Drops, Sticks}
 use Rattle.object_front.proofs.Coming.{grown_by, mode_goes}
 use Rattle.object_front.specs.Came.{events}
 use Rattle.object_front.specs.Classed.{ClassComes, IsClassed, class_behind, class_by}
@@ -93,7 +93,7 @@ module _ (script : Script) where
       taken
 
   -- The class by what is logged, where the turn is logged.
-  grown_class : (k : Kind) (first : Option ℕ) (from : intake.Front) (taken : List Taken) (st : Stood) (before got : List Event) (notices_before notices told : List Notice)
+  pub grown_class : (k : Kind) (first : Option ℕ) (from : intake.Front) (taken : List Taken) (st : Stood) (before got : List Event) (notices_before notices told : List Notice)
       (led : Led) (old new : Fronted) → IsTaken script st before got notices_before notices told led → IsTakenBy k from taken st.front old
       → new.delivered ≡ delivered_in k from (taken ++ led.item) → st.class ≡ class_by script first old → led.stood.class ≡ class_by script first new
   grown_class k first from taken st before got notices_before notices told led old new takes by delivered was =

@@ -14,16 +14,16 @@ use Rattle.timeline.specs.declared.notice.Notice.{Notice}
 use Rattle.timeline.specs.declared.notice.Notice.TheVariants as notice
 use Rattle.front_turns.specs.Paused.{Paused}
 use Rattle.object_front.specs.Evaluated.{seen}
-use Rattle.object_front.specs.Kinds.{is_call}
-use Rattle.object_front.specs.Standing.{Stood, IsClass, IsMode, IsTakenBy, IsCutShort, kind_in, fresh, is_stopped, is_stopped_mode, nothing_logged}
-use Rattle.object_front.specs.Taking.{Led, IsLedBy, fits, sticks_at, doing, does, due_at, without}
-use Rattle.object_front.specs.Turning.{Lanes, IsStill, IsTaken, TakesDeferred, TakesEvent, TakesNone, TakesNotice, Turns, Halts}
+use Rattle.front_half.specs.Kinds.{is_call}
+use Rattle.front_half.specs.Standing.{Stood, IsClass, IsMode, IsTakenBy, IsCutShort, kind_in, fresh, is_stopped, is_stopped_mode, nothing_logged}
+use Rattle.front_half.specs.Taking.{Led, IsLedBy, fits, sticks_at, doing, does, due_at, without}
+use Rattle.front_half.specs.Turning.{Lanes, IsStill, IsTaken, TakesDeferred, TakesEvent, TakesNone, TakesNotice, Turns, Halts}
 use Rattle.object_front.specs.declared.evaluated.Evaluated.{Evaluated}
-use Rattle.object_front.specs.declared.half.Half.{Half}
-use Rattle.object_front.specs.declared.half.Mode.{Mode as HeldMode}
-use Rattle.object_front.specs.declared.half.Mode.TheVariants as held
-use Rattle.object_front.specs.declared.testing.Doing.{Doing}
-use Rattle.object_front.specs.declared.testing.Doing.TheVariants.{Delivers, Wants, Defers, Drops, Sticks}
+use Rattle.front_half.specs.declared.half.Half.{Half}
+use Rattle.front_half.specs.declared.half.Mode.{Mode as HeldMode}
+use Rattle.front_half.specs.declared.half.Mode.TheVariants as held
+use Rattle.front_half.specs.declared.testing.Doing.{Doing}
+use Rattle.front_half.specs.declared.testing.Doing.TheVariants.{Delivers, Wants, Defers, Drops, Sticks}
 use Rattle.object_front.proofs.Arriving.{Arrives, arrives_new, arrives_deferred, out_call}
 use Rattle.object_front.proofs.Accounted.{all_of, to_first, to_second, to_third, to_kept, to_last_kept, to_lost, out_of_kept, all_aside, part_around, part_trans}
 use Rattle.object_front.specs.Came.{IsPartOf, nothing, AreCome, HasGot, EventsCome, events, calls, wanting, kept}

@@ -24,8 +24,8 @@ use Rattle.front_turns.specs.contracts.object.Object as Object
 use Rattle.front_turns.specs.contracts.object.Asked as Asked
 use Rattle.front_turns.specs.contracts.object.State as State
 use Rattle.object_front.specs.contracts.evaluated.Evaluated as Evaluated
-use Rattle.object_front.specs.contracts.half.Mode as Mode
-use Rattle.object_front.specs.contracts.half.Half as Half
+use Rattle.front_half.specs.contracts.half.Mode as Mode
+use Rattle.front_half.specs.contracts.half.Half as Half
 use Rattle.object_front.specs.contracts.front.Front as Front
 
 ruleset parts = (tt, sendable, crosses, as_row_send, plain_send)

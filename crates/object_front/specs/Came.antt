@@ -8,11 +8,11 @@ use Rattle.timeline.specs.Logs.{Fronted, fronted}
 use Rattle.timeline.specs.declared.event.Event.{Event}
 use Rattle.timeline.specs.declared.notice.Notice.{Notice}
 use Rattle.object_front.specs.Evaluated.{seen}
-use Rattle.object_front.specs.Kinds.{is_call}
-use Rattle.object_front.specs.Standing.{Stood, IsClass, IsTakenBy, kind_in, fresh, is_stopped, nothing_logged}
-use Rattle.object_front.specs.Turning.{Lanes, IsStill, Turns, Halts}
+use Rattle.front_half.specs.Kinds.{is_call}
+use Rattle.front_half.specs.Standing.{Stood, IsClass, IsTakenBy, kind_in, fresh, is_stopped, nothing_logged}
+use Rattle.front_half.specs.Turning.{Lanes, IsStill, Turns, Halts}
 use Rattle.object_front.specs.declared.evaluated.Evaluated.{Evaluated}
-use Rattle.object_front.specs.declared.half.Half.{Half}
+use Rattle.front_half.specs.declared.half.Half.{Half}
 
 -- A list is part of another, in its order.
 pub data IsPartOf {X : Type 0} : List X → List X → Type 0 where

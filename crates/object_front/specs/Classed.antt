@@ -8,11 +8,11 @@ use Rattle.timeline.specs.declared.event.Event.{Event}
 use Rattle.timeline.specs.declared.notice.Notice.{Notice}
 use Rattle.object_front.specs.Came.{events}
 use Rattle.object_front.specs.Evaluated.{seen}
-use Rattle.object_front.specs.Standing.{Stood, IsClass, IsTakenBy, kind_in, is_stopped}
-use Rattle.object_front.specs.Taking.{class_after}
-use Rattle.object_front.specs.Turning.{Turns, Halts}
+use Rattle.front_half.specs.Standing.{Stood, IsClass, IsTakenBy, kind_in, is_stopped}
+use Rattle.front_half.specs.Taking.{class_after}
+use Rattle.front_half.specs.Turning.{Turns, Halts}
 use Rattle.object_front.specs.declared.evaluated.Evaluated.{Evaluated}
-use Rattle.object_front.specs.declared.half.Half.{Half}
+use Rattle.front_half.specs.declared.half.Half.{Half}
 
 -- The class behind these events, where it was this.
 abbrev pub class_behind : Script → Option ℕ → List Event → Option ℕ

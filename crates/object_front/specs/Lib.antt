@@ -1,17 +1,3 @@
-pub mod Answering
-pub mod ByCallers
 pub mod Came
 pub mod Classed
-pub mod Ending
 pub mod Evaluated
-pub mod Gated
-pub mod Kinds
-pub mod Leaving
-pub mod Moving
-pub mod Noticing
-pub mod Remaining
-pub mod Sending
-pub mod Served
-pub mod Standing
-pub mod Taking
-pub mod Turning

@@ -6,21 +6,18 @@ ghost use Rattle.do_tree.specs.Tree.{Script};
 ghost use Rattle.front_turns.specs.Paused.{HasClass};
 ghost use Rattle.timeline.specs.Logs.{fronted};
 ghost use Rattle.object_front.specs.Evaluated.{seen};
-ghost use Rattle.object_front.specs.Remaining.{left_at};
-ghost use Rattle.object_front.specs.Sending.{AreSentToo};
-ghost use Rattle.object_front.specs.Standing as standing;
-ghost use Rattle.object_front.specs.Standing.{Stood, IsHalf, fresh, nothing_logged};
-ghost use Rattle.object_front.specs.Taking as taking;
-ghost use Rattle.object_front.specs.Turning.{CanTurn, IsStill, IsQuiet, Turns, Halts};
-ghost use Rattle.object_front.specs.declared.turning.Turned.TheVariants.{Ran, Idle};
+ghost use Rattle.front_half.specs.Remaining.{left_at};
+ghost use Rattle.front_half.specs.Sending.{AreSentToo};
+ghost use Rattle.front_half.specs.Standing as standing;
+ghost use Rattle.front_half.specs.Standing.{Stood, IsHalf, fresh, nothing_logged};
+ghost use Rattle.front_half.specs.Taking as taking;
+ghost use Rattle.front_half.specs.Turning.{CanTurn, IsStill, IsQuiet, Turns, Halts};
+ghost use Rattle.front_half.specs.declared.turning.Turned.TheVariants.{Ran, Idle};
 
 use crate::evaluated::Evaluated;
-use crate::half::{Half, Mode};
-use crate::turning::Turned;
 use do_tree::Checked;
 use do_value::Mem;
-use front_turns::{Object, State};
-use input_gate::Deferred;
+use front_half::{Half, Turned};
 use lane::{Inlet, Outlet};
 use std::alloc::Global;
 use storage_map::Alarm;
@@ -50,26 +47,7 @@ impl Front {
     {
         let _ = checked;
         Front {
-            half: Half {
-                class,
-                incarnation: 1,
-                count: 0,
-                mode: Mode::Serves(State::Idle {
-                    object: Object::begin(alloc, alarm),
-                }),
-                due: None,
-                deferred: Deferred::new(alloc),
-                stuck: false,
-                first_delivered: 0,
-                first_sent: 0,
-                log: FrontLog {
-                    delivered: Vec::new(alloc),
-                    downed: Vec::new(alloc),
-                    dropped: Vec::new(alloc),
-                    sent: Vec::new(alloc),
-                    ends: Vec::new(alloc),
-                },
-            },
+            half: Half::new(alloc, class, alarm),
         }
     }
 
@@ -121,7 +99,7 @@ impl Front {
     pub fn log(&self) -> &FrontLog
         ensures { fronted result.now ≡ fronted self.now.half.log }
     {
-        &self.half.log
+        self.half.log()
     }
 
     /// The history. It takes no memory.

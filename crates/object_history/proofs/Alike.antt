@@ -1,18 +1,23 @@
 -- Histories that are alike: what an incarnation says depends on these parts of the logs, and on what was kept before it.
 use Rattle.std.proofs.Common.{◌≡◌, ◌∙◌, ap, sym, subst, refl, ℕ, zero, suc, ◌<◌, List, [], ◌∷◌, ◌++◌, drop, arith, Option, Some, None}
-use Rattle.std.specs.Prelude.{slice_get}
-use Rattle.std.specs.List.{flat_map}
+use Rattle.std.proofs.lemmas.List.{map-append}
+use Rattle.std.proofs.lemmas.List.Elements.{Contains-append_left, filter-append}
+use Rattle.std.specs.Prelude.{slice_get, ◌==◌}
+use Rattle.std.specs.List.{Contains, flat_map}
 use Rattle.do_tree.specs.Tree.{Script}
 use Rattle.storage_map.specs.Contents.{Contents, apply}
 use Rattle.storage_map.specs.declared.op.Op.{Op}
-use Rattle.timeline.specs.Headline.{AreSaid, IsSoFar, down_said, missed_of}
+use Rattle.timeline.specs.Headline.{AreHalted, AreSaid, IsHalted, IsSoFar, down_said, missed_of}
 use Rattle.timeline.specs.History.{Incarnation, of_number, entries_of, incarnation_at, incarnations, kept_batches, kept_before, start_after, said_in, resets_by, resets}
 use Rattle.timeline.specs.Logs.{Fronted, Backed}
+use Rattle.timeline.specs.Object.{State, idle, begun}
 use Rattle.timeline.specs.Replies.{unanswered, resets_of}
-use Rattle.timeline.specs.Told.{spoken, spoken_in, told}
+use Rattle.timeline.specs.Told.{by_map, spoken, spoken_in, told, told_from}
 use Rattle.timeline.specs.declared.back_log.Missed.{Missed}
 use Rattle.timeline.specs.declared.back_log.Stop.{Stop}
+use Rattle.timeline.specs.declared.caller.Cause.{Cause}
 use Rattle.timeline.specs.declared.entry.Body.{Body}
+use Rattle.timeline.specs.declared.entry.Body.TheVariants as body
 use Rattle.timeline.specs.declared.entry.Entry.{Entry}
 use Rattle.timeline.specs.declared.event.Event.{Event}
 
@@ -28,6 +33,26 @@ pub record IsAlike (front new_front : Fronted) (back new_back : Backed) (index :
 abbrev pub IsKeptAlike : (front new_front : Fronted) (back new_back : Backed) (index : ℕ) → Type 0
 IsKeptAlike front new_front back new_back index =
     kept_batches (incarnation_at new_front new_back index) ≡ kept_batches (incarnation_at front back index)
+
+-- Of what ended it the same is logged, and what was taken of it is there still.
+pub record EndsAlike (front new_front : Fronted) (back new_back : Backed) (index : ℕ) : Type 0 where
+  pub delivered : of_number (suc index) new_front.delivered ≡ of_number (suc index) front.delivered
+  pub stop : slice_get new_back.stops index ≡ slice_get back.stops index
+  pub taken : (b : Body) → Contains (said_in (entries_of (suc index) back.taken)) b → Contains (said_in (entries_of (suc index) new_back.taken)) b
+
+-- So it is where more was taken behind it.
+pub still_taken : (i : ℕ) (taken more : List Entry) (b : Body) → Contains (said_in (entries_of i taken)) b
+    → Contains (said_in (entries_of i (taken ++ more))) b
+still_taken i taken more b has =
+    subst (λ (bodies : List Body). Contains bodies b)
+    (sym (ap said_in (filter-append (λ (e : Entry). e.incarnation == i) taken more)
+    ∙ map-append (λ (e : Entry). e.body) (entries_of i taken) (entries_of i more)))
+    (Contains-append_left (said_in (entries_of i taken)) (said_in (entries_of i more)) b has)
+
+-- Where an object stands that was delivered these, and started from this map.
+abbrev pub stands_at : Script → ℕ → ℕ → Contents → List Event → State
+stands_at script class number start events =
+    (told_from by_map (record { script = script; class = class; incarnation = number }) start (idle (begun start.alarm)) events).state
 
 -- The failures that an end leaves, by its stop, the events and the entries.
 abbrev resets_as : Option Stop → List Event → List Entry → List Body
@@ -111,3 +136,27 @@ module _ (front new_front : Fronted) (back new_back : Backed) where
     subst (SaysSo script class (suc index)) (sym (same_seen opened index same kept)) said.0,
     same_said script class opened index (λ k less. same k (omega (arith, less))) (λ k less. kept k (omega (arith, less))) said.1,
   )
+
+  -- and has ended by a turn, where it has ended so
+  halted_at : (script : Script) (class : ℕ) (opened : Contents) (index : ℕ) → EndsAlike front new_front back new_back index
+      → start_after opened (incarnations new_front new_back index) ≡ start_after opened (incarnations front back index) → (cause : Cause)
+      → IsHalted script class opened (incarnation_at front back index) (incarnations front back index) cause
+      → IsHalted script class opened (incarnation_at new_front new_back index) (incarnations new_front new_back index) cause
+  halted_at script class opened index alike starts cause halted = (
+    ap (λ (start : Contents). stands_at script class (suc index) start (of_number (suc index) new_front.delivered)) starts
+        ∙ ap (λ (events : List Event). stands_at script class (suc index) (start_after opened (incarnations front back index)) events) alike.delivered
+        ∙ halted.0,
+    alike.taken (body.Halt cause) halted.1,
+  )
+
+  pub same_halted : (script : Script) (class : ℕ) (opened : Contents) (n : ℕ) → ((index : ℕ) → index < n → EndsAlike front new_front back new_back index)
+      → ((index : ℕ) → suc index < n → IsKeptAlike front new_front back new_back index)
+      → AreHalted script class opened (incarnations front back n) → AreHalted script class opened (incarnations new_front new_back n)
+  same_halted script class opened zero same kept halted = tt
+  same_halted script class opened (suc index) same kept halted =
+      let alike = same index (omega arith) in (
+        (λ stop is by.
+            halted_at script class opened index alike (same_start opened index (λ k less. kept k (omega (arith, less)))) stop.cause
+            (halted.0 stop (sym alike.stop ∙ is) by)),
+        same_halted script class opened index (λ k less. same k (omega (arith, less))) (λ k less. kept k (omega (arith, less))) halted.1,
+      )

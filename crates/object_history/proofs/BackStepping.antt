@@ -31,8 +31,8 @@ steps_keep well k opened f front rear line given notices _ _ _ (flies count map)
     let flights = rear.log.flights ++ count ∷ [] in
     told_none (λ (all : List Notice). IsPair k opened f front (record rear { log = record rear.log { flights = flights }; durable = rear.before; map = map }) line all) notices given are
     (flown_on k opened f front rear line notices pair flights rear.log.released rear.before map)
-steps_keep well k opened f front rear line given notices _ _ _ (stops stop held map stand less flown is_held) known after are pair =
-    stops_by_failure k opened f front rear line notices known pair stop held map stand less is_held given are
+steps_keep well k opened f front rear line given notices _ _ _ (stops stop held map stand less flown by_append is_held) known after are pair =
+    stops_by_failure k opened f front rear line notices known pair stop held map stand less by_append is_held given are
 steps_keep well k opened f front rear line given notices _ _ _ (sends release map) known after are pair =
     let released = rear.log.released ++ release ∷ [] in
     told_none (λ (all : List Notice). IsPair k opened f front (record rear { log = record rear.log { released = released }; map = map }) line all) notices given are

@@ -14,7 +14,7 @@ use Rattle.timeline.specs.declared.back_log.Stop.{Stop}
 use Rattle.timeline.specs.declared.entry.Body.{Body}
 use Rattle.timeline.specs.declared.entry.Entry.{Entry}
 use Rattle.timeline.specs.declared.event.Event.{Event}
-use Rattle.timeline.specs.Passed.{is_mend}
+use Rattle.timeline.specs.Passed.{is_mend, is_said_down}
 use Rattle.object_history.specs.Pair.{Held, Stand, mounted, Rear, IsLogged, IsLine, IsUnread, IsCall, failures, SaysDown, serving, Together, unreached, IsPair}
 use Rattle.object_history.specs.Saying.{is_plain}
 use Rattle.object_history.specs.Telling.{Tells}
@@ -59,6 +59,7 @@ module _ (k : Kind) (opened : Contents) (front : Fronted) (rear : Rear)
     calls = subst (λ (calls : List Event). All IsCall calls) (sym no_calls) (All-nil IsCall);
     enough = omega (arith, ap (λ (calls : List Event). length calls) no_calls);
     spoken = ap (λ (calls : List Event). down_said calls (failures first rear.log)) (sym no_calls);
+    down = All-nil (λ (b : Body). is_said_down b ≡ true);
   }
 
   tells : Tells k opened [] first
@@ -88,6 +89,7 @@ module _ (k : Kind) (opened : Contents) (front : Fronted) (rear : Rear)
     lined = lined;
     ends = ends;
     older_said = tt;
+    older_halted = tt;
     start = opened;
     starts = refl;
     newest_said = serving [] tells says_none;

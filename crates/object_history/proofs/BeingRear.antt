@@ -40,7 +40,7 @@ module _ {D : Type 0} (moment_of : D → ℕ) (left_since : D → ℕ → List �
       record {
         logs = o.logs;
         followed = followed_as back o back.mode refl;
-        begun = o.missed;
+        begun = λ i m is. (o.missed i m is).within;
         map = λ stand front i older is. map_is moment_of left_since told image faults_of start opening back disk at tells
             (sound_as moment_of left_since told image faults_of start opening back on known) (mode_of back.mode stand) front i older is;
         owns = o.unflown;

@@ -1,8 +1,8 @@
 -- While an object is down: a call asks for a mounting, its mounting is good, or it fails.
-use Rattle.std.proofs.Common.{◌≡◌, ◌∙◌, ap, sym, subst, refl, inl, inr, ℕ, suc, List, [], ◌∷◌, ◌++◌, append-nil, append_assoc, length, arith, Option, Some, None, IfSome}
+use Rattle.std.proofs.Common.{◌≡◌, ◌∙◌, ap, sym, subst, refl, inl, inr, true, ℕ, suc, List, [], ◌∷◌, ◌++◌, append-nil, append_assoc, length, arith, Option, Some, None, IfSome}
 use Rattle.std.proofs.lemmas.Grind.{flat_map-append}
 use Rattle.std.proofs.lemmas.List.{length_push, append_cancel_left}
-use Rattle.std.proofs.lemmas.List.Elements.{All-push}
+use Rattle.std.proofs.lemmas.List.Elements.{All-append, All-push}
 use Rattle.std.specs.Prelude.{ℤ}
 use Rattle.std.specs.List.{All}
 use Rattle.storage_map.specs.Contents.{Contents}
@@ -11,6 +11,7 @@ use Rattle.timeline.specs.History.{History, of_number, incarnations, resets}
 use Rattle.timeline.specs.Intake.{Kind, Front, Mode, serves, down, noticed, wanted, down_replies, numbered}
 use Rattle.timeline.specs.Logs.{Fronted, Backed}
 use Rattle.timeline.specs.Object.{idle, begun}
+use Rattle.timeline.specs.Passed.{is_said_down}
 use Rattle.timeline.specs.Told.{Said, said_by, spoken_in, written}
 use Rattle.timeline.specs.declared.back_log.Missed.{Missed}
 use Rattle.timeline.specs.declared.caller.Cause.{Cause}
@@ -21,7 +22,7 @@ use Rattle.timeline.specs.declared.event.Event.{Event}
 use Rattle.timeline.specs.declared.notice.Notice.{Notice}
 use Rattle.timeline.specs.declared.notice.Notice.TheVariants as notice
 use Rattle.object_history.proofs.Advancing.{front}
-use Rattle.object_history.proofs.Downs.{is_down, same_call, none_waits, IsFresh, alarm_in, counts_in, written_both, down_more, failures_more, replies_plain, replies_silent}
+use Rattle.object_history.proofs.Downs.{is_down, same_call, none_waits, IsFresh, alarm_in, counts_in, written_both, down_more, failures_more, replies_down, replies_plain, replies_silent}
 use Rattle.object_history.proofs.Frames.{now, GoesOn, own_calls, down_same, kept}
 use Rattle.object_history.proofs.Ready.{not_nil, same_head, same_rest, none_plain, all_plain, unread_more, IsReadyNow, at_stand, ready_steps}
 use Rattle.object_history.specs.Laws.{TellingGoesOn}
@@ -185,6 +186,8 @@ missed_says older f old new back unread stand held left call before after said i
           ∙ ap (λ (spoken : List Said). spoken_in (resets older) ++ spoken)
           (sym (down_more calls call all_missed missed.older m down_so.calls is_call missed.missed missed.length_is)
           ∙ ap (λ (all : List Event). down_said all (failures f back)) (sym called));
+      down = subst (λ (bodies : List Body). All (λ (b : Body). is_said_down b ≡ true) bodies) (sym all_said)
+          (All-append (λ (b : Body). is_said_down b ≡ true) f.said replies down_so.down (replies_down call before after is_call));
     }
 
 -- It is down still, having said that too.
@@ -288,6 +291,7 @@ wanted_says older f old new back e same down_so =
       calls = is.calls;
       enough = is.enough;
       spoken = flat_map-append said_by f.said (body.Mend ∷ []) ∙ append-nil (spoken_in f.said) ∙ is.spoken;
+      down = All-push (λ (b : Body). is_said_down b ≡ true) f.said body.Mend down_so.down refl;
     }
 
 -- It is down, and the call waits.

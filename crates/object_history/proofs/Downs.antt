@@ -1,5 +1,5 @@
 -- What is said while an object is down, and what tells its modes apart.
-use Rattle.std.proofs.Common.{◌≡◌, ◌∙◌, ap, sym, subst, refl, ℕ, suc, List, [], ◌∷◌, ◌++◌, length, drop, arith, Option, Some, None}
+use Rattle.std.proofs.Common.{◌≡◌, ◌∙◌, ap, sym, subst, refl, true, ℕ, suc, List, [], ◌∷◌, ◌++◌, length, drop, arith, Option, Some, None}
 use Rattle.std.proofs.lemmas.List.{length_push}
 use Rattle.std.proofs.lemmas.List.Elements.{All-nil, All-cons, All-head, All-tail, All-map}
 use Rattle.std.specs.Prelude.{ℤ, Err}
@@ -8,6 +8,7 @@ use Rattle.storage_map.specs.Contents.{Contents}
 use Rattle.timeline.specs.Headline.{down_said}
 use Rattle.timeline.specs.Intake.{Mode, serves, down, down_replies}
 use Rattle.timeline.specs.Object.{State}
+use Rattle.timeline.specs.Passed.{is_said_down}
 use Rattle.timeline.specs.Replies.{reset_of, resets_of}
 use Rattle.timeline.specs.Told.{Said, message, spoken_in, written, written_by}
 use Rattle.timeline.specs.declared.back_log.Missed.{Missed}
@@ -86,6 +87,10 @@ resets_silent cause (from ∷ callers) m = resets_silent cause callers m
 pub resets_plain : (cause : Cause) (callers : List Caller) → ArePlain (resets_of cause callers)
 resets_plain cause callers = All-map IsPlain (reset_of cause) callers (λ k from less. refl)
 
+-- which an incarnation may say that isn't mounted
+pub resets_down : (cause : Cause) (callers : List Caller) → All (λ (b : Body). is_said_down b ≡ true) (resets_of cause callers)
+resets_down cause callers = All-map (λ (b : Body). is_said_down b ≡ true) (reset_of cause) callers (λ k from less. refl)
+
 -- so is that of a call
 pub replies_plain : (call : Event) (before after : ℕ) → IsCall call → ArePlain (down_replies (Some call) before after)
 replies_plain (event.Call from method args depth at) before after is = All-cons IsPlain _ [] refl (All-nil IsPlain)
@@ -93,6 +98,14 @@ replies_plain (event.Answer incarnation number result at) before after is = absu
 replies_plain (event.Tick at) before after is = absurd is
 replies_plain (event.Evict at) before after is = absurd is
 replies_plain (event.Bind identity) before after is = absurd is
+
+pub replies_down : (call : Event) (before after : ℕ) → IsCall call → All (λ (b : Body). is_said_down b ≡ true) (down_replies (Some call) before after)
+replies_down (event.Call from method args depth at) before after is =
+    All-cons (λ (b : Body). is_said_down b ≡ true) _ [] refl (All-nil (λ (b : Body). is_said_down b ≡ true))
+replies_down (event.Answer incarnation number result at) before after is = absurd is
+replies_down (event.Tick at) before after is = absurd is
+replies_down (event.Evict at) before after is = absurd is
+replies_down (event.Bind identity) before after is = absurd is
 
 -- which writes nothing either
 pub replies_silent : (call : Event) (before after : ℕ) (m : Contents) → IsCall call → written m (down_replies (Some call) before after) ≡ m

@@ -9,7 +9,7 @@ use Rattle.timeline.specs.declared.entry.Entry.{Entry}
 use Rattle.timeline.specs.declared.event.Event.{Event}
 use Rattle.timeline.specs.declared.notice.Notice.{Notice}
 use Rattle.object_history.proofs.Frames.{down_same}
-use Rattle.object_history.proofs.OlderFronts.{AreSameTo, older_same, said_same, start_same}
+use Rattle.object_history.proofs.OlderFronts.{AreSameTo, halted_same, older_same, said_same, start_same}
 use Rattle.object_history.specs.Pair.{Held, Stand, Rear, IsLogged, IsLine, IsNewest, serving, falling, Together, unreached, answered, syncs, halts, falls, wants, mends, misses, silent, Behind, IsPhase, IsPair}
 
 -- The log with other events dropped.
@@ -95,6 +95,7 @@ on_dropped k opened f front rear line notices dropped pair =
       lined = lined_same f front dropped rear.log.taken line pair.lined;
       ends = pair.ends;
       older_said = said_same pair.below front (with_dropped front dropped) same rear.log k.script k.class opened pair.below (omega arith) pair.older_said;
+      older_halted = halted_same pair.below front (with_dropped front dropped) same rear.log k.script k.class opened pair.below (omega arith) pair.older_halted;
       start = pair.start;
       starts = pair.starts ∙ sym (start_same opened front (with_dropped front dropped) rear.log pair.below);
       newest_said = subst (λ (older : History). IsNewest k older pair.start f (with_dropped front dropped) rear.log)

@@ -15,7 +15,7 @@ use Rattle.timeline.specs.declared.notice.Notice.{Notice}
 use Rattle.timeline.specs.declared.notice.Notice.TheVariants as notice
 use Rattle.object_history.proofs.Downs.{is_down}
 use Rattle.object_history.proofs.Ready.{not_nil, same_head, same_rest, IsEnd, end_answers_none}
-use Rattle.object_history.specs.Pair.{Held, Stand, mounted, wanted, fallen, Rear, IsUnread, Together, unreached, answered, syncs, halts, falls, wants, mends, misses, silent, IsNews, IsLeftOver, fallen_once, IsPhase}
+use Rattle.object_history.specs.Pair.{Held, Stand, mounted, wanted, fallen, Rear, IsUnread, Together, unreached, answered, syncs, halts, falls, wants, mends, misses, silent, IsNews, IsLeftOver, HasHalted, fallen_once, IsPhase}
 
 -- Where both halves are in one incarnation, no news of an end is under way to a front that serves.
 module _ (start : Contents) (f : Front) (old : Fronted) (back : Backed) (unread : List Body) (before : ℕ) (state : State) (is_so : f.mode ≡ serves state)
@@ -78,6 +78,7 @@ pub record IsFollowedBy (opened : Contents) (below : ℕ) (f : Front) (old : Fro
   pub none_held : rear.held ≡ []
   pub stop : Stop
   pub stopped : slice_get rear.log.stops below ≡ Some stop
+  pub halted : HasHalted f rear.log stop.cause
   pub is_next : IsNextBy (start_after opened (incarnations old rear.log (suc below))) stop.cause rear.stand n
   pub none_left : left ≡ []
   pub fails : length (missed_of (suc f.incarnation) rear.log.downs) ≡ fallen_once rear.stand
@@ -100,6 +101,7 @@ ended_phase opened below start f old rear unread late n left state is_so is_end 
       none_held = is.none_held;
       stop = is.stop;
       stopped = is.stopped;
+      halted = is.halted;
       is_next = news.0;
       none_left = news.1;
       fails = is.fails;

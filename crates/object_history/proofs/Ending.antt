@@ -1,6 +1,6 @@
 -- An incarnation has ended, and its front is told: the next one begins, mounted or down.
 use Rattle.std.proofs.Common.{◌≡◌, ◌∙◌, ap, sym, subst, refl, inl, ℕ, zero, suc, ◌<◌, ◌≤◌, List, [], ◌∷◌, ◌++◌, append-nil, append_assoc, length, map, take, arith, Option, Some, None}
-use Rattle.std.proofs.lemmas.List.Elements.{filter-append, All-nil, All-cons, All-head, All-tail, All-append, All-map}
+use Rattle.std.proofs.lemmas.List.Elements.{filter-append, All-nil}
 use Rattle.std.proofs.lemmas.Option.{slice_get_past}
 use Rattle.std.specs.Prelude.{ℤ, ◌==◌, slice_get}
 use Rattle.std.specs.List.{All}
@@ -22,23 +22,19 @@ use Rattle.timeline.specs.declared.notice.Notice.{Notice}
 use Rattle.timeline.specs.declared.notice.Notice.TheVariants as notice
 use Rattle.output_gate.proofs.Histories.{entries_none}
 use Rattle.object_history.proofs.Advancing.{front}
-use Rattle.object_history.proofs.Downs.{resets_silent, resets_plain}
+use Rattle.object_history.proofs.Downs.{resets_down, resets_silent, resets_plain}
 use Rattle.object_history.proofs.Asked.{is_asked_for}
 use Rattle.object_history.proofs.Ended.{IsFollowedBy, ended_phase}
-use Rattle.object_history.proofs.Entries.{all_numbered, of_their_own, said_numbered, of_number_none}
-use Rattle.object_history.proofs.OlderFronts.{entries_other, AreSameTo, said_same, start_same}
+use Rattle.object_history.proofs.Entries.{all_front, all_numbered, of_their_own, said_numbered, of_number_none}
+use Rattle.object_history.proofs.Halting.{halted_with}
+use Rattle.object_history.proofs.OlderFronts.{entries_other, AreSameTo, halted_same, said_same, start_same}
 use Rattle.object_history.proofs.Ready.{at_stand}
-use Rattle.object_history.proofs.SaidSoFar.{entries_now, events_now, sent_until, said_until_now}
+use Rattle.object_history.proofs.SaidSoFar.{delivered_until, entries_now, events_now, sent_until, said_until_now}
 use Rattle.object_history.proofs.WellSaid.{delivers_well, answers_well}
 use Rattle.object_history.proofs.Wishes.{IsNoWish, none_wished}
 use Rattle.object_history.specs.Laws.{TellingGoesOn, TellingTells}
-use Rattle.object_history.specs.Pair.{mounted, fallen, Rear, IsLogged, IsLine, IsUnread, IsCall, failures, SaysDown, IsNewest, serving, falling, Together, unreached, falls, fallen_once, IsPhase, IsPair}
+use Rattle.object_history.specs.Pair.{mounted, fallen, Rear, IsLogged, IsLine, IsUnread, IsCall, failures, SaysDown, IsNewest, serving, falling, Together, unreached, falls, HasHalted, fallen_once, IsPhase, IsPair}
 use Rattle.object_history.specs.Stepping.{Grows}
-
--- The first part of a list whose elements all are something.
-all_front : {X : Type 0} (P : X → Type 0) (xs ys : List X) → All P (xs ++ ys) → All P xs
-all_front P [] ys all = All-nil P
-all_front P (x ∷ xs) ys all = All-cons P x xs (All-head P x (xs ++ ys) all) (all_front P xs ys (All-tail P x (xs ++ ys) all))
 
 -- The causes of one stop more.
 abbrev stop_or : Stop → Option Stop → Stop
@@ -74,7 +70,7 @@ record EndsSo (f : Front) (old new : Fronted) (cause : Cause) (more : List Body)
 
 module _ (tells : TellingTells) (k : Kind) (opened : Contents) (f : Front) (old new : Fronted) (rear : Rear) (line : List Entry) (notices : List Notice)
     (pair : IsPair k opened f old rear line notices) (cause : Cause) (more : List Body) (ends_so : EndsSo f old new cause more)
-    (stop : Stop) (stopped : slice_get rear.log.stops pair.below ≡ Some stop) (cause_is : cause ≡ stop.cause) (none_late : pair.lined.late ≡ [])
+    (stop : Stop) (stopped : slice_get rear.log.stops pair.below ≡ Some stop) (halted : HasHalted f rear.log stop.cause) (cause_is : cause ≡ stop.cause) (none_late : pair.lined.late ≡ [])
     (wishes_none : All IsNoWish pair.lined.unread) where
   -- what was logged of the incarnations until now stays
   same_to : AreSameTo (suc pair.below) old new
@@ -105,13 +101,6 @@ module _ (tells : TellingTells) (k : Kind) (opened : Contents) (f : Front) (old 
       ∙ entries_now f old pair.logged)
       ∙ said_numbered f.incarnation 1 f.said
 
-  -- all was delivered, answered and sent before the next one
-  delivered_before : All (λ (d : ℕ × Event). d.0 < suc f.incarnation) old.delivered
-  delivered_before = subst (λ (items : List (ℕ × Event)). All (λ (d : ℕ × Event). d.0 < suc f.incarnation) items) (sym pair.logged.delivered)
-      (All-append (λ (d : ℕ × Event). d.0 < suc f.incarnation) pair.logged.gone (map (λ (e : Event). (f.incarnation, e)) f.events)
-      (λ i d less. omega (arith, pair.logged.gone_before i d less))
-      (All-map (λ (d : ℕ × Event). d.0 < suc f.incarnation) (λ (e : Event). (f.incarnation, e)) f.events (λ i e less. omega arith)))
-
   -- no call is answered by it
   downed_same : new.downed ≡ old.downed
   downed_same = ends_so.downed ∙ append-nil old.downed
@@ -134,7 +123,7 @@ module _ (tells : TellingTells) (k : Kind) (opened : Contents) (f : Front) (old 
     closed_before = sent_until f old pair.logged;
     sent = ends_so.sent ∙ ap (λ (bodies : List Body). old.sent ++ numbered (suc f.incarnation) 1 bodies) (sym ends_so.said);
     gone = old.delivered;
-    gone_before = delivered_before;
+    gone_before = delivered_until f old pair.logged;
     delivered = ends_so.delivered;
     downed_before = subst (λ (items : List (ℕ × Event)). All (λ (d : ℕ × Event). d.0 ≤ suc f.incarnation) items) (sym downed_same)
         (λ i d less. omega (arith, pair.logged.downed_before i d less));
@@ -185,6 +174,7 @@ module _ (tells : TellingTells) (k : Kind) (opened : Contents) (f : Front) (old 
             ap (λ (bodies : List Body). spoken_in bodies) resets_are
             ∙ sym (append-nil (spoken_in (resets before)))
             ∙ ap (λ (calls : List Event). spoken_in (resets before) ++ down_said calls (failures (later f cause mode) rear.log)) (sym no_calls);
+        down = resets_down cause (unanswered f.events f.said);
       }
 
   -- then both halves are in one incarnation again
@@ -206,6 +196,8 @@ module _ (tells : TellingTells) (k : Kind) (opened : Contents) (f : Front) (old 
         ∙ sym (causes_more rear.log.stops pair.below stop stopped);
     older_said = said_same (suc pair.below) old new same_to rear.log k.script k.class opened (suc pair.below) (omega arith)
         (said_until_now tells k opened f old rear line notices pair);
+    older_halted = halted_same (suc pair.below) old new same_to rear.log k.script k.class opened (suc pair.below) (omega arith)
+        (halted_with k opened f old rear line notices pair stop stopped halted);
     start = start_after opened (incarnations new rear.log (suc pair.below));
     starts = refl;
     newest_said = newest;
@@ -233,14 +225,14 @@ on_fresh goes_on tells k opened i es said state number alarm cause old new rear 
     let start : Contents = start_after opened (incarnations new rear.log (suc pair.below)) in
     let alarm_is : alarm ≡ start.alarm = followed.is_next.1 ∙ ap (λ (m : Contents). m.alarm) (sym (start_same opened old new rear.log (suc pair.below))) in
     let says : SaysDown (incarnations new rear.log (suc pair.below)) g new rear.log failed =
-    says_down tells k opened f old new rear line (n ∷ left) pair cause grows.more ends_so followed.stop followed.stopped followed.is_next.2 followed.none_late wishes_none
+    says_down tells k opened f old new rear line (n ∷ left) pair cause grows.more ends_so followed.stop followed.stopped followed.halted followed.is_next.2 followed.none_late wishes_none
     (serves (idle (begun alarm))) in
     let unread : IsUnread (serves (idle (begun alarm))) failed = record {
       plain = failed;
       are_plain = resets_plain cause (unanswered es said);
       is = sym (append-nil failed);
     } in
-    next_pair tells k opened f old new rear line (n ∷ left) pair cause grows.more ends_so followed.stop followed.stopped followed.is_next.2 followed.none_late wishes_none
+    next_pair tells k opened f old new rear line (n ∷ left) pair cause grows.more ends_so followed.stop followed.stopped followed.halted followed.is_next.2 followed.none_late wishes_none
     (serves (idle (begun alarm))) left
     (serving failed (goes_on.begins k start g says.silent refl (ap (λ (a : Option (ℤ × ℕ)). serves (idle (begun a))) alarm_is)) says)
     (inl (
@@ -269,13 +261,13 @@ on_down tells k opened i es said state cause before after old new rear line left
     followed.is_unread in
     let start : Contents = start_after opened (incarnations new rear.log (suc pair.below)) in
     let says : SaysDown (incarnations new rear.log (suc pair.below)) g new rear.log failed =
-    says_down tells k opened f old new rear line (n ∷ left) pair cause grows.more ends_so followed.stop followed.stopped followed.is_next.1 followed.none_late wishes_none
+    says_down tells k opened f old new rear line (n ∷ left) pair cause grows.more ends_so followed.stop followed.stopped followed.halted followed.is_next.1 followed.none_late wishes_none
     (down None) in
     let none : of_number (suc i) new.downed ≡ [] =
-    no_calls tells k opened f old new rear line (n ∷ left) pair cause grows.more ends_so followed.stop followed.stopped followed.is_next.1
+    no_calls tells k opened f old new rear line (n ∷ left) pair cause grows.more ends_so followed.stop followed.stopped followed.halted followed.is_next.1
     followed.none_late wishes_none in
     let unread : IsUnread (down None) failed = record { plain = failed; are_plain = resets_plain cause (unanswered es said); is = sym (append-nil failed) } in
-    next_pair tells k opened f old new rear line (n ∷ left) pair cause grows.more ends_so followed.stop followed.stopped followed.is_next.1 followed.none_late wishes_none
+    next_pair tells k opened f old new rear line (n ∷ left) pair cause grows.more ends_so followed.stop followed.stopped followed.halted followed.is_next.1 followed.none_late wishes_none
     (down None) left (falling None refl tt refl says)
     (inl (
       followed.one_ahead,

@@ -13,6 +13,11 @@ use Rattle.timeline.specs.Told.{Said, batch, message, said_by, spoken, spoken_in
 use Rattle.timeline.specs.declared.entry.Body.{Body}
 use Rattle.timeline.specs.declared.entry.Entry.{Entry}
 
+-- the first part of a list whose elements all are something.
+pub all_front : {X : Type 0} (P : X → Type 0) (xs ys : List X) → All P (xs ++ ys) → All P xs
+all_front P [] ys all = All-nil P
+all_front P (x ∷ xs) ys all = All-cons P x xs (All-head P x (xs ++ ys) all) (all_front P xs ys (All-tail P x (xs ++ ys) all))
+
 -- one body more has the next number
 pub numbered_last : (i n : ℕ) (bodies : List Body) (b : Body) (at : ℕ) → at ≡ n + length bodies
     → numbered i n (bodies ++ b ∷ []) ≡ numbered i n bodies ++ record { incarnation = i; number = at; body = b } ∷ []

@@ -1,5 +1,5 @@
 -- A flight and a release change nothing that the front sees.
-use Rattle.std.proofs.Common.{refl, inl, inr, ⊎_elim, ℕ, suc, List}
+use Rattle.std.proofs.Common.{refl, inl, inr, ⊎_elim, sym, ℕ, suc, List, [], append-nil}
 use Rattle.storage_map.specs.Contents.{Contents}
 use Rattle.timeline.specs.History.{incarnations, start_after}
 use Rattle.timeline.specs.Intake.{Kind, Front}
@@ -27,7 +27,8 @@ module _ (k : Kind) (opened : Contents) (f : Front) (front : Fronted) (rear : Re
         b.0,
         same_behind pair.start (start_after opened (incarnations front rear.log (suc pair.below)))
             (start_after opened (incarnations front later.log (suc pair.below))) pair.below f pair.lined.unread rear later notices
-            (same_start front front rear.log later.log opened (suc pair.below) (λ index less. kept index)) refl refl refl refl pair.lined.late b.1,
+            (same_start front front rear.log later.log opened (suc pair.below) (λ index less. kept index)) refl refl refl refl refl pair.lined.late b.1,
       ))
       pair.phase in
-      rebuilt k opened f front rear line notices pair later line notices (λ index less. alike index) (λ index less. kept index) refl refl pair.lined phase
+      rebuilt k opened f front rear line notices pair later line notices (λ index less. alike index) (λ index less. kept index)
+      ([], sym (append-nil rear.log.taken)) refl refl pair.lined phase

@@ -16,7 +16,7 @@ use Rattle.timeline.specs.declared.event.Event.{Event}
 use Rattle.timeline.specs.declared.notice.Notice.{Notice}
 use Rattle.object_history.proofs.Entries.{of_number_append, of_number_own}
 use Rattle.object_history.proofs.Growing.{numbered_on, numbered_behind}
-use Rattle.object_history.proofs.OlderFronts.{of_number_other, entries_other, AreSameTo, older_same, said_same, start_same}
+use Rattle.object_history.proofs.OlderFronts.{of_number_other, entries_other, AreSameTo, halted_same, older_same, said_same, start_same}
 use Rattle.object_history.specs.Pair.{Rear, IsLogged, IsLine, IsCall, failures, SaysDown, IsNewest, IsPhase, IsPair}
 
 -- The front in the same incarnation.
@@ -47,6 +47,7 @@ down_same older f front new back bodies es said mode same down = record {
   calls = subst (λ (calls : List Event). All IsCall calls) (sym same) down.calls;
   enough = subst (λ (calls : List Event). length calls ≤ length (failures f back)) (sym same) down.enough;
   spoken = down.spoken ∙ ap (λ (calls : List Event). spoken_in (resets older) ++ down_said calls (failures f back)) (sym same);
+  down = down.down;
 }
 
 module _ (k : Kind) (opened : Contents) (f : Front) (front new : Fronted) (rear : Rear) (line : List Entry) (notices : List Notice)
@@ -141,6 +142,7 @@ module _ (k : Kind) (opened : Contents) (f : Front) (front new : Fronted) (rear 
     lined = lined_on es said mode all_said;
     ends = goes.ends ∙ pair.ends;
     older_said = said_same pair.below front new same_to rear.log k.script k.class opened pair.below (omega arith) pair.older_said;
+    older_halted = halted_same pair.below front new same_to rear.log k.script k.class opened pair.below (omega arith) pair.older_halted;
     start = pair.start;
     starts = pair.starts ∙ sym (start_same opened front new rear.log pair.below);
     newest_said = subst (λ (older : History). IsNewest k older pair.start (now f es said mode) new rear.log)

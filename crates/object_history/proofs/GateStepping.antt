@@ -1,18 +1,23 @@
 -- The steps of a back are those of which the history speaks.
 use Rattle.std.proofs.Common.{◌≡◌, ◌≢◌, ◌∙◌, ap, sym, refl, subst, inl, inr, ℕ, suc, ◌+◌, ◌-◌, ◌<◌, List, [], ◌∷◌, ◌++◌, length, arith, Option, ⊎_elim}
-use Rattle.std.specs.Prelude.{Bool, nat_le}
+use Rattle.std.specs.Prelude.{Bool, false, nat_le}
 use Rattle.std.specs.List.{filter, flat_map}
 use Rattle.storage_map.specs.Contents.{Contents}
 use Rattle.storage_map.specs.declared.op.Op.{Op}
+use Rattle.timeline.specs.History.{is_halting}
 use Rattle.timeline.specs.Logs.{Backed, backed}
 use Rattle.timeline.specs.declared.back_log.End.{End}
 use Rattle.timeline.specs.declared.back_log.Missed.{Missed}
+use Rattle.timeline.specs.declared.caller.Cause.{Cause}
+use Rattle.timeline.specs.declared.caller.Cause.TheVariants as cause
 use Rattle.timeline.specs.declared.notice.Notice.{Notice}
 use Rattle.timeline.specs.declared.notice.Notice.TheVariants as notice
 use Rattle.batch_journal.specs.Rest.{end_of}
+use Rattle.batch_journal.specs.declared.journal.Journal.{Journal}
 use Rattle.output_gate.specs.Flushing.{Flushes}
 use Rattle.output_gate.specs.Mending.{Mends, HasBegun, HasMissed, kept_at}
 use Rattle.output_gate.specs.Serving.{IsBackAs, stop_of}
+use Rattle.output_gate.specs.Storing.{IsCauseOf}
 use Rattle.output_gate.specs.declared.back.Back.{Back}
 use Rattle.output_gate.specs.declared.back.Ending.{Ending}
 use Rattle.object_history.proofs.Seeing.{made, steps_to, left_seen}
@@ -25,6 +30,14 @@ with_ends log ends = record log { ends = ends }
 
 abbrev with_downs : Backed → List Missed → Backed
 with_downs log downs = record log { downs = downs }
+
+-- An append has no cause of a turn's.
+by_append : {D : Type 0} (faults_of : D → ℕ) (old new : Journal D) (c : Cause) → IsCauseOf faults_of old new c → is_halting c ≡ false
+by_append faults_of old new (cause.Disk before after) is = refl
+by_append faults_of old new (cause.Full needed limit) is = refl
+by_append faults_of old new cause.Exceeded is = absurd is
+by_append faults_of old new cause.StartThrew is = absurd is
+by_append faults_of old new cause.BlockThrew is = absurd is
 
 -- Batches that aren't durable are there while the newest incarnation is mounted alone.
 record Unflown {D : Type 0} (back : Back D) : Type 0 where
@@ -46,7 +59,7 @@ module _ {D : Type 0} (moment_of : D → ℕ) (left_since : D → ℕ → List �
       let at = unflown back known differ in
       let held = filter (λ (h : Held). nat_le h.needs back.durable) (flat_map held_of back.held.items) in
       steps_to (rear_of back) later [] [] _ (wanted ends.cause) held back.durable back.durable
-      (stops (stop_of back ends.cause) held later.cache at.stand at.less refl refl) ends.log
+      (stops (stop_of back ends.cause) held later.cache at.stand at.less refl (by_append faults_of ends.journal ends.after ends.cause ends.by_cause) refl) ends.log
       (ap stand_of ends.mode.2 ∙ ap wanted ends.mode.1)
       (ap (flat_map held_of) ends.held ∙ left_seen back.durable back.number ends.cause back.held.items) ends.before ends.durable
 

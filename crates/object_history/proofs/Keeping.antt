@@ -1,9 +1,9 @@
 -- What stays of a pair where its back makes a step.
 use Rattle.std.proofs.Common.{◌≡◌, ◌∙◌, ap, sym, subst, refl, ⊎_elim, ℕ, suc, ◌<◌, ◌≤◌, List, [], ◌∷◌, ◌++◌, append-nil, length, map, take, drop, arith}
 use Rattle.std.proofs.lemmas.Bool.{ne_eqb}
-use Rattle.std.proofs.lemmas.List.Elements.{All-nil, All-cons, All-head, All-tail, filter-append}
+use Rattle.std.proofs.lemmas.List.Elements.{All-head, All-tail, filter-append}
 use Rattle.std.specs.Prelude.{Bool, cond, ◌==◌, slice_get}
-use Rattle.std.specs.List.{All}
+use Rattle.std.specs.List.{All, Contains}
 use Rattle.storage_map.specs.Contents.{Contents}
 use Rattle.timeline.specs.Headline.{down_said, missed_of}
 use Rattle.timeline.specs.History.{History, entries_of, incarnation_at, incarnations, resets, start_after, said_in}
@@ -13,10 +13,12 @@ use Rattle.timeline.specs.Told.{spoken_in, written}
 use Rattle.timeline.specs.declared.back_log.Missed.{Missed}
 use Rattle.timeline.specs.declared.back_log.Stop.{Stop}
 use Rattle.timeline.specs.declared.entry.Body.{Body}
+use Rattle.timeline.specs.declared.entry.Body.TheVariants as body
 use Rattle.timeline.specs.declared.entry.Entry.{Entry}
 use Rattle.timeline.specs.declared.notice.Notice.{Notice}
 use Rattle.output_gate.proofs.Histories.{entries_none}
-use Rattle.object_history.proofs.Alike.{IsAlike, IsKeptAlike, same_start, same_resets, same_said}
+use Rattle.object_history.proofs.Alike.{IsAlike, IsKeptAlike, same_halted, same_start, same_resets, same_said, still_taken}
+use Rattle.object_history.proofs.Entries.{all_front}
 use Rattle.object_history.proofs.SaidSoFar.{sent_until}
 use Rattle.object_history.specs.Pair.{Held, Stand, mounted, Rear, IsLogged, IsLine, calls_down, failures, SaysDown, IsNewest, serving, falling, Together, unreached, answered, syncs, halts, falls, wants, mends, misses, silent, IsNews, fallen_once, Behind, IsPhase, IsPair}
 use Rattle.object_history.specs.Stepping.{IsRear, AreGiven}
@@ -34,6 +36,7 @@ same_down older new_older f front back new_back bodies reset missed said_down =
       spoken = said_down.spoken
           ∙ ap (λ (bodies : List Body). spoken_in bodies ++ down_said (calls_down f front) (failures f back)) (sym reset)
           ∙ ap (λ (all : List Missed). spoken_in (resets new_older) ++ down_said (calls_down f front) all) (sym fails);
+      down = said_down.down;
     }
 
 pub same_newest : (k : Kind) (older new_older : History) (start : Contents) (f : Front) (front : Fronted) (back new_back : Backed)
@@ -78,13 +81,7 @@ other_missed i downs m other =
 -- nothing was taken of an incarnation that isn't the front's yet
 pub none_taken : (f : Front) (front : Fronted) (taken line : List Entry) → IsLogged f front → IsLine f front taken line → entries_of (suc f.incarnation) taken ≡ []
 none_taken f front taken line logged lined = entries_none (suc f.incarnation) taken
-    (first_of_them taken line (subst (λ (all : List Entry). All (λ (e : Entry). e.incarnation < suc f.incarnation) all) lined.sent (sent_until f front logged)))
-  where
-    first_of_them : (taken line : List Entry) → All (λ (e : Entry). e.incarnation < suc f.incarnation) (taken ++ line) → All (λ (e : Entry). e.incarnation < suc f.incarnation) taken
-    first_of_them [] line all = All-nil (λ (e : Entry). e.incarnation < suc f.incarnation)
-    first_of_them (e ∷ taken) line all =
-        All-cons (λ (x : Entry). x.incarnation < suc f.incarnation) e taken (All-head (λ (x : Entry). x.incarnation < suc f.incarnation) e (taken ++ line) all)
-        (first_of_them taken line (All-tail (λ (x : Entry). x.incarnation < suc f.incarnation) e (taken ++ line) all))
+    (all_front (λ (e : Entry). e.incarnation < suc f.incarnation) taken line (subst (λ (all : List Entry). All (λ (e : Entry). e.incarnation < suc f.incarnation) all) lined.sent (sent_until f front logged)))
 
 -- what a back's newest incarnation has written, on the map with which it started
 pub map_written : (opened : Contents) (front : Fronted) (rear : Rear) (n : ℕ) → IsRear opened rear → rear.stand ≡ mounted → length rear.log.stops ≡ n
@@ -105,19 +102,29 @@ module _ (k : Kind) (opened : Contents) (f : Front) (front : Fronted) (rear : Re
   abbrev pub AreKeptButOne : Type 0
   AreKeptButOne = (index : ℕ) → suc index < pair.below → IsKeptAlike front front rear.log later.log index
 
+  -- and nothing that was taken is gone
+  abbrev pub TakesOn : Type 0
+  TakesOn = (more : List Entry) × (later.log.taken ≡ rear.log.taken ++ more)
+
+  taken_still : TakesOn → (i : ℕ) (b : Body) → Contains (said_in (entries_of i rear.log.taken)) b → Contains (said_in (entries_of i later.log.taken)) b
+  taken_still on i b has =
+      subst (λ (taken : List Entry). Contains (said_in (entries_of i taken)) b) (sym on.1) (still_taken i rear.log.taken on.0 b has)
+
   -- they are a pair again, from another map
-  pub rebuilt_from : (start : Contents) → start ≡ start_after opened (incarnations front later.log pair.below) → AreAlike → AreKeptButOne
+  pub rebuilt_from : (start : Contents) → start ≡ start_after opened (incarnations front later.log pair.below) → AreAlike → AreKeptButOne → TakesOn
       → take pair.below later.log.stops ≡ take pair.below rear.log.stops
       → IsNewest k (incarnations front later.log pair.below) start f front later.log
       → (lined : IsLine f front later.log.taken line) → IsPhase opened pair.below start f front later lined.unread lined.late notices
       → IsPair k opened f front later line notices
-  rebuilt_from start starts alike kept stops newest_said lined phase = record {
+  rebuilt_from start starts alike kept on stops newest_said lined phase = record {
     below = pair.below;
     number = pair.number;
     logged = pair.logged;
     lined = lined;
     ends = pair.ends ∙ ap (λ (all : List Stop). map (λ (stop : Stop). stop.cause) all) (sym stops);
     older_said = same_said front front rear.log later.log k.script k.class opened pair.below alike kept pair.older_said;
+    older_halted = same_halted front front rear.log later.log k.script k.class opened pair.below
+        (λ index less. let same = alike index less in record { delivered = refl; stop = same.stop; taken = taken_still on (suc index) }) kept pair.older_halted;
     start = start;
     starts = starts;
     newest_said = newest_said;
@@ -125,13 +132,13 @@ module _ (k : Kind) (opened : Contents) (f : Front) (front : Fronted) (rear : Re
   }
 
   -- or from the same one
-  pub rebuilt : AreAlike → AreKept → missed_of f.incarnation later.log.downs ≡ missed_of f.incarnation rear.log.downs
+  pub rebuilt : AreAlike → AreKept → TakesOn → missed_of f.incarnation later.log.downs ≡ missed_of f.incarnation rear.log.downs
       → take pair.below later.log.stops ≡ take pair.below rear.log.stops
       → (lined : IsLine f front later.log.taken line) → IsPhase opened pair.below pair.start f front later lined.unread lined.late notices
       → IsPair k opened f front later line notices
-  rebuilt alike kept missed stops lined phase =
+  rebuilt alike kept on missed stops lined phase =
       rebuilt_from pair.start (pair.starts ∙ sym (same_start front front rear.log later.log opened pair.below kept)) alike
-      (λ index less. kept index (omega (arith, less))) stops
+      (λ index less. kept index (omega (arith, less))) on stops
       (same_newest k (incarnations front rear.log pair.below) (incarnations front later.log pair.below) pair.start f front rear.log later.log
       (same_resets front front rear.log later.log pair.below alike) missed pair.newest_said)
       lined phase
@@ -139,9 +146,9 @@ module _ (k : Kind) (opened : Contents) (f : Front) (front : Fronted) (rear : Re
 -- The back is one ahead as it was, with these notices.
 pub same_behind : (start next new_next : Contents) (below : ℕ) (f : Front) (unread : List Body) (rear later : Rear) (notices : List Notice)
     → new_next ≡ next → later.stand ≡ rear.stand → later.held ≡ rear.held → slice_get later.log.stops below ≡ slice_get rear.log.stops below
-    → missed_of (suc f.incarnation) later.log.downs ≡ missed_of (suc f.incarnation) rear.log.downs
+    → missed_of (suc f.incarnation) later.log.downs ≡ missed_of (suc f.incarnation) rear.log.downs → later.log.taken ≡ rear.log.taken
     → (late : List Entry) → Behind start next below f unread late rear notices → Behind start new_next below f unread late later notices
-same_behind start next new_next below f unread rear later notices nexts stands helds stops missed late b = record {
+same_behind start next new_next below f unread rear later notices nexts stands helds stops missed taken late b = record {
   state = b.state;
   mode = b.mode;
   is_unread = b.is_unread;
@@ -149,6 +156,9 @@ same_behind start next new_next below f unread rear later notices nexts stands h
   none_held = helds ∙ b.none_held;
   stop = b.stop;
   stopped = stops ∙ b.stopped;
+  halted = λ by.
+      let was = b.halted by in
+      (was.0, subst (λ (all : List Entry). Contains (said_in (entries_of f.incarnation all)) (body.Halt b.stop.cause)) (sym taken) was.1);
   left = b.left;
   told = b.told;
   under_way = b.under_way;

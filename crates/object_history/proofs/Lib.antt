@@ -35,6 +35,9 @@ mod Ended
 mod Ending
 mod Dropping
 mod FrontKeeping
+mod Halting
+mod Unmounted
+mod Shown
 mod Seeing
 pub mod GateStepping
 pub mod BeingRear

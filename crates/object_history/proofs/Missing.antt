@@ -73,6 +73,7 @@ module _ (k : Kind) (opened : Contents) (f : Front) (front : Fronted) (rear : Re
         silent = says.silent;
         calls = says.calls;
         enough = omega (arith, says.enough, ap (λ (all : List Missed). length all) fails, length_push (failures f rear.log) (miss f.incarnation));
+        down = says.down;
         spoken = says.spoken
             ∙ ap (λ (bodies : List Body). spoken_in bodies ++ down_said (calls_down f front) (failures f rear.log)) (sym reset)
             ∙ ap (λ (said : List Said). spoken_in (resets new_older) ++ said)
@@ -103,7 +104,7 @@ module _ (k : Kind) (opened : Contents) (f : Front) (front : Fronted) (rear : Re
       (silent (fallen c) now.none (subst (λ (m : Mode). IsSilentAt m (fallen c)) (sym now.mode) tt)) in
       rebuilt_from k opened f front rear line notices pair missed_again line (notices ++ given) pair.start
       (pair.starts ∙ sym (same_start front front rear.log missed_again.log opened pair.below (λ index less. refl))) are_alike
-      (λ index less. refl) refl newest_said pair.lined
+      (λ index less. refl) ([], sym (append-nil rear.log.taken)) refl newest_said pair.lined
       (inl (
         stops,
         subst (λ (h : List Held). Together pair.start f front missed_again.log pair.lined.unread rear.before (fallen c) h (notices ++ given)) (sym now.nothing)
@@ -120,6 +121,7 @@ module _ (k : Kind) (opened : Contents) (f : Front) (front : Fronted) (rear : Re
       let wants : (c ≡ b.stop.cause) × (b.told ≡ []) = subst (λ (s : Stand). IsNews next (suc f.incarnation) b.stop.cause s b.told) stand b.is_news in
       let none_before : length (missed_of (suc f.incarnation) rear.log.downs) ≡ 0 = b.fails ∙ ap fallen_once stand in
       rebuilt k opened f front rear line notices pair missed_again line (notices ++ given) (alike pair.below (omega (arith, stops))) (λ index less. refl)
+      ([], sym (append-nil rear.log.taken))
       (missed_elsewhere f.incarnation (λ same. omega (arith, is, same))) refl pair.lined
       (inr (
         stops,
@@ -131,6 +133,7 @@ module _ (k : Kind) (opened : Contents) (f : Front) (front : Fronted) (rear : Re
           none_held = b.none_held;
           stop = b.stop;
           stopped = b.stopped;
+          halted = b.halted;
           left = b.left;
           told = given;
           under_way = ap (λ (all : List Notice). all ++ given)

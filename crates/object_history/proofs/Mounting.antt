@@ -72,7 +72,7 @@ module _ (k : Kind) (opened : Contents) (f : Front) (front : Fronted) (rear : Re
         (sym (start_map says stops now.none)) (mends now.call c (newest rear.log) now.mode now.none))
         (silent mounted now.none (subst (λ (m : Mode). IsSilentAt m mounted) (sym now.mode) tt)) in
         rebuilt_from k opened f front rear line notices pair remounted line (notices ++ given) start refl (λ index less. alike index)
-        (λ index less. kept_before_it index (omega (arith, less, stops))) refl newest_said pair.lined
+        (λ index less. kept_before_it index (omega (arith, less, stops))) ([], sym (append-nil rear.log.taken)) refl newest_said pair.lined
         (inl (
           stops,
           subst (λ (h : List Held). Together start f front remounted.log pair.lined.unread before mounted h (notices ++ given)) (sym now.nothing)
@@ -95,7 +95,7 @@ module _ (k : Kind) (opened : Contents) (f : Front) (front : Fronted) (rear : Re
         ∙ ap (λ (n : ℕ). written next (said_in (entries_of (suc n) rear.log.taken))) (sym pair.number)
         ∙ ap (λ (entries : List Entry). written next (said_in entries)) (none_taken f front rear.log.taken line pair.logged pair.lined) in
         rebuilt k opened f front rear line notices pair remounted line (notices ++ given) (λ index less. alike index)
-        (λ index less. kept_before_it index (omega (arith, less, stops))) refl refl pair.lined
+        (λ index less. kept_before_it index (omega (arith, less, stops))) ([], sym (append-nil rear.log.taken)) refl refl pair.lined
         (inr (
           stops,
           record {
@@ -106,6 +106,7 @@ module _ (k : Kind) (opened : Contents) (f : Front) (front : Fronted) (rear : Re
             none_held = b.none_held;
             stop = b.stop;
             stopped = b.stopped;
+            halted = b.halted;
             left = b.left;
             told = given;
             under_way = ap (λ (all : List Notice). all ++ given)

@@ -1,10 +1,10 @@
 -- What a front logs of its own incarnation leaves those before it as they are.
-use Rattle.std.proofs.Common.{◌≡◌, ◌∙◌, ap, refl, ℕ, zero, suc, ◌<◌, ◌≤◌, List, [], ◌∷◌, map, arith}
+use Rattle.std.proofs.Common.{◌≡◌, ◌∙◌, ap, sym, subst, refl, ℕ, zero, suc, ◌<◌, ◌≤◌, List, [], ◌∷◌, map, arith}
 use Rattle.std.proofs.lemmas.Bool.{ne_eqb}
 use Rattle.std.specs.Prelude.{Bool, cond, if◌then◌else◌}
 use Rattle.do_tree.specs.Tree.{Script}
 use Rattle.storage_map.specs.Contents.{Contents}
-use Rattle.timeline.specs.Headline.{AreSaid}
+use Rattle.timeline.specs.Headline.{AreHalted, AreSaid}
 use Rattle.timeline.specs.History.{History, of_number, entries_of, incarnation_at, incarnations, start_after}
 use Rattle.timeline.specs.Intake.{numbered}
 use Rattle.timeline.specs.Logs.{Fronted, Backed}
@@ -59,6 +59,12 @@ module _ (last : ℕ) (front new : Fronted) (same : AreSameTo last front new) (b
       → AreSaid script class opened front back (incarnations front back n) → AreSaid script class opened new back (incarnations new back n)
   said_same script class opened n within =
       same_said front new back back script class opened n (λ index less. alike index (omega (arith, within, less))) (λ index less. refl)
+
+  -- each that a turn ended has ended so
+  pub halted_same : (script : Script) (class : ℕ) (opened : Contents) (n : ℕ) → n ≤ last → AreHalted script class opened (incarnations front back n)
+      → AreHalted script class opened (incarnations new back n)
+  halted_same script class opened n within halted =
+      subst (λ (all : History). AreHalted script class opened all) (sym (older_same n within)) halted
 
 -- The map with which an incarnation starts is the back's alone.
 pub start_same : (opened : Contents) (front new : Fronted) (back : Backed) (n : ℕ)

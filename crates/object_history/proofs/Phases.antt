@@ -1,7 +1,7 @@
 -- How the two halves stand together, by what is known of the back.
 use Rattle.std.proofs.Common.{◌≡◌, ◌∙◌, ap, sym, subst, refl, inl, inr, ℕ, suc, ◌<◌, List, [], ◌∷◌, ◌++◌, length, Option, Some, None}
 use Rattle.std.proofs.lemmas.Bool.{lt-leb}
-use Rattle.std.specs.Prelude.{◌≢◌, ◌⊎◌, Bool, cond, nat_le}
+use Rattle.std.specs.Prelude.{◌⊎◌, Bool, cond, nat_le}
 use Rattle.std.specs.List.{filter}
 use Rattle.storage_map.specs.Contents.{Contents}
 use Rattle.timeline.specs.Headline.{missed_of}
@@ -52,7 +52,7 @@ module _ (start : Contents) (f : Front) (front : Fronted) (back : Backed) (unrea
   pub record Halted (c : Cause) (rest : List Held) (notices : List Notice) : Type 0 where
     pub mode : f.mode ≡ serves (ended c)
     pub none : unread ≡ []
-    pub some : f.said ≢ []
+    pub ends : (first : List Body) × (f.said ≡ first ++ body.Halt c ∷ [])
     pub only : rest ≡ []
     pub quiet : notices ≡ []
 
@@ -81,7 +81,7 @@ module _ (start : Contents) (f : Front) (front : Fronted) (back : Backed) (unrea
       record {
         mode = mode ∙ ap (λ (x : Cause). serves (ended x)) same;
         none = none;
-        some = some;
+        ends = (some.0, some.1 ∙ ap (λ (x : Cause). some.0 ++ body.Halt x ∷ []) same);
         only = only_rest (record { hold = halt cause; needs = before }) (record { hold = halt c; needs = needs }) rest is;
         quiet = refl;
       }

@@ -122,11 +122,10 @@ module _ (start : Contents) (f : Front) (front : Fronted) (back : Backed) (read 
       → AreGiven (option_to_list (notice_of n m b)) given → Reached b more
   reached_end c b more mode is none said = subst (λ (x : Body). AreGiven (option_to_list (notice_of n m x)) given → Reached x more) (sym is)
       (λ are. told_none (λ (g : List Notice). Together start f front back more before mounted (record { hold = halt c; needs = before } ∷ []) g) [] given are
-      (halts c mode none (λ empty. not_empty read b more (sym said ∙ empty))))
-    where
-      not_empty : (xs : List Body) (x : Body) (ys : List Body) → xs ++ x ∷ ys ≡ [] → ⊥
-      not_empty [] x ys is = cc
-      not_empty (z ∷ xs) x ys is = cc
+      (halts c mode none (
+        read,
+        said ∙ ap (λ (rest : List Body). read ++ b ∷ rest) none ∙ ap (λ (x : Body). read ++ x ∷ []) is,
+      )))
 
   -- by the state that the front is in
   reached_in : (state : State) (b : Body) (more : List Body) → f.mode ≡ serves state → Rest (serves state) b more → f.said ≡ read ++ b ∷ more

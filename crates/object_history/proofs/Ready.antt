@@ -1,11 +1,11 @@
 -- Where a front may take a step of its object: nothing that it has said waits for an answer, or the answer has come.
-use Rattle.std.proofs.Common.{◌≡◌, ◌∙◌, ap, sym, subst, refl, inl, inr, ℕ, suc, List, [], ◌∷◌, ◌++◌, append-nil, append_assoc, length}
+use Rattle.std.proofs.Common.{◌≡◌, ◌∙◌, ap, sym, subst, refl, inl, inr, true≢false, ℕ, suc, List, [], ◌∷◌, ◌++◌, append-nil, append_assoc, length}
 use Rattle.std.proofs.lemmas.List.Elements.{All-nil, All-append}
-use Rattle.std.specs.Prelude.{◌⊎◌, true, slice_get, Some}
+use Rattle.std.specs.Prelude.{◌⊎◌, Bool, true, false, slice_get, Some}
 use Rattle.storage_map.specs.Contents.{Contents}
 use Rattle.script_mean.specs.declared.answer.Answer.{Answer}
 use Rattle.timeline.specs.Headline.{missed_of}
-use Rattle.timeline.specs.History.{incarnations, start_after}
+use Rattle.timeline.specs.History.{incarnations, is_halting, start_after}
 use Rattle.timeline.specs.Intake.{Front, Mode, serves, down, FitsNotice, answer_in}
 use Rattle.timeline.specs.Logs.{Fronted, Backed}
 use Rattle.timeline.specs.Object.{Object, OpenTask, State, idle, waiting, ended}
@@ -19,7 +19,7 @@ use Rattle.timeline.specs.declared.notice.Notice.{Notice}
 use Rattle.timeline.specs.declared.notice.Notice.TheVariants as notice
 use Rattle.object_history.proofs.Frames.{now}
 use Rattle.object_history.proofs.OlderFronts.{start_same}
-use Rattle.object_history.specs.Pair.{Held, Stand, mounted, wanted, fallen, Rear, awaited, IsUnread, IsAnswer, IsSilentAt, Together, unreached, answered, syncs, halts, falls, wants, mends, misses, silent, IsNews, IsLeftOver, fallen_once, IsPhase}
+use Rattle.object_history.specs.Pair.{Held, Stand, mounted, wanted, fallen, Rear, awaited, IsUnread, IsAnswer, IsSilentAt, Together, unreached, answered, syncs, halts, falls, wants, mends, misses, silent, IsNews, IsLeftOver, HasHalted, fallen_once, IsPhase}
 use Rattle.object_history.specs.Saying.{is_plain, ArePlain}
 
 -- ---- what is told apart
@@ -53,6 +53,13 @@ abbrev pub state_or : State → Mode → State
 state_or other (serves state) = state
 state_or other (down call) = other
 
+-- a mode in which its object has ended
+abbrev IsEnded : Mode → Type 0
+IsEnded (serves (ended c)) = Unit {0}
+IsEnded (serves (idle o)) = ⊥
+IsEnded (serves (waiting o t b)) = ⊥
+IsEnded (down call) = ⊥
+
 -- the news of an end
 abbrev pub IsEnd : Notice → Type 0
 IsEnd (notice.Fresh incarnation alarm cause) = Unit {0}
@@ -84,6 +91,14 @@ is_serving m state other serving is = subst IsServing (sym serving ∙ is) tt
 -- a mode has one state
 pub same_state : (m : Mode) (state other : State) → m ≡ serves state → m ≡ serves other → state ≡ other
 same_state m state other serving is = ap (state_or state) (sym serving ∙ is)
+
+-- no turn has ended an incarnation whose object hasn't ended
+never_so : (b : Bool) → (b ≡ true → ⊥) → b ≡ false
+never_so true never = absurd (never refl)
+never_so false never = refl
+
+not_by_turn : (f : Front) (back : Backed) (c : Cause) (other : Mode) → f.mode ≡ other → (IsEnded other → ⊥) → HasHalted f back c → is_halting c ≡ false
+not_by_turn f back c other is never halted = never_so (is_halting c) (λ by. never (subst IsEnded (sym (halted by).0 ∙ is) tt))
 
 -- ---- notices
 -- an idle object waits for no answer
@@ -148,6 +163,7 @@ pub record IsReadyBehind (next : Contents) (below number : ℕ) (unread : List B
   pub none_held : rear.held ≡ []
   pub stop : Stop
   pub stopped : slice_get rear.log.stops below ≡ Some stop
+  pub no_halt : is_halting stop.cause ≡ false
   pub is_news : IsNews next (suc number) stop.cause rear.stand left
   pub fails : length (missed_of (suc number) rear.log.downs) ≡ fallen_once rear.stand
 
@@ -187,6 +203,7 @@ ready_steps opened below start f front new rear unread more late left es said st
         none_held = ready.1.none_held;
         stop = ready.1.stop;
         stopped = ready.1.stopped;
+        halted = λ by. absurd (true≢false (sym by ∙ ready.1.no_halt));
         left = [];
         told = left;
         under_way = refl;
@@ -255,6 +272,7 @@ idle_ready opened below start f front rear unread late notices o serving (inr be
         none_held = is.none_held;
         stop = is.stop;
         stopped = is.stopped;
+        no_halt = not_by_turn f rear.log is.stop.cause (serves (idle o)) serving (λ never. never) is.halted;
         is_news = subst (λ (x : List Notice). IsNews next (suc f.incarnation) is.stop.cause rear.stand x) (sym all_told) is.is_news;
         fails = is.fails;
       },
@@ -328,6 +346,7 @@ waiting_ready opened below start f front rear unread late n left o t b a serving
           none_held = is.none_held;
           stop = is.stop;
           stopped = is.stopped;
+          no_halt = not_by_turn f rear.log is.stop.cause (serves (waiting o t b)) serving (λ never. never) is.halted;
           is_news = subst (λ (x : List Notice). IsNews next (suc f.incarnation) is.stop.cause rear.stand x) all.0 is.is_news;
           fails = is.fails;
         },

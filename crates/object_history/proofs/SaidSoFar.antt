@@ -1,7 +1,7 @@
 -- What each incarnation of a pair has said begins what it says in all.
 use Rattle.std.proofs.Common.{◌≡◌, ◌∙◌, ap, sym, subst, refl, inl, inr, ℕ, suc, ◌<◌, List, [], ◌∷◌, ◌++◌, append-nil, append_assoc, length, map, take, drop, arith}
 use Rattle.std.proofs.lemmas.List.{map-append, take-append-drop}
-use Rattle.std.proofs.lemmas.List.Elements.{filter-append, All-append}
+use Rattle.std.proofs.lemmas.List.Elements.{filter-append, All-append, All-map}
 use Rattle.std.specs.Prelude.{◌==◌}
 use Rattle.std.specs.List.{All, flat_map}
 use Rattle.storage_map.specs.Contents.{Contents}
@@ -42,6 +42,13 @@ sent_until f front logged = subst (λ (entries : List Entry). All (λ (e : Entry
     (All-append (λ (e : Entry). e.incarnation < suc f.incarnation) logged.closed (numbered f.incarnation 1 f.said)
     (λ i e is. omega (arith, logged.closed_before i e is))
     (of_their_own (λ (i : ℕ). i < suc f.incarnation) f.incarnation 1 f.said (omega arith)))
+
+-- nor was an event delivered to one
+pub delivered_until : (f : Front) (front : Fronted) → IsLogged f front → All (λ (d : ℕ × Event). d.0 < suc f.incarnation) front.delivered
+delivered_until f front logged = subst (λ (items : List (ℕ × Event)). All (λ (d : ℕ × Event). d.0 < suc f.incarnation) items) (sym logged.delivered)
+    (All-append (λ (d : ℕ × Event). d.0 < suc f.incarnation) logged.gone (map (λ (e : Event). (f.incarnation, e)) f.events)
+    (λ i d less. omega (arith, logged.gone_before i d less))
+    (All-map (λ (d : ℕ × Event). d.0 < suc f.incarnation) (λ (e : Event). (f.incarnation, e)) f.events (λ i e less. omega arith)))
 
 -- three parts, of which the last one is told
 pub three_parts : (before told : List Said) (first second : List Said) → before ≡ first ++ second → before ++ told ≡ flat_map (λ part. part) (first ∷ second ∷ told ∷ [])
@@ -99,11 +106,11 @@ module _ (tells : TellingTells) (k : Kind) (opened : Contents) (f : Front) (fron
   by_phase (inl together) = said_at pair.below together.0 said_until_now
   by_phase (inr behind) = said_at (suc pair.below) behind.0 said_until_next
 
-  all_said : AreSaid k.script k.class opened front rear.log (history front rear.log)
+  pub all_said : AreSaid k.script k.class opened front rear.log (history front rear.log)
   all_said = by_phase pair.phase
 
   -- the causes that the front knows are the first ones
-  known_ends : IsPrefix front.ends (map (λ (stop : Stop). stop.cause) rear.log.stops)
+  pub known_ends : IsPrefix front.ends (map (λ (stop : Stop). stop.cause) rear.log.stops)
   known_ends =
       let first : List Stop = take pair.below rear.log.stops in
       let rest : List Stop = drop pair.below rear.log.stops in (
@@ -112,6 +119,3 @@ module _ (tells : TellingTells) (k : Kind) (opened : Contents) (f : Front) (fron
             ∙ sym (map-append (λ (stop : Stop). stop.cause) first rest)
             ∙ ap (λ (stops : List Stop). map (λ (stop : Stop). stop.cause) stops) (take-append-drop pair.below rear.log.stops),
       )
-
-  pub is_said : AreSaid k.script k.class opened front rear.log (history front rear.log) × IsPrefix front.ends (map (λ (stop : Stop). stop.cause) rear.log.stops)
-  is_said = (all_said, known_ends)

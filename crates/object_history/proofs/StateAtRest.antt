@@ -75,17 +75,17 @@ tells_state k start before f tells state mode rest =
     (ap (λ (g : Front). g.mode) tells.at ∙ mode) rest)
 
 newest_state : (k : Kind) (older : History) (start : Contents) (f : Front) (front : Fronted) (back : Backed) → IsNewest k older start f front back
-    → (o : Object) → f.mode ≡ serves (idle o) → Leads k f.incarnation start f.events (idle o)
-newest_state k older start f front back (serving before tells says_down) o mode = tells_state k start before f tells (idle o) mode tt
-newest_state k older start f front back (falling call down_so is_call none says_down) o mode = absurd cc
+    → (state : State) → f.mode ≡ serves state → IsAtRest (serves state) → Leads k f.incarnation start f.events state
+newest_state k older start f front back (serving before tells says_down) state mode rest = tells_state k start before f tells state mode rest
+newest_state k older start f front back (falling call down_so is_call none says_down) state mode rest = absurd cc
 
 -- So does the newest incarnation of a pair, as its logs have it.
 pub pair_state : (k : Kind) (opened : Contents) (f : Front) (front : Fronted) (rear : Rear) (line : List Entry) (notices : List Notice)
-    (pair : IsPair k opened f front rear line notices) (o : Object) → f.mode ≡ serves (idle o)
-    → state_of k.script k.class opened (incarnation_at front rear.log pair.below) (incarnations front rear.log pair.below) ≡ idle o
-pair_state k opened f front rear line notices pair o mode =
-    let leads : Leads k f.incarnation pair.start (of_number f.incarnation front.delivered) (idle o) =
-    subst (λ (events : List Event). Leads k f.incarnation pair.start events (idle o)) (sym (events_now f front pair.logged))
-    (newest_state k _ pair.start f front rear.log pair.newest_said o mode) in
-    subst (λ (start : Contents). Leads k (suc pair.below) start (of_number (suc pair.below) front.delivered) (idle o)) pair.starts
-    (subst (λ (i : ℕ). Leads k i pair.start (of_number i front.delivered) (idle o)) pair.number leads)
+    (pair : IsPair k opened f front rear line notices) (state : State) → f.mode ≡ serves state → IsAtRest (serves state)
+    → state_of k.script k.class opened (incarnation_at front rear.log pair.below) (incarnations front rear.log pair.below) ≡ state
+pair_state k opened f front rear line notices pair state mode rest =
+    let leads : Leads k f.incarnation pair.start (of_number f.incarnation front.delivered) state =
+    subst (λ (events : List Event). Leads k f.incarnation pair.start events state) (sym (events_now f front pair.logged))
+    (newest_state k _ pair.start f front rear.log pair.newest_said state mode rest) in
+    subst (λ (start : Contents). Leads k (suc pair.below) start (of_number (suc pair.below) front.delivered) state) pair.starts
+    (subst (λ (i : ℕ). Leads k i pair.start (of_number i front.delivered) state) pair.number leads)

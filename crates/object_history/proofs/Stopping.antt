@@ -1,14 +1,15 @@
 -- A back's newest incarnation stops: by a failed append, or where a halt is released.
-use Rattle.std.proofs.Common.{◌≡◌, ◌∙◌, ap, sym, subst, refl, inl, inr, ⊎_elim, ℕ, suc, ◌<◌, List, [], ◌∷◌, ◌++◌, append-nil, length, take, arith, Option, Some, None}
+use Rattle.std.proofs.Common.{◌≡◌, ◌∙◌, ap, sym, subst, refl, inl, inr, ⊎_elim, true≢false, ℕ, suc, ◌<◌, List, [], ◌∷◌, ◌++◌, append-nil, length, take, arith, Option, Some, None}
 use Rattle.std.proofs.lemmas.Grind.{flat_map-append}
 use Rattle.std.proofs.lemmas.List.{length_push, take-append-le}
-use Rattle.std.specs.Prelude.{◌≢◌, nat_le, slice_get}
-use Rattle.std.specs.List.{filter}
+use Rattle.std.proofs.lemmas.List.Elements.{Contains-push}
+use Rattle.std.specs.Prelude.{◌≢◌, false, nat_le, slice_get}
+use Rattle.std.specs.List.{Contains, filter}
 use Rattle.storage_map.specs.Contents.{Contents}
 use Rattle.storage_map.specs.declared.op.Op.{Op}
 use Rattle.timeline.specs.Headline.{down_said, missed_of}
-use Rattle.timeline.specs.History.{History, Incarnation, entries_of, incarnations, start_after, said_in, batches_in, kept_by, kept_of, resets, resets_by}
-use Rattle.timeline.specs.Intake.{Kind, Front, down}
+use Rattle.timeline.specs.History.{History, Incarnation, entries_of, incarnations, is_halting, start_after, said_in, batches_in, kept_by, kept_of, resets, resets_by}
+use Rattle.timeline.specs.Intake.{Kind, Front, serves, down}
 use Rattle.timeline.specs.Logs.{Fronted, Backed}
 use Rattle.timeline.specs.Object.{ended}
 use Rattle.timeline.specs.Replies.{unanswered, resets_of}
@@ -19,6 +20,7 @@ use Rattle.timeline.specs.declared.back_log.Stop.{Stop}
 use Rattle.timeline.specs.declared.caller.Caller.{Caller}
 use Rattle.timeline.specs.declared.caller.Cause.{Cause}
 use Rattle.timeline.specs.declared.entry.Body.{Body}
+use Rattle.timeline.specs.declared.entry.Body.TheVariants as body
 use Rattle.timeline.specs.declared.entry.Entry.{Entry}
 use Rattle.timeline.specs.declared.event.Event.{Event}
 use Rattle.timeline.specs.declared.event.Event.TheVariants as event
@@ -26,7 +28,7 @@ use Rattle.timeline.specs.declared.notice.Notice.{Notice}
 use Rattle.timeline.specs.declared.notice.Notice.TheVariants as notice
 use Rattle.output_gate.proofs.Histories.{get_more, get_last}
 use Rattle.object_history.proofs.Alike.{IsKeptAlike}
-use Rattle.object_history.proofs.Entries.{batches_append, spoken_numbered}
+use Rattle.object_history.proofs.Entries.{batches_append, said_numbered, spoken_numbered}
 use Rattle.object_history.proofs.Keeping.{rebuilt, none_missed, none_taken, map_written, told_none}
 use Rattle.object_history.proofs.Phases.{says_down, halts_as, stops_as}
 use Rattle.object_history.specs.Pair.{Rear, Held, halt, Stand, mounted, wanted, newest, calls_down, failures, IsNews, fallen_once, IsNewest, Together, IsPair}
@@ -66,6 +68,11 @@ down_none k older start f front back newest_said call mode read unread said =
     ∙ ap (λ (batches : List (List Op)). batches ++ batches_of (down_said (calls_down f front) (failures f back))) (reset_none older)
     ∙ down_writes_none (calls_down f front) (failures f back))
 
+-- a list with a last one isn't empty
+never_empty : (first : List Body) (b : Body) → first ++ b ∷ [] ≡ [] → ⊥
+never_empty [] b is = cc
+never_empty (x ∷ first) b is = cc
+
 -- where the front's own entries were taken, those before it were too
 pub none_late : (late : List Entry) (read : List Body) → (late ≢ [] → read ≡ []) → (read ≡ [] → ⊥) → late ≡ []
 none_late [] read first some = refl
@@ -93,6 +100,14 @@ module _ (k : Kind) (opened : Contents) (f : Front) (front : Fronted) (rear : Re
   pub stop_last : (stop : Stop) → length rear.log.stops ≡ pair.below → slice_get (more_stops stop) pair.below ≡ Some stop
   stop_last stop stops = ap (λ (n : ℕ). slice_get (more_stops stop) n) (sym stops) ∙ get_last rear.log.stops stop
 
+  -- a halt that was read was taken
+  pub halt_read : (c : Cause) (first : List Body) → pair.lined.read ≡ first ++ body.Halt c ∷ []
+      → Contains (said_in (entries_of f.incarnation rear.log.taken)) (body.Halt c)
+  halt_read c first is =
+      subst (λ (bodies : List Body). Contains bodies (body.Halt c))
+      (sym (ap said_in pair.lined.own ∙ said_numbered f.incarnation 1 pair.lined.read ∙ is))
+      (Contains-push first (body.Halt c))
+
   -- what isn't durable was written by entries of the front's incarnation
   wrote : length rear.log.stops ≡ pair.below → rear.durable < rear.before → batches_of (spoken_in pair.lined.read) ≡ [] → ⊥
   wrote stops less none = known.owns less
@@ -103,7 +118,7 @@ module _ (k : Kind) (opened : Contents) (f : Front) (front : Fronted) (rear : Re
       ∙ none)
 
   module _ (stop : Stop) (held : List Held) (map : Contents) (stand : rear.stand ≡ mounted) (less : rear.durable < rear.before)
-      (is_held : held ≡ filter (λ h. nat_le h.needs rear.durable) rear.held) where
+      (by_append : is_halting stop.cause ≡ false) (is_held : held ≡ filter (λ h. nat_le h.needs rear.durable) rear.held) where
     abbrev pub failed : Rear
     failed = record rear { log = record rear.log { stops = more_stops stop }; stand = wanted stop.cause; held = held; before = rear.durable; map = map }
 
@@ -114,7 +129,7 @@ module _ (k : Kind) (opened : Contents) (f : Front) (front : Fronted) (rear : Re
         (λ call mode. wrote stops less (down_none k (incarnations front rear.log pair.below) pair.start f front rear.log pair.newest_said call mode pair.lined.read pair.lined.unread pair.lined.said)) in
         rebuilt k opened f front rear line notices pair failed line notices
         (λ index within. record { delivered = refl; sent = refl; stop = stop_more stop stops index within; downed = refl; missed = refl })
-        (λ index within. refl) refl (first_stops stop stops) pair.lined
+        (λ index within. refl) ([], sym (append-nil rear.log.taken)) refl (first_stops stop stops) pair.lined
         (inr (
           one_more stop stops,
           record {
@@ -125,6 +140,7 @@ module _ (k : Kind) (opened : Contents) (f : Front) (front : Fronted) (rear : Re
             none_held = is_held ∙ now.none_held;
             stop = stop;
             stopped = stop_last stop stops;
+            halted = λ by. absurd (true≢false (sym by ∙ by_append));
             left = notices;
             told = [];
             under_way = sym (append-nil notices);
@@ -178,11 +194,12 @@ module _ (k : Kind) (opened : Contents) (f : Front) (front : Fronted) (rear : Re
           → IsPair k opened f front halted line (notices ++ given)
       halted_together stops t =
           let now = halts_as pair.start f front rear.log pair.lined.unread rear.before c needs rest rear.stand rear.held notices t is_held in
-          let some_read : pair.lined.read ≡ [] → ⊥ = λ none. now.some (pair.lined.said
-          ∙ ap (λ (bodies : List Body). bodies ++ pair.lined.unread) none ∙ now.none) in
+          let all_read : f.said ≡ pair.lined.read =
+          pair.lined.said ∙ ap (λ (bodies : List Body). pair.lined.read ++ bodies) now.none ∙ append-nil pair.lined.read in
+          let some_read : pair.lined.read ≡ [] → ⊥ = λ none. never_empty now.ends.0 (body.Halt c) (sym now.ends.1 ∙ all_read ∙ none) in
           rebuilt k opened f front rear line notices pair halted line (notices ++ given)
           (λ index within. record { delivered = refl; sent = refl; stop = stop_more stop stops index within; downed = refl; missed = refl })
-          (kept_before_it stops) refl (first_stops stop stops) pair.lined
+          (kept_before_it stops) ([], sym (append-nil rear.log.taken)) refl (first_stops stop stops) pair.lined
           (inr (
             one_more stop stops,
             record {
@@ -193,6 +210,11 @@ module _ (k : Kind) (opened : Contents) (f : Front) (front : Fronted) (rear : Re
               none_held = now.only;
               stop = stop;
               stopped = stop_last stop stops;
+              halted = λ by. (
+                now.mode ∙ ap (λ (x : Cause). serves (ended x)) (sym by_halt),
+                subst (λ (x : Cause). Contains (said_in (entries_of f.incarnation rear.log.taken)) (body.Halt x)) (sym by_halt)
+                    (halt_read c now.ends.0 (sym all_read ∙ now.ends.1)),
+              );
               left = [];
               told = given;
               under_way = ap (λ (all : List Notice). all ++ given) now.quiet;

@@ -1,5 +1,5 @@
 -- A back answers a sync.
-use Rattle.std.proofs.Common.{◌≡◌, refl, inl, ⊎_elim, ℕ, List, [], ◌∷◌, ◌++◌}
+use Rattle.std.proofs.Common.{◌≡◌, sym, refl, inl, ⊎_elim, ℕ, List, [], ◌∷◌, ◌++◌, append-nil}
 use Rattle.storage_map.specs.Contents.{Contents}
 use Rattle.timeline.specs.History.{incarnations}
 use Rattle.timeline.specs.Intake.{Kind, Front}
@@ -17,7 +17,8 @@ pub answers_sync : (k : Kind) (opened : Contents) (f : Front) (front : Fronted) 
     → IsPair k opened f front rear line notices → IsPair k opened f front (record rear { held = rest; map = map }) line (notices ++ given)
 answers_sync k opened f front rear number needs rest map line notices given is_held are pair =
     rebuilt k opened f front rear line notices pair (record rear { held = rest; map = map }) line (notices ++ given)
-    (λ index less. record { delivered = refl; sent = refl; stop = refl; downed = refl; missed = refl }) (λ index less. refl) refl refl pair.lined
+    (λ index less. record { delivered = refl; sent = refl; stop = refl; downed = refl; missed = refl }) (λ index less. refl)
+    ([], sym (append-nil rear.log.taken)) refl refl pair.lined
     (⊎_elim
     (λ t. inl (
       t.0,

@@ -77,7 +77,7 @@ module _ (k : Kind) (opened : Contents) (f : Front) (front : Fronted) (rear : Re
       let stands : Together pair.start f front later.log more rear.before (stands_after c b) rear.held notices =
       sunk pair.start f front rear.log later.log rear.before c b more rear.stand rear.held notices t stand refl in
       rebuilt k opened f front rear (e ∷ line) notices pair later line notices (λ index less. entered_alike front rear e index)
-      (kept_of_all front rear e opened known pair.below stops (omega (arith, is, stops))) refl refl
+      (kept_of_all front rear e opened known pair.below stops (omega (arith, is, stops))) (e ∷ [], refl) refl refl
       (own_taken f front rear.log.taken e line pair.lined b more unreads same rest)
       (inl (stops, subst (λ (x : Body). Together pair.start f front later.log more rear.before (stands_after c x) rear.held notices) (sym bodies) stands))
 

@@ -7,9 +7,10 @@ use Rattle.timeline.specs.Intake.{Kind, Front, Mode, serves, down, numbered}
 use Rattle.timeline.specs.Logs.{Fronted}
 use Rattle.timeline.specs.Object.{idle, waiting, ended}
 use Rattle.timeline.specs.declared.entry.Body.{Body}
+use Rattle.timeline.specs.declared.entry.Body.TheVariants as body
 use Rattle.timeline.specs.declared.entry.Entry.{Entry}
 use Rattle.timeline.specs.declared.notice.Notice.{Notice}
-use Rattle.object_history.proofs.Alike.{IsKeptAlike, same_start}
+use Rattle.object_history.proofs.Alike.{IsKeptAlike, same_start, still_taken}
 use Rattle.object_history.proofs.Entering.{entered_alike, kept_of_all}
 use Rattle.object_history.proofs.Heads.{Head, is_own, is_late, head_of, own_taken, late_taken}
 use Rattle.object_history.proofs.Keeping.{rebuilt, same_together, told_none}
@@ -39,7 +40,7 @@ module _ (k : Kind) (opened : Contents) (f : Front) (front : Fronted) (rear : Re
       absurd (omega (arith, is, stops, pair.number, ap (λ (x : Entry). x.incarnation) same))
   taken_together _ _ lates unreads (is_late x late unread same rest) stops t =
       rebuilt k opened f front rear (e ∷ line) notices pair later line notices (λ index less. entered_alike front rear e index)
-      (kept_of_all front rear e opened known pair.below stops (omega (arith, is, stops))) refl refl
+      (kept_of_all front rear e opened known pair.below stops (omega (arith, is, stops))) (e ∷ [], refl) refl refl
       (late_taken f front rear.log.taken e line pair.lined x late lates same
       (rest ∙ ap (λ (bodies : List Body). late ++ numbered f.incarnation (suc (length pair.lined.read)) bodies) (sym unreads)))
       (inl (stops, same_together pair.start f front rear.log later.log pair.lined.unread rear.before rear.stand rear.held notices refl t))
@@ -61,7 +62,7 @@ module _ (k : Kind) (opened : Contents) (f : Front) (front : Fronted) (rear : Re
       b.is_unread in
       let none_left : b.left ≡ [] = ⊎_elim (λ (none : b.left ≡ []). none) (λ left. absurd (let none = left.3 in cc)) b.left_over in
       rebuilt k opened f front rear (e ∷ line) notices pair later line notices (λ index less. entered_alike front rear e index)
-      (λ index less. kept index (omega (arith, less))) refl refl
+      (λ index less. kept index (omega (arith, less))) (e ∷ [], refl) refl refl
       (own_taken f front rear.log.taken e line pair.lined first more unreads same rest)
       (inr (
         stops,
@@ -73,6 +74,8 @@ module _ (k : Kind) (opened : Contents) (f : Front) (front : Fronted) (rear : Re
           none_held = b.none_held;
           stop = b.stop;
           stopped = b.stopped;
+          halted = λ by.
+              let was = b.halted by in (was.0, still_taken f.incarnation rear.log.taken (e ∷ []) (body.Halt b.stop.cause) was.1);
           left = b.left;
           told = b.told;
           under_way = b.under_way;

@@ -1,5 +1,5 @@
 -- A back that is mounted takes an entry of its newest incarnation.
-use Rattle.std.proofs.Common.{◌≡◌, ◌∙◌, ap, sym, subst, refl, inl, ⊎_elim, ℕ, suc, List, ◌∷◌, ◌++◌, length, arith}
+use Rattle.std.proofs.Common.{◌≡◌, ◌∙◌, ap, sym, subst, refl, inl, ⊎_elim, ℕ, suc, List, [], ◌∷◌, ◌++◌, length, arith}
 use Rattle.std.specs.Prelude.{option_to_list}
 use Rattle.storage_map.specs.Contents.{Contents}
 use Rattle.timeline.specs.History.{entries_of, incarnations, said_in}
@@ -51,7 +51,7 @@ module _ (well : StepsSayWell) (k : Kind) (opened : Contents) (f : Front) (front
       (pair.lined.said ∙ ap (λ (rest : List Body). pair.lined.read ++ rest) unreads) number (read_map stops)
       (is_asked_for well k (incarnations front rear.log pair.below) pair.start f front rear.log pair.newest_said) told in
       rebuilt k opened f front rear (e ∷ line) notices pair later line (notices ++ given) (λ index less. entered_alike front rear e index)
-      (kept_of_all front rear e opened known pair.below stops (omega (arith, is, stops))) refl refl
+      (kept_of_all front rear e opened known pair.below stops (omega (arith, is, stops))) (e ∷ [], refl) refl refl
       (own_taken f front rear.log.taken e line pair.lined b more unreads same rest)
       (inl (
         stops,

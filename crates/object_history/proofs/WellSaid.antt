@@ -24,7 +24,7 @@ use Rattle.timeline.specs.declared.entry.Body.TheVariants as body
 use Rattle.timeline.specs.declared.event.Event.{Event}
 use Rattle.timeline.specs.declared.event.Event.TheVariants as event
 use Rattle.timeline.specs.declared.message.Message.{Message}
-use Rattle.output_gate.specs.Fits.{is_halting}
+use Rattle.timeline.specs.History.{is_halting}
 use Rattle.object_history.specs.Saying.{is_inner, is_plain, LeadBy, LeadTo, IsWellSaid}
 
 abbrev IsPlain : Body → Type 0

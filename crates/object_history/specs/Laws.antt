@@ -1,5 +1,5 @@
 -- Laws of the history of one object, each proved by a function of `laws`.
-use Rattle.std.specs.Prelude.{◌≡◌, suc, List, [], ◌∷◌, ◌++◌, length, map}
+use Rattle.std.specs.Prelude.{◌≡◌, suc, ◌≤◌, List, [], ◌∷◌, ◌++◌, length, map}
 use Rattle.storage_map.specs.Contents.{Contents}
 use Rattle.script_mean.specs.declared.answer.Answer.{Answer}
 use Rattle.timeline.specs.Headline.{IsPrefix}
@@ -11,11 +11,11 @@ use Rattle.timeline.specs.Told.{spoken_in, told, stored_answer, written}
 use Rattle.timeline.specs.declared.entry.Body.{Body}
 use Rattle.timeline.specs.declared.event.Event.{Event}
 use Rattle.timeline.specs.declared.notice.Notice.{Notice}
-use Rattle.timeline.specs.Headline.{AreSaid}
+use Rattle.timeline.specs.Headline.{AreHalted, AreSaid, RestsUnmounted}
 use Rattle.timeline.specs.History.{history}
 use Rattle.timeline.specs.Intake as intake
 use Rattle.timeline.specs.Intake.{numbered, front_after, FitsMode, MayTake}
-use Rattle.timeline.specs.Logs.{Fronted}
+use Rattle.timeline.specs.Logs.{Backed, Fronted}
 use Rattle.timeline.specs.declared.back_log.Stop.{Stop}
 use Rattle.timeline.specs.declared.entry.Entry.{Entry}
 use Rattle.object_history.specs.Pair.{IsPair, Rear, mounted}
@@ -77,8 +77,17 @@ BackKeepsPair = (k : Kind) (opened : Contents) (f : Front) (front : Fronted) (re
     → IsRear opened rear → IsRear opened later → BackSteps rear later got told → AreGiven told given → IsPair k opened f front rear (got ++ line) notices
     → IsPair k opened f front later line (notices ++ given)
 
--- What each incarnation of a pair has said begins what it says in all, and the front knows the causes of the first ends.
+-- What the logs of two halves show of their incarnations: what each has said begins what it says in all; where a turn ended one, its object
+-- has ended so; each end but the last one was followed by a mounting, and nothing is delivered to an incarnation that isn't mounted; and
+-- the front knows the causes of the first ends.
+pub record AreSaidSo (k : Kind) (opened : Contents) (front : Fronted) (back : Backed) : Type 0 where
+  pub said : AreSaid k.script k.class opened front back (history front back)
+  pub halted : AreHalted k.script k.class opened (history front back)
+  pub mounted : length back.stops ≤ suc (length back.ends)
+  pub unmounted : RestsUnmounted (history front back)
+  pub ends : IsPrefix front.ends (map (λ (stop : Stop). stop.cause) back.stops)
+
+-- The logs of a pair do.
 abbrev pub PairIsSaid : Type 0
 PairIsSaid = (k : Kind) (opened : Contents) (f : Front) (front : Fronted) (rear : Rear) (line : List Entry) (notices : List Notice)
-    → IsRear opened rear → IsPair k opened f front rear line notices
-    → AreSaid k.script k.class opened front rear.log (history front rear.log) × IsPrefix front.ends (map (λ (stop : Stop). stop.cause) rear.log.stops)
+    → IsRear opened rear → IsPair k opened f front rear line notices → AreSaidSo k opened front rear.log

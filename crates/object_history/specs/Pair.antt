@@ -1,14 +1,14 @@
 -- The two halves of one object, tied by their lanes: what stands between what the front has taken and said, and what the back has
 -- taken and answered. Source: the articles on input and output gates; how incarnations follow one another is this project's profile.
-use Rattle.std.specs.Prelude.{◌≡◌, ◌≢◌, ◌⊎◌, ℕ, suc, ◌<◌, ◌≤◌, false, List, [], ◌∷◌, ◌++◌, length, map, drop, take, slice_get, Option, Some, None, IfSome}
-use Rattle.std.specs.List.{All}
+use Rattle.std.specs.Prelude.{◌≡◌, ◌≢◌, ◌⊎◌, ℕ, suc, ◌<◌, ◌≤◌, true, false, List, [], ◌∷◌, ◌++◌, length, map, drop, take, slice_get, Option, Some, None, IfSome}
+use Rattle.std.specs.List.{All, Contains}
 use Rattle.storage_map.specs.Contents.{Contents}
-use Rattle.timeline.specs.Headline.{AreSaid, down_said, missed_of}
-use Rattle.timeline.specs.History.{History, of_number, entries_of, incarnations, start_after, resets}
+use Rattle.timeline.specs.Headline.{AreHalted, AreSaid, down_said, missed_of}
+use Rattle.timeline.specs.History.{History, of_number, entries_of, incarnations, is_halting, start_after, resets, said_in}
 use Rattle.timeline.specs.Intake.{Kind, Front, Mode, serves, down, FitsNotice, answer_in, numbered}
 use Rattle.timeline.specs.Logs.{Fronted, Backed}
 use Rattle.timeline.specs.Object.{Object, OpenTask, State, idle, waiting, ended}
-use Rattle.timeline.specs.Passed.{is_mend}
+use Rattle.timeline.specs.Passed.{is_mend, is_said_down}
 use Rattle.timeline.specs.Told.{spoken_in, stored_answer, written}
 use Rattle.timeline.specs.declared.back_log.Missed.{Missed}
 use Rattle.timeline.specs.declared.back_log.Stop.{Stop}
@@ -129,7 +129,7 @@ pub data Together (start : Contents) (f : Front) (front : Fronted) (back : Backe
   answered : (n : Notice) → IsAnswer start f n → unread ≡ [] → Together start f front back unread before mounted [] (n ∷ [])
   syncs : (o : Object) (t : OpenTask) → f.mode ≡ serves (waiting o t body.Sync) → unread ≡ []
       → Together start f front back unread before mounted (record { hold = sync (length f.said); needs = before } ∷ []) []
-  halts : (c : Cause) → f.mode ≡ serves (ended c) → unread ≡ [] → f.said ≢ []
+  halts : (c : Cause) → f.mode ≡ serves (ended c) → unread ≡ [] → (first : List Body) × (f.said ≡ first ++ body.Halt c ∷ [])
       → Together start f front back unread before mounted (record { hold = halt c; needs = before } ∷ []) []
   falls : (call : Option Event) (c : Cause) → f.mode ≡ down call → IsUnread f.mode unread
       → length (missed_of f.incarnation back.downs) ≡ suc (length (calls_down f front)) → Together start f front back unread before (fallen c) [] []
@@ -159,6 +159,11 @@ abbrev pub fallen_once : Stand → ℕ
 fallen_once (fallen c) = 1
 fallen_once stand = 0
 
+-- Where a turn has ended it, its object has ended so, and the halt was taken.
+abbrev pub HasHalted : Front → Backed → Cause → Type 0
+HasHalted f back cause =
+    is_halting cause ≡ true → (f.mode ≡ serves (ended cause)) × Contains (said_in (entries_of f.incarnation back.taken)) (body.Halt cause)
+
 pub record Behind (start next : Contents) (below : ℕ) (f : Front) (unread : List Body) (late : List Entry) (rear : Rear) (notices : List Notice) : Type 0 where
   pub state : State
   pub mode : f.mode ≡ serves state
@@ -167,6 +172,7 @@ pub record Behind (start next : Contents) (below : ℕ) (f : Front) (unread : Li
   pub none_held : rear.held ≡ []
   pub stop : Stop
   pub stopped : slice_get rear.log.stops below ≡ Some stop
+  pub halted : HasHalted f rear.log stop.cause
   pub left : List Notice
   pub told : List Notice
   pub under_way : notices ≡ left ++ told
@@ -175,12 +181,13 @@ pub record Behind (start next : Contents) (below : ℕ) (f : Front) (unread : Li
   pub fails : length (missed_of (suc f.incarnation) rear.log.downs) ≡ fallen_once rear.stand
 
 -- What was said before an incarnation served: the failures of the calls that the one before it left unanswered, and those of the calls
--- for which it wasn't mounted. It writes nothing.
+-- for which it wasn't mounted; and its wishes to be mounted. It writes nothing.
 pub record SaysDown (older : History) (f : Front) (front : Fronted) (back : Backed) (bodies : List Body) : Type 0 where
   pub silent : (m : Contents) → written m bodies ≡ m
   pub calls : All IsCall (calls_down f front)
   pub enough : length (calls_down f front) ≤ length (failures f back)
   pub spoken : spoken_in bodies ≡ spoken_in (resets older) ++ down_said (calls_down f front) (failures f back)
+  pub down : All (λ b. is_said_down b ≡ true) bodies
 
 -- What the front's incarnation has said, over the map with which it starts: it serves, or isn't mounted yet.
 pub data IsNewest (k : Kind) (older : History) (start : Contents) (f : Front) (front : Fronted) (back : Backed) : Type 0 where
@@ -202,6 +209,7 @@ pub record IsPair (k : Kind) (opened : Contents) (f : Front) (front : Fronted) (
   pub lined : IsLine f front rear.log.taken line
   pub ends : front.ends ≡ map (λ (stop : Stop). stop.cause) (take below rear.log.stops)
   pub older_said : AreSaid k.script k.class opened front rear.log (incarnations front rear.log below)
+  pub older_halted : AreHalted k.script k.class opened (incarnations front rear.log below)
   pub start : Contents
   pub starts : start ≡ start_after opened (incarnations front rear.log below)
   pub newest_said : IsNewest k (incarnations front rear.log below) start f front rear.log

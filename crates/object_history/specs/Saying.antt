@@ -4,7 +4,7 @@ use Rattle.std.specs.List.{All}
 use Rattle.timeline.specs.Object.{State, idle, waiting, ended, Step}
 use Rattle.timeline.specs.declared.entry.Body.{Body}
 use Rattle.timeline.specs.declared.entry.Body.TheVariants as body
-use Rattle.output_gate.specs.Fits.{is_halting}
+use Rattle.timeline.specs.History.{is_halting}
 
 -- An entry that the storage answers.
 abbrev pub is_asked : Body → Bool

@@ -1,8 +1,8 @@
 -- What a step of either half does, as far as the other half and the history are concerned.
-use Rattle.std.specs.Prelude.{◌≡◌, ◌≢◌, ◌⊎◌, ℕ, suc, ◌<◌, ◌≤◌, nat_le, true, List, [], ◌∷◌, ◌++◌, length, Some, option_to_list}
+use Rattle.std.specs.Prelude.{◌≡◌, ◌≢◌, ◌⊎◌, ℕ, suc, ◌<◌, ◌≤◌, nat_le, true, false, List, [], ◌∷◌, ◌++◌, length, Some, option_to_list}
 use Rattle.std.specs.List.{All, filter}
 use Rattle.storage_map.specs.Contents.{Contents}
-use Rattle.timeline.specs.History.{Incarnation, History, entries_of, incarnations, history, batches_in, start_after, said_in}
+use Rattle.timeline.specs.History.{Incarnation, History, entries_of, incarnations, history, is_halting, batches_in, start_after, said_in}
 use Rattle.timeline.specs.Intake.{Kind, Front, Mode, serves, Taken, noticed, wanted, takes, numbered, delivered_by, downed_by, ends_by, sent_by, delivered_in, downed_in, ends_in}
 use Rattle.timeline.specs.Logs.{Fronted, Backed}
 use Rattle.timeline.specs.Told.{written}
@@ -107,7 +107,7 @@ pub data BackSteps (r : Rear) : Rear → List Entry → List Notice → Type 0 w
   flies : (count : ℕ) (map : Contents)
       → BackSteps r (record r { log = record r.log { flights = r.log.flights ++ count ∷ [] }; durable = r.before; map = map }) [] []
   stops : (stop : Stop) (held : List Held) (map : Contents) → r.stand ≡ mounted → r.durable < r.before → stop.flights ≡ length r.log.flights
-      → held ≡ filter (λ h. nat_le h.needs r.durable) r.held
+      → is_halting stop.cause ≡ false → held ≡ filter (λ h. nat_le h.needs r.durable) r.held
       → BackSteps r (record r {
         log = record r.log { stops = r.log.stops ++ stop ∷ [] };
         stand = pair.wanted stop.cause;

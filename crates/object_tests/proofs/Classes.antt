@@ -4,7 +4,7 @@ use Rattle.std.specs.Option.{IfSome}
 use Rattle.do_tree.specs.Lookup.{class_named}
 use Rattle.do_tree.specs.Tree.{Script}
 use Rattle.front_turns.specs.Paused.{HasClass}
-use Rattle.object_front.proofs.Fitted.{named}
+use Rattle.front_half.proofs.Fitted.{named}
 
 pub class_there : (script : Script) (name : List ℕ) (found : Option ℕ) → found ≡ class_named script name → IfSome found (HasClass script)
 class_there script name None is = tt

@@ -13,8 +13,8 @@ use Rattle.timeline.specs.declared.back_log.Missed.{Missed}
 use Rattle.timeline.specs.declared.back_log.Stop.{Stop}
 use Rattle.timeline.specs.declared.caller.Cause.{Cause}
 use Rattle.timeline.specs.declared.caller.Cause.TheVariants as cause
-use Rattle.output_gate.specs.Counted.{stop_counts, missed_counts, counts_from, counts_in, AreRising, HasRisenIn, AreCounted}
-use Rattle.output_gate.specs.Fits.{is_halting}
+use Rattle.output_gate.specs.Counted.{stop_counts, missed_counts, counts_from, counts_in, AreRising, HasRisenIn, IsBehindEnd, AreCounted}
+use Rattle.timeline.specs.History.{is_halting}
 use Rattle.output_gate.proofs.Helds.{true_false}
 
 -- the counts go up to a later count, and one more pair stands behind them
@@ -76,6 +76,14 @@ missed_behind : (back : Backed) (stops : List Stop) (m : Missed) → back.stops 
 missed_behind back [] m at is some = absurd (some refl)
 missed_behind back (first ∷ stops) m at is some = counts_missed 1 first stops back.downs m (omega (arith, is))
 
+-- a mounting behind one of some ends is behind one of more; and the one behind the last end is behind an end
+behind_later : {ends more : ℕ} {m : Missed} → IsBehindEnd ends m → ends ≤ more → IsBehindEnd more m
+behind_later b up = record { second = b.second; within = omega (arith, b.within, up) }
+
+behind_last : (stops : List Stop) (m : Missed) → m.incarnation ≡ suc (length stops) → (stops ≡ [] → ⊥) → IsBehindEnd (length stops) m
+behind_last [] m is some = absurd (some refl)
+behind_last (s ∷ stops) m is some = record { second = omega (arith, is); within = omega (arith, is) }
+
 module _ (tells later_tells : Type 0) (before_it : later_tells → tells) (back : Backed) (now later : ℕ) (c : AreCounted tells back now) where
   -- no end and no mounting is logged
   pub counts_same : (next : Backed) → next.stops ≡ back.stops → next.downs ≡ back.downs → now ≤ later → AreCounted later_tells next later
@@ -85,10 +93,10 @@ module _ (tells later_tells : Type 0) (before_it : later_tells → tells) (back 
       record { begun = c.begun; rising = rising_later 0 (counts_in back) now later up c.rising; rose = λ yes. c.rose (before_it yes) }
 
   stop_more : (stop : Stop) → counts_from 1 (back.stops ++ stop ∷ []) back.downs ≡ counts_in back ++ stop_counts stop.cause
-  stop_more stop = counts_stop 1 back.stops stop back.downs (missed_none (suc (1 + length back.stops)) back.downs (λ k d lt. omega (arith, c.begun k d lt)))
+  stop_more stop = counts_stop 1 back.stops stop back.downs (missed_none (suc (1 + length back.stops)) back.downs (λ k d lt. omega (arith, (c.begun k d lt).within)))
 
-  stop_begun : (stop : Stop) → All (λ m. m.incarnation ≤ suc (length (back.stops ++ stop ∷ []))) back.downs
-  stop_begun stop = λ k d lt. omega (arith, c.begun k d lt, length_push back.stops stop)
+  stop_begun : (stop : Stop) → All (IsBehindEnd (length (back.stops ++ stop ∷ []))) back.downs
+  stop_begun stop = λ k d lt. behind_later (c.begun k d lt) (omega (arith, length_push back.stops stop))
 
   -- an end by the disk
   pub counts_fell : (next : Backed) (stop : Stop) (before after : ℕ) → next.stops ≡ back.stops ++ stop ∷ [] → next.downs ≡ back.downs → stop.cause ≡ cause.Disk before after
@@ -123,7 +131,7 @@ module _ (tells later_tells : Type 0) (before_it : later_tells → tells) (back 
       subst (λ (x : List Stop × List Missed). AreCounted later_tells (record next { stops = x.0; downs = x.1 }) later)
       (ap (λ (ss : List Stop). (ss, back.downs ++ m ∷ [])) (sym stops) ∙ ap (λ (ds : List Missed). (next.stops, ds)) (sym downs))
       record {
-        begun = All-push (λ (x : Missed). x.incarnation ≤ suc (length back.stops)) back.downs m c.begun (omega (arith, is));
+        begun = All-push (IsBehindEnd (length back.stops)) back.downs m c.begun (behind_last back.stops m is some);
         rising = subst (λ cs. AreRising 0 cs later) (sym more) (rising_push 0 (counts_in back) (missed_counts m) now later above within c.rising);
         rose = λ yes. subst (All HasRisenIn) (sym more) (All-push HasRisenIn (counts_in back) (missed_counts m) (c.rose (before_it yes)) (rises yes));
       }
@@ -133,7 +141,7 @@ pub counts_new : (tells : Type 0) (back : Backed) (now : ℕ) → back.stops ≡
 counts_new tells back now stops downs =
     subst (λ (x : List Stop × List Missed). AreCounted tells (record back { stops = x.0; downs = x.1 }) now)
     (ap (λ (ss : List Stop). (ss, [])) (sym stops) ∙ ap (λ (ds : List Missed). (back.stops, ds)) (sym downs))
-    record { begun = All-nil (λ (m : Missed). m.incarnation ≤ 1); rising = omega arith; rose = λ yes. All-nil HasRisenIn }
+    record { begun = All-nil (IsBehindEnd 0); rising = omega arith; rose = λ yes. All-nil HasRisenIn }
 
 -- a halt has no counts
 pub no_counts : (c : Cause) → is_halting c ≡ true → stop_counts c ≡ []

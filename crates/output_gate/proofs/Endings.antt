@@ -3,7 +3,7 @@ use Rattle.std.proofs.Common.{◌≡◌, ◌∙◌, ap, sym, refl, subst, inl, i
 use Rattle.std.proofs.lemmas.List.{length-take-le, map-append}
 use Rattle.std.specs.Prelude.{◌⊎◌, Bool, true, false, slice_get, if◌then◌else◌}
 use Rattle.timeline.specs.Headline.{KeepBy}
-use Rattle.timeline.specs.History.{Incarnation, History, batches_in, durable, durable_by, incarnation_at, incarnations, kept_before, kept_of, IsKept, IsKeptBy}
+use Rattle.timeline.specs.History.{Incarnation, History, batches_in, durable, durable_by, incarnation_at, incarnations, is_halting, kept_before, kept_of, IsKept, IsKeptBy}
 use Rattle.timeline.specs.Logs.{Fronted, Backed}
 use Rattle.timeline.specs.Passed.{discards, is_mounted, is_followed}
 use Rattle.timeline.specs.Told.{said_by, batches_of}
@@ -13,7 +13,7 @@ use Rattle.timeline.specs.declared.caller.Cause.{Cause}
 use Rattle.timeline.specs.declared.caller.Cause.TheVariants as cause
 use Rattle.timeline.specs.declared.entry.Entry.{Entry}
 use Rattle.output_gate.specs.Ended.{last_stop, stop_causes, end_causes, AreInOrder, HasEnded, IsPlaced, IsLogged, IsEnding, AreEnding, IsLoggedDown}
-use Rattle.output_gate.specs.Fits.{is_halt, is_halting, last_of}
+use Rattle.output_gate.specs.Fits.{is_halt, last_of}
 use Rattle.output_gate.specs.Gate.{Place, place_of}
 use Rattle.output_gate.specs.Logs.{no_log}
 use Rattle.output_gate.specs.Standing.{AreLogs, own_entries, own_flights, older_of, going_on}

@@ -6,7 +6,7 @@ use Rattle.std.specs.declared.collections.VecDeque.{VecDeque}
 use Rattle.batch_journal.specs.Rest.{disk_in}
 use Rattle.batch_journal.specs.declared.journal.Journal.{Journal}
 use Rattle.storage_map.specs.declared.op.Op.{Op}
-use Rattle.timeline.specs.History.{Incarnation, entries_of, batches_in as batches_taken}
+use Rattle.timeline.specs.History.{Incarnation, entries_of, batches_in as batches_taken, is_halting}
 use Rattle.timeline.specs.Logs.{Fronted, Backed, backed}
 use Rattle.timeline.specs.Passed.{Passed, bound_if, bound_by}
 use Rattle.timeline.specs.declared.back_log.BackLog.{BackLog}
@@ -17,7 +17,6 @@ use Rattle.timeline.specs.declared.caller.Cause.{Cause}
 use Rattle.batch_journal.specs.Moments.{IsTold}
 use Rattle.output_gate.specs.Down.{place_down}
 use Rattle.output_gate.specs.Ended.{IsLogged}
-use Rattle.output_gate.specs.Fits.{is_halting}
 use Rattle.output_gate.specs.Gate.{Place, place_of, Lists, IsGate}
 use Rattle.output_gate.specs.Held.{passed_by, passed_of, waiting_in, is_held_halt, has_halt, halts_well, HaltsLast}
 use Rattle.output_gate.specs.Serving.{HasRoom, IsSafe, IsServing, IsMounted, stop_of}

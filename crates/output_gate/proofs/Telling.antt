@@ -78,6 +78,7 @@ module _ {D : Type 0} (moment_of : D → ℕ) (left_since : D → ℕ → List �
         images = λ c now. subst (λ (h : History). RecoversToLine back.identity start 0 h 0 c) (sym at) (g.images c now);
         kept = subst KeepBy (sym at) (keeps_on _ (older_of front b) refl (m.logged.keep tells front));
         followed = ([], append-nil _ ∙ m.logged.followed);
+        missed = m.counts.begun;
         rising = m.counts.rising;
         rose = m.counts.rose tells;
       }
@@ -106,6 +107,7 @@ module _ {D : Type 0} (moment_of : D → ℕ) (left_since : D → ℕ → List �
         images = λ c now. subst (λ (h : History). RecoversToLine back.identity start 0 h 0 c) (sym down) (g.images c now);
         kept = subst KeepBy (sym at) (keeps_on _ (older_of front b) refl (u.logged.keep tells front));
         followed = (u.ending.cause ∷ [], u.logged.followed);
+        missed = u.counts.begun;
         rising = u.counts.rising;
         rose = u.counts.rose tells;
       }

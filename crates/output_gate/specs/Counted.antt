@@ -34,8 +34,13 @@ AreRising from (counts ∷ later) now = (from ≤ counts.0) × AreRising counts.
 abbrev pub HasRisenIn : ℕ × ℕ → Type 0
 HasRisenIn counts = HasRisen counts.0 counts.1
 
--- Over a disk that tells its content the count rose each time.
+-- A mounting that failed is of an incarnation behind an end: of the second at least, and of the one behind the last end at most.
+pub record IsBehindEnd (ends : ℕ) (m : Missed) : Type 0 where
+  pub second : 2 ≤ m.incarnation
+  pub within : m.incarnation ≤ suc ends
+
+-- Each mounting that failed is counted behind its end, and over a disk that tells its content the count rose each time.
 pub record AreCounted (tells : Type 0) (back : Backed) (now : ℕ) : Type 0 where
-  pub begun : All (λ m. m.incarnation ≤ suc (length back.stops)) back.downs
+  pub begun : All (IsBehindEnd (length back.stops)) back.downs
   pub rising : AreRising 0 (counts_in back) now
   pub rose : tells → All HasRisenIn (counts_in back)

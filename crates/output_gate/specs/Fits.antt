@@ -1,7 +1,6 @@
 -- Which entries a back takes. The others leave it stuck, and no front sends them. This project's profile.
 use Rattle.std.specs.Prelude.{◌==◌, nat_lt, Bool, true, false, not, if◌then◌else◌, List, length, ◌-◌, slice_get, Option, Some, None, Err}
-use Rattle.timeline.specs.declared.caller.Cause.{Cause}
-use Rattle.timeline.specs.declared.caller.Cause.TheVariants as cause
+use Rattle.timeline.specs.History.{is_halting}
 use Rattle.timeline.specs.declared.entry.Body.{Body}
 use Rattle.timeline.specs.declared.entry.Body.TheVariants as body
 use Rattle.timeline.specs.declared.entry.Entry.{Entry}
@@ -21,13 +20,8 @@ abbrev pub comes_behind : Option Entry → Entry → Bool
 comes_behind None e = nat_lt 0 e.incarnation
 comes_behind (Some last) e = if last.incarnation == e.incarnation then not (is_halt last.body) else nat_lt last.incarnation e.incarnation
 
--- A halt names one of the causes by which a front ends an incarnation.
-abbrev pub is_halting : Cause → Bool
-is_halting (cause.Disk before after) = false
-is_halting (cause.Full needed limit) = false
-is_halting _ = true
-
--- What may be taken of an incarnation that is or was mounted, where the object is known or isn't.
+-- What may be taken of an incarnation that is or was mounted, where the object is known or isn't. A halt names one of the causes by which
+-- a turn ends an incarnation.
 abbrev pub fits_mounted : Body → (is_known : Bool) → Bool
 fits_mounted (body.Bind identity) is_known = not is_known
 fits_mounted (body.Batch ops tail) is_known = is_known

@@ -5,7 +5,7 @@ use Rattle.timeline.specs.Passed.{Passed}
 use Rattle.timeline.specs.declared.caller.Cause.{Cause}
 use Rattle.timeline.specs.declared.caller.Failure.TheVariants as failure
 use Rattle.timeline.specs.declared.message.Message.TheVariants as message
-use Rattle.output_gate.specs.Fits.{is_halting}
+use Rattle.timeline.specs.History.{is_halting}
 use Rattle.output_gate.specs.declared.held.Held.{Held}
 use Rattle.output_gate.specs.declared.held.HeldBody.{HeldBody}
 use Rattle.output_gate.specs.declared.held.HeldBody.TheVariants.{Message, Sync, Halt}

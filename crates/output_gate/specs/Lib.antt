@@ -17,3 +17,4 @@ pub mod Releasing
 pub mod Mending
 pub mod Laws
 pub mod Telling
+pub mod Examples

@@ -13,7 +13,7 @@ use Rattle.timeline.specs.Passed.{Passed, passed}
 use Rattle.timeline.specs.Told.{stored_answer, written}
 use Rattle.timeline.specs.declared.entry.Body.{Body}
 use Rattle.timeline.specs.declared.notice.Notice.{Notice}
-use Rattle.output_gate.specs.Counted.{counts_in, AreRising, HasRisenIn}
+use Rattle.output_gate.specs.Counted.{counts_in, AreRising, HasRisenIn, IsBehindEnd}
 use Rattle.output_gate.specs.Ended.{stop_causes, end_causes}
 use Rattle.output_gate.specs.Kept.{RecoversToLine, HaveLeft}
 use Rattle.output_gate.specs.Serving.{IsBack, is_stopped}
@@ -25,8 +25,8 @@ use Rattle.output_gate.specs.declared.back.Mode.TheVariants.{Mounted}
 
 -- The releases begin the messages that pass, each with what it needs. What a crash leaves, now or at any moment since the opening,
 -- recovers to the batches of the start and a prefix of those of a line, and since a release to one that has what the release
--- needs. Each end kept what an end of its cause keeps, and incarnations are followed for the causes for which they stopped. The counts
--- of faults that the log keeps go up to the disk's, and rose at each.
+-- needs. Each end kept what an end of its cause keeps, and incarnations are followed for the causes for which they stopped. Each mounting
+-- that failed is of an incarnation behind an end. The counts of faults that the log keeps go up to the disk's, and rose at each.
 pub record HasTold {D : Type 0} (moment_of : D → ℕ) (left_since : D → ℕ → List ℕ → Type 0) (faults_of : D → ℕ) (object : Option Object) (start : List (List Op)) (opening : ℕ)
     (front : Fronted) (disk : D) (back : Backed) : Type 0 where
   pub logs : AreLogs back
@@ -37,6 +37,7 @@ pub record HasTold {D : Type 0} (moment_of : D → ℕ) (left_since : D → ℕ 
   pub images : (c : List ℕ) → left_since disk opening c → RecoversToLine object start 0 (history front back) 0 c
   pub kept : KeepBy (history front back)
   pub followed : IsPrefix (end_causes back.ends) (stop_causes back.stops)
+  pub missed : All (IsBehindEnd (length back.stops)) back.downs
   pub rising : AreRising 0 (counts_in back) (faults_of disk)
   pub rose : All HasRisenIn (counts_in back)
 
@@ -66,13 +67,13 @@ KeepsWithin [] = Unit {0}
 KeepsWithin (i ∷ older) = (count : ℕ) → i.kept ≡ Some count → count ≤ length (batches_in i.taken)
 
 -- How the log and the counters of a back stand to one another, over any disk. While the newest incarnation is mounted each that has
--- ended was followed; else the last one wasn't yet. Each mounting that failed is of an incarnation that had begun. Where batches wait
--- for a flush the newest incarnation has some.
+-- ended was followed; else the last one wasn't yet. Each mounting that failed is of an incarnation behind an end. Where batches wait for a
+-- flush the newest incarnation has some.
 pub record IsOrdered {D : Type 0} (back : Back D) : Type 0 where
   pub logs : AreLogs (backed back.log)
   pub followed : back.mode ≡ Mounted → length back.log.ends.items ≡ length back.log.stops.items
   pub unfollowed : back.mode ≢ Mounted → length back.log.stops.items ≡ suc (length back.log.ends.items)
-  pub missed : All (λ m. m.incarnation ≤ suc (length back.log.stops.items)) back.log.downs.items
+  pub missed : All (IsBehindEnd (length back.log.stops.items)) back.log.downs.items
   pub more : back.durable ≤ back.before
   pub unflown : back.durable < back.before → batches_in (own_entries (backed back.log)) ≢ []
   pub kept : (front : Fronted) → KeepsWithin (older_of front (backed back.log))

@@ -1,5 +1,6 @@
 //! Which entries a back takes. A front sends no others.
 ghost use Rattle.std.specs.Prelude.{◌≡◌, option_copied};
+ghost use Rattle.timeline.specs.History as history;
 ghost use Rattle.output_gate.specs.Fits as fits;
 
 use timeline::{Body, Cause, Entry, Message};
@@ -49,7 +50,7 @@ pub(crate) fn fits_mounted(body: &Body, is_known: bool) -> bool
 }
 
 fn is_halting(cause: Cause) -> bool
-    ensures { result ≡ fits.is_halting cause }
+    ensures { result ≡ history.is_halting cause }
 {
     match cause {
         Cause::Disk { .. } | Cause::Full { .. } => false,

@@ -1,4 +1,5 @@
 //! Laws of backs, for whoever holds one. A call costs nothing and tells its caller the law.
+ghost use Rattle.output_gate.specs.Examples.{IsToldByNone, missed_ended, missed_unended};
 ghost use Rattle.output_gate.specs.Laws.{HistorySteps};
 ghost use Rattle.output_gate.specs.Telling.{BackTells, BackIsOrdered, MapIsWritten, NoticesAnswer};
 
@@ -21,6 +22,12 @@ pub fn back_tells<D: Disk>(back: &Back<D>)
 {
     let _ = back;
 }
+
+/// A mounting fails only behind an end: a log has none of an incarnation before the second one, nor of one behind the next.
+pub fn mountings_fail_behind_ends<D: Disk>()
+    ensures unended { IsToldByNone D.moment_of D.left_since D.faults_of missed_unended }
+    ensures ended { IsToldByNone D.moment_of D.left_since D.faults_of missed_ended }
+{}
 
 /// How the log and the counters of any back stand to one another, over any disk.
 pub fn back_is_ordered<D: Disk>(back: &Back<D>)

@@ -9,7 +9,7 @@ use serde_json::Value as Json;
 use std::alloc::Global;
 use std::test::Fail;
 use std::time::Instant;
-use test_rows::{count, word};
+use test_rows::{Telling, count, word};
 
 // Runs a case so many rounds. What its method returns is added to the line, and standard error is told the time.
 fn measure(
@@ -18,7 +18,7 @@ fn measure(
     checked: &Checked,
     case: Case,
     rounds: u64,
-    line: &mut String,
+    line: &mut Telling,
 ) -> Result<(), Fail> {
     let (name, turns, size) = case;
     let Made { args, fields } = make(alloc, checked, turns, size)?;
@@ -28,8 +28,7 @@ fn measure(
         result = run(alloc, checked, name, &args, &fields)?;
     }
     let spent = start.elapsed(rt)?;
-    let told = format!(in alloc; "{name} {turns} {size}: {result}")?;
-    line.push_str(told.as_str())?;
+    line.tell(format!(in alloc; "{name} {turns} {size}: {result}"));
     eprintln!(rt;
         "{name} {turns} {size}: {} microseconds in {rounds} rounds",
         spent.as_micros()
@@ -41,15 +40,15 @@ fn measure(
 pub(crate) fn answer(rt: &HostRuntime, alloc: Global, row: &Json) -> Result<String, Fail> {
     let checked = check_text(alloc, SCRIPT)?;
     let wanted = word(row, 2);
-    let mut line = String::new(alloc);
+    let mut line = Telling::new(alloc);
     for case in CASES {
         if !wanted.is_empty() && case.0 != wanted {
             continue;
         }
         if !line.is_empty() {
-            line.push_str("\n")?;
+            line.say("\n");
         }
         measure(rt, alloc, &checked, case, count(row, 1), &mut line)?;
     }
-    Ok(line)
+    line.into_text()
 }

@@ -14,7 +14,7 @@ use script_vars::Vars;
 use serde_json::Value as Json;
 use std::alloc::Global;
 use std::test::Fail;
-use test_rows::{row_of, word};
+use test_rows::{Telling, row_of, word};
 
 // What answers the cases behind it.
 #[derive(Drop)]
@@ -58,17 +58,21 @@ fn choose(alloc: Global, state: &mut State, name: &str) -> Result<String, Fail> 
 }
 
 fn answer_scripts(alloc: Global, row: &Json) -> Result<String, Fail> {
-    let mut line = String::new(alloc);
-    match word(row, 0) {
-        "tokens" => tokens::answer_sums(alloc, row, &mut line)?,
-        "each" => tokens::answer_each(alloc, row, &mut line)?,
-        "keywords" => tokens::answer_keywords(&mut line)?,
-        "parse" => texts::answer_parse(alloc, row, &mut line)?,
-        "check" => texts::answer_check(alloc, row, &mut line)?,
-        "print" => texts::answer_print(alloc, row, &mut line)?,
-        _ => operators::answer(alloc, row, &mut line)?,
-    }
-    Ok(line)
+    let mut line = Telling::new(alloc);
+    let answered = match word(row, 0) {
+        "tokens" => tokens::answer_sums(alloc, row, &mut line),
+        "each" => tokens::answer_each(alloc, row, &mut line),
+        "keywords" => {
+            tokens::answer_keywords(&mut line);
+            Ok(())
+        }
+        "parse" => texts::answer_parse(alloc, row, &mut line),
+        "check" => texts::answer_check(alloc, row, &mut line),
+        "print" => texts::answer_print(alloc, row, &mut line),
+        _ => operators::answer(alloc, row, &mut line),
+    };
+    answered?;
+    line.into_text()
 }
 
 fn answer(rt: &HostRuntime, alloc: Global, state: &mut State, row: &Json) -> Result<String, Fail> {

@@ -4,7 +4,7 @@ use script_ops::{OpFault, binary, builtin, truth, unary};
 use serde_json::Value as Json;
 use std::alloc::Global;
 use std::test::Fail;
-use test_rows::{tell_value, value, word};
+use test_rows::{Telling, tell_value, value, word};
 
 fn binary_of(name: &str) -> Option<BinOp> {
     match name {
@@ -52,42 +52,42 @@ fn values(alloc: Global, row: &Json, from: usize) -> Result<Vec<Value>, Fail> {
     Ok(values)
 }
 
-fn tell(line: &mut String, answer: &Result<Value, OpFault>) -> Result<(), Fail> {
+fn tell(line: &mut Telling, answer: &Result<Value, OpFault>) {
     match answer {
         Ok(value) => tell_value(line, value),
         Err(OpFault::Throw(value)) => {
-            line.push_str("throws ")?;
-            tell_value(line, value)
+            line.say("throws ");
+            tell_value(line, value);
         }
-        Err(OpFault::NoMemory) => Err("no memory")?,
+        Err(OpFault::NoMemory) => line.refuse(),
     }
 }
 
 /// `truth VALUE`, `before OPERATOR VALUE`, `between OPERATOR VALUE VALUE`, `call NAME VALUES`
-pub(crate) fn answer(alloc: Global, row: &Json, line: &mut String) -> Result<(), Fail> {
+pub(crate) fn answer(alloc: Global, row: &Json, line: &mut Telling) -> Result<(), Fail> {
     match word(row, 0) {
-        "truth" => line.push_str(if truth(&value(alloc, row, 1)?) {
+        "truth" => line.say(if truth(&value(alloc, row, 1)?) {
             "true"
         } else {
             "false"
-        })?,
+        }),
         "before" => {
             let op = if word(row, 1) == "-" {
                 UnOp::Neg
             } else {
                 UnOp::Not
             };
-            tell(line, &unary(alloc, op, &value(alloc, row, 2)?))?;
+            tell(line, &unary(alloc, op, &value(alloc, row, 2)?));
         }
         "between" => {
             let op = binary_of(word(row, 1)).ok_or("no operator")?;
             let (left, right) = (value(alloc, row, 2)?, value(alloc, row, 3)?);
-            tell(line, &binary(alloc, op, &left, &right))?;
+            tell(line, &binary(alloc, op, &left, &right));
         }
         _ => {
             let which = call_of(word(row, 1)).ok_or("no call")?;
             let args = values(alloc, row, 2)?;
-            tell(line, &builtin(alloc, which, args.as_slice()))?;
+            tell(line, &builtin(alloc, which, args.as_slice()));
         }
     }
     Ok(())

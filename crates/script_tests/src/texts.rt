@@ -4,7 +4,7 @@ use do_parse::parse;
 use serde_json::Value as Json;
 use std::alloc::Global;
 use std::test::Fail;
-use test_rows::{named, word};
+use test_rows::{Telling, named, word};
 
 /// The text of a case: the script of that name, the bytes of a record `{"hex": ..}`, or the text as it stands.
 pub(crate) fn text_of(alloc: Global, row: &Json) -> Result<Vec<u8>, Fail> {
@@ -23,28 +23,28 @@ pub(crate) fn text_of(alloc: Global, row: &Json) -> Result<Vec<u8>, Fail> {
 }
 
 // The fault of a text by the grammar and the check, or that it is right.
-fn told(alloc: Global, text: &[u8], checked: bool) -> Result<String, Fail> {
+fn tell_fault(alloc: Global, line: &mut Telling, text: &[u8], checked: bool) {
     let script = match parse(alloc, text) {
         Ok(script) => script,
-        Err(fault) => return Ok(format!(in alloc; "{:?} at {}", fault.kind, fault.place)?),
+        Err(fault) => return line.tell(format!(in alloc; "{:?} at {}", fault.kind, fault.place)),
     };
     if checked {
         if let Err(fault) = check(alloc, script) {
-            return Ok(format!(in alloc; "{:?} at {}", fault.kind, fault.place)?);
+            return line.tell(format!(in alloc; "{:?} at {}", fault.kind, fault.place));
         }
     }
-    Ok(String::from_str(alloc, "right")?)
+    line.say("right");
 }
 
 /// `parse TEXT`
-pub(crate) fn answer_parse(alloc: Global, row: &Json, line: &mut String) -> Result<(), Fail> {
+pub(crate) fn answer_parse(alloc: Global, row: &Json, line: &mut Telling) -> Result<(), Fail> {
     let text = text_of(alloc, row)?;
-    line.push_str(told(alloc, &text, false)?.as_str())?;
+    tell_fault(alloc, line, &text, false);
     Ok(())
 }
 
 /// `check INSIDE`: a class with this inside, which begins at place 39; or a whole script by its name.
-pub(crate) fn answer_check(alloc: Global, row: &Json, line: &mut String) -> Result<(), Fail> {
+pub(crate) fn answer_check(alloc: Global, row: &Json, line: &mut Telling) -> Result<(), Fail> {
     let text = match row.get(1).and_then(Json::as_str) {
         Some(inside) => {
             let text = format!(in alloc; "export class X extends DurableObject {{ {inside} }}")?;
@@ -52,7 +52,7 @@ pub(crate) fn answer_check(alloc: Global, row: &Json, line: &mut String) -> Resu
         }
         None => text_of(alloc, row)?,
     };
-    line.push_str(told(alloc, &text, true)?.as_str())?;
+    tell_fault(alloc, line, &text, true);
     Ok(())
 }
 
@@ -61,7 +61,7 @@ fn printed(alloc: Global, text: &[u8]) -> Result<Vec<u8>, Fail> {
 }
 
 /// `print TEXT`: how it is printed, or that what is printed of a named script is printed so again, and is no longer.
-pub(crate) fn answer_print(alloc: Global, row: &Json, line: &mut String) -> Result<(), Fail> {
+pub(crate) fn answer_print(alloc: Global, row: &Json, line: &mut Telling) -> Result<(), Fail> {
     let text = text_of(alloc, row)?;
     let first = printed(alloc, &text)?;
     let second = printed(alloc, &first)?;
@@ -69,8 +69,8 @@ pub(crate) fn answer_print(alloc: Global, row: &Json, line: &mut String) -> Resu
         return Err("printed otherwise")?;
     }
     match row.get(2) {
-        Some(_) => line.push_str("again")?,
-        None => line.push_str(std::str::from_utf8(&first)?)?,
+        Some(_) => line.say("again"),
+        None => line.say(std::str::from_utf8(&first)?),
     }
     Ok(())
 }

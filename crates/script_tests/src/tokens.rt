@@ -6,6 +6,7 @@ use do_lex::{Keyword, Kind, LONGEST_SCRIPT, LexFault, Mark, Token, Tokens};
 use serde_json::Value as Json;
 use std::alloc::Global;
 use std::test::Fail;
+use test_rows::Telling;
 
 fn word_of(kind: Kind) -> &'static str {
     match kind {
@@ -71,53 +72,50 @@ fn sums_of(text: &[u8]) -> Sums
 }
 
 /// `tokens TEXT`
-pub(crate) fn answer_sums(alloc: Global, row: &Json, line: &mut String) -> Result<(), Fail> {
+pub(crate) fn answer_sums(alloc: Global, row: &Json, line: &mut Telling) -> Result<(), Fail> {
     let text = text_of(alloc, row)?;
     if text.len() > LONGEST_SCRIPT {
         return Err("a long text")?;
     }
     let sums = sums_of(&text);
-    let told = format!(in alloc;
+    line.tell(format!(in alloc;
         "{} {} {} {} {}, from {} to {}",
         sums.words, sums.keywords, sums.numbers, sums.texts, sums.marks, sums.at, sums.end
-    )?;
-    line.push_str(told.as_str())?;
+    ));
     if let Some(fault) = sums.fault {
-        let told = format!(in alloc; ", {fault:?}")?;
-        line.push_str(told.as_str())?;
+        line.tell(format!(in alloc; ", {fault:?}"));
     }
     Ok(())
 }
 
 // Tells what comes next: whether it is a token.
-fn tell_next(alloc: Global, tokens: &mut Tokens, line: &mut String) -> Result<bool, Fail> {
-    let (told, is_token) = match tokens.next() {
+fn tell_next(alloc: Global, tokens: &mut Tokens, line: &mut Telling) -> bool {
+    match tokens.next() {
         Ok(Some(token)) => {
             let (kind, text) = (word_of(token.kind), token.text);
-            let told = format!(in alloc; "{kind} {text} {}-{}; ", token.at, token.end)?;
-            (told, true)
+            line.tell(format!(in alloc; "{kind} {text} {}-{}; ", token.at, token.end));
+            return true;
         }
-        Ok(None) => (String::from_str(alloc, "end ")?, false),
-        Err(fault) => (format!(in alloc; "{fault:?} ")?, false),
-    };
-    line.push_str(told.as_str())?;
-    Ok(is_token)
+        Ok(None) => line.say("end "),
+        Err(fault) => line.tell(format!(in alloc; "{fault:?} ")),
+    }
+    false
 }
 
 /// `each TEXT`: each token with its slice and its span, and three times what comes behind them.
-pub(crate) fn answer_each(alloc: Global, row: &Json, line: &mut String) -> Result<(), Fail> {
+pub(crate) fn answer_each(alloc: Global, row: &Json, line: &mut Telling) -> Result<(), Fail> {
     let text = text_of(alloc, row)?;
     if text.len() > LONGEST_SCRIPT {
         return Err("a long text")?;
     }
     let mut tokens = Tokens::new(&text);
     for _ in 0..=text.len() {
-        if !tell_next(alloc, &mut tokens, line)? {
+        if !tell_next(alloc, &mut tokens, line) {
             break;
         }
     }
-    tell_next(alloc, &mut tokens, line)?;
-    tell_next(alloc, &mut tokens, line)?;
+    tell_next(alloc, &mut tokens, line);
+    tell_next(alloc, &mut tokens, line);
     Ok(())
 }
 
@@ -130,14 +128,12 @@ fn is_itself(keyword: Keyword) -> bool {
 }
 
 /// `keywords`: those that are cut into themselves, and how many marks there are.
-pub(crate) fn answer_keywords(line: &mut String) -> Result<(), Fail> {
+pub(crate) fn answer_keywords(line: &mut Telling) {
     for keyword in Keyword::ALL {
         if is_itself(keyword) {
-            line.push_str(keyword.text())?;
-            line.push_str(" ")?;
+            line.say(keyword.text());
+            line.say(" ");
         }
     }
-    let marks = format!(in *line.allocator(); "and {} marks", Mark::ALL.len())?;
-    line.push_str(marks.as_str())?;
-    Ok(())
+    line.tell(format!(in line.alloc(); "and {} marks", Mark::ALL.len()));
 }

@@ -8,7 +8,7 @@ use serde_json::Value as Json;
 use std::alloc::Global;
 use std::test::Fail;
 use storage_map::{Key, Op, ValueLong};
-use test_rows::{count, word};
+use test_rows::{Telling, count, word};
 use write_batcher::Batcher;
 
 // A put of a text of so many letters, whose encoding has 5 bytes more.
@@ -21,16 +21,15 @@ fn put_letters(alloc: Global, key: &str, letters: u64) -> Result<Result<Op, Valu
 }
 
 // The fault of a key or of the put of a text with so many letters.
-pub(crate) fn answer(alloc: Global, row: &Json, line: &mut String) -> Result<(), Fail> {
-    let told = if word(row, 0) == "key" {
+pub(crate) fn answer(alloc: Global, row: &Json, line: &mut Telling) -> Result<(), Fail> {
+    if word(row, 0) == "key" {
         let letters = text_of(alloc, count(row, 1))?;
         let key = Key::new(alloc, letters.as_str());
-        format!(in alloc; "{:?}", key.err())?
+        line.tell(format!(in alloc; "{:?}", key.err()));
     } else {
         let put = put_letters(alloc, "k", count(row, 1))?;
-        format!(in alloc; "{:?}", put.err())?
-    };
-    line.push_str(told.as_str())?;
+        line.tell(format!(in alloc; "{:?}", put.err()));
+    }
     Ok(())
 }
 
@@ -38,17 +37,15 @@ pub(crate) fn answer_batch(
     alloc: Global,
     batcher: &mut Batcher,
     row: &Json,
-    line: &mut String,
+    line: &mut Telling,
 ) -> Result<(), Fail> {
     if word(row, 1) == "close" {
-        tell_batch(line, batcher.close())?;
+        tell_batch(line, batcher.close());
     } else {
         let put = put_letters(alloc, word(row, 1), count(row, 2))??;
         let added = batcher.add(put);
-        let told = format!(in alloc; "{:?}", added.err())?;
-        line.push_str(told.as_str())?;
+        line.tell(format!(in alloc; "{:?}", added.err()));
     }
-    let told = format!(in alloc; ", {} bytes", batcher.size())?;
-    line.push_str(told.as_str())?;
+    line.tell(format!(in alloc; ", {} bytes", batcher.size()));
     Ok(())
 }

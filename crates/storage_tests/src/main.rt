@@ -11,7 +11,7 @@ use do_value::Value;
 use serde_json::Value as Json;
 use std::alloc::Global;
 use std::test::Fail;
-use test_rows::{row_of, word};
+use test_rows::{Telling, row_of, word};
 use write_batcher::Batcher;
 
 // What answers the cases behind it.
@@ -55,14 +55,15 @@ fn choose(alloc: Global, state: &mut State, name: &str) -> Result<String, Fail> 
 }
 
 fn answer_storage(alloc: Global, state: &mut State, row: &Json) -> Result<String, Fail> {
-    let mut line = String::new(alloc);
-    match word(row, 0) {
-        "value" => values::answer(alloc, &mut state.values, row, &mut line)?,
-        "store" => stores::answer(alloc, &mut state.stores, row, &mut line)?,
-        "batch" => limits::answer_batch(alloc, &mut state.batcher, row, &mut line)?,
-        _ => limits::answer(alloc, row, &mut line)?,
-    }
-    Ok(line)
+    let mut line = Telling::new(alloc);
+    let answered = match word(row, 0) {
+        "value" => values::answer(alloc, &mut state.values, row, &mut line),
+        "store" => stores::answer(alloc, &mut state.stores, row, &mut line),
+        "batch" => limits::answer_batch(alloc, &mut state.batcher, row, &mut line),
+        _ => limits::answer(alloc, row, &mut line),
+    };
+    answered?;
+    line.into_text()
 }
 
 fn answer(alloc: Global, state: &mut State, row: &Json) -> Result<String, Fail> {

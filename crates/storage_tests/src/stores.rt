@@ -11,7 +11,7 @@ use std::test::Fail;
 use storage_cache::Cache;
 use storage_map::{Batch, Identity, Key, Keys, Map, Op, Options, Reading, StoreAsk, laws};
 use storage_txn::{Txn, TxnFault, laws as txn_laws};
-use test_rows::{count, tell_number, word};
+use test_rows::{Telling, count, tell_number, word};
 
 pub(crate) struct Stores {
     map: Map,
@@ -43,7 +43,7 @@ pub(crate) fn answer(
     alloc: Global,
     stores: &mut Stores,
     row: &Json,
-    line: &mut String,
+    line: &mut Telling,
 ) -> Result<(), Fail> {
     match word(row, 1) {
         "keys" => {
@@ -173,37 +173,37 @@ fn seen(alloc: Global, txn: &Txn, ask: &StoreAsk) -> Result<Reading, Fail> {
     Ok(txn.view(ask, below)?)
 }
 
-fn ask(alloc: Global, stores: &Stores, ask: &StoreAsk, line: &mut String) -> Result<(), Fail> {
+fn ask(alloc: Global, stores: &Stores, ask: &StoreAsk, line: &mut Telling) -> Result<(), Fail> {
     let ask = ask.copy()?;
-    line.push_str("map")?;
-    tell_reading(line, &stores.map.reading(&ask)?)?;
-    line.push_str("; cache")?;
-    tell_reading(line, &stores.cache.answer(&ask)?)?;
-    line.push_str("; overlay")?;
-    tell_reading(line, &seen(alloc, &stores.txn, &ask)?)
+    line.say("map");
+    tell_reading(line, &stores.map.reading(&ask)?);
+    line.say("; cache");
+    tell_reading(line, &stores.cache.answer(&ask)?);
+    line.say("; overlay");
+    tell_reading(line, &seen(alloc, &stores.txn, &ask)?);
+    Ok(())
 }
 
-fn list(alloc: Global, stores: &Stores, row: &Json, line: &mut String) -> Result<(), Fail> {
+fn list(alloc: Global, stores: &Stores, row: &Json, line: &mut Telling) -> Result<(), Fail> {
     let Some(named) = row.get(2) else {
         return Err("no options")?;
     };
     let options = options_of(alloc, named)?;
-    line.push_str("range")?;
-    tell_range(&stores.cache, &options, line)?;
-    line.push_str("; ")?;
+    line.say("range");
+    tell_range(&stores.cache, &options, line);
+    line.say("; ");
     ask(alloc, stores, &StoreAsk::List(options), line)
 }
 
 // The pairs that the cache lends.
-fn tell_range(cache: &Cache, options: &Options, line: &mut String) -> Result<(), Fail> {
+fn tell_range(cache: &Cache, options: &Options, line: &mut Telling) {
     let mut range = cache.range(options);
     for _ in 0..100 {
         let Some((key, value)) = range.next() else {
             break;
         };
-        tell_pair(line, key, value)?;
+        tell_pair(line, key, value);
     }
-    Ok(())
 }
 
 // The map has an alarm, and then loses all its keys.
@@ -214,25 +214,24 @@ fn wipe(alloc: Global, map: &mut Map) -> Result<(), Fail> {
 }
 
 // The cache takes a delete, of which so many operations count.
-fn delete(alloc: Global, cache: &mut Cache, row: &Json, line: &mut String) -> Result<(), Fail> {
+fn delete(alloc: Global, cache: &mut Cache, row: &Json, line: &mut Telling) -> Result<(), Fail> {
     let key = Key::new(alloc, word(row, 2))?;
     let tail = if count(row, 3) == 0 { 0 } else { 1 };
     let counted = cache.take(&one(alloc, Op::Delete { key })?, tail)?;
-    let told = format!(in alloc; "{counted} of the last {tail}")?;
-    line.push_str(told.as_str())?;
+    line.tell(format!(in alloc; "{counted} of the last {tail}"));
     Ok(())
 }
 
-fn tell_copies(alloc: Global, map: &Map, line: &mut String) -> Result<(), Fail> {
-    line.push_str(if copies_object(alloc)? {
+fn tell_copies(alloc: Global, map: &Map, line: &mut Telling) -> Result<(), Fail> {
+    line.say(if copies_object(alloc)? {
         "true, "
     } else {
         "false, "
-    })?;
-    let told = format!(in alloc; "{} operation,", copied_ops(alloc)?)?;
-    line.push_str(told.as_str())?;
+    });
+    line.tell(format!(in alloc; "{} operation,", copied_ops(alloc)?));
     let reading = map.reading(&StoreAsk::Alarm)?;
-    tell_reading(line, &reading.copy()?)
+    tell_reading(line, &reading.copy()?);
+    Ok(())
 }
 
 fn copies_object(alloc: Global) -> Result<bool, Fail> {
@@ -250,13 +249,14 @@ fn copied_ops(alloc: Global) -> Result<usize, Fail> {
 }
 
 // A write of the transaction, under the key a.
-fn write(alloc: Global, txn: &mut Txn, row: &Json, line: &mut String) -> Result<(), Fail> {
+fn write(alloc: Global, txn: &mut Txn, row: &Json, line: &mut Telling) -> Result<(), Fail> {
     match word(row, 1) {
         "erase" => tell_done(line, erase(alloc, txn)?),
         "write" => tell_done(line, put_letters(alloc, txn, count(row, 2))?),
         "rollback" => tell_done(line, txn.rollback()),
         _ => commit(alloc, txn, line),
     }
+    Ok(())
 }
 
 fn erase(alloc: Global, txn: &mut Txn) -> Result<Result<(), TxnFault>, Fail> {
@@ -270,15 +270,11 @@ fn put_letters(alloc: Global, txn: &mut Txn, letters: u64) -> Result<Result<(), 
     Ok(txn.put(key, Value::Text(text)))
 }
 
-fn tell_done(line: &mut String, done: Result<(), TxnFault>) -> Result<(), Fail> {
+fn tell_done(line: &mut Telling, done: Result<(), TxnFault>) {
     match done {
-        Ok(()) => line.push_str("done")?,
-        Err(fault) => {
-            let told = format!(in *line.allocator(); "{fault:?}")?;
-            line.push_str(told.as_str())?;
-        }
+        Ok(()) => line.say("done"),
+        Err(fault) => line.tell(format!(in line.alloc(); "{fault:?}")),
     }
-    Ok(())
 }
 
 /// A text of so many letters.
@@ -290,21 +286,18 @@ pub(crate) fn text_of(alloc: Global, letters: u64) -> Result<Text, Fail> {
     Ok(Text::new(alloc, text.as_str())?)
 }
 
-fn commit(alloc: Global, txn: &mut Txn, line: &mut String) -> Result<(), Fail> {
+fn commit(alloc: Global, txn: &mut Txn, line: &mut Telling) {
     let txn = mem::replace(txn, Txn::new(alloc));
-    let told = format!(in alloc; "{} bytes, ", txn.size())?;
-    line.push_str(told.as_str())?;
+    line.tell(format!(in alloc; "{} bytes, ", txn.size()));
     tell_batch(line, txn.commit())
 }
 
 /// How many operations the batch has.
-pub(crate) fn tell_batch(line: &mut String, batch: Option<Batch>) -> Result<(), Fail> {
+pub(crate) fn tell_batch(line: &mut Telling, batch: Option<Batch>) {
     match batch {
         Some(batch) => {
-            let told = format!(in *line.allocator(); "{} operations", batch.as_slice().len())?;
-            line.push_str(told.as_str())?;
+            line.tell(format!(in line.alloc(); "{} operations", batch.as_slice().len()))
         }
-        None => line.push_str("no batch")?,
+        None => line.say("no batch"),
     }
-    Ok(())
 }

@@ -1,38 +1,35 @@
 //! Answers of stores as the cases tell them.
 use do_value::Value;
-use std::test::Fail;
 use storage_map::{Pairs, Reading};
-use test_rows::{tell_number, tell_value};
+use test_rows::{Telling, tell_number, tell_value};
 
-pub(crate) fn tell_reading(line: &mut String, reading: &Reading) -> Result<(), Fail> {
+pub(crate) fn tell_reading(line: &mut Telling, reading: &Reading) {
     match reading {
         Reading::One(value) => {
-            line.push_str(" ")?;
-            tell_value(line, value)?;
+            line.say(" ");
+            tell_value(line, value);
         }
-        Reading::Pairs(pairs) => tell_pairs(line, pairs)?,
-        Reading::Alarm(None) => line.push_str(" no alarm")?,
+        Reading::Pairs(pairs) => tell_pairs(line, pairs),
+        Reading::Alarm(None) => line.say(" no alarm"),
         Reading::Alarm(Some(alarm)) => {
-            line.push_str(" alarm ")?;
-            tell_number(line, alarm.time())?;
-            line.push_str(", retry ")?;
-            tell_number(line, i64::from(alarm.retry()))?;
+            line.say(" alarm ");
+            tell_number(line, alarm.time());
+            line.say(", retry ");
+            tell_number(line, i64::from(alarm.retry()));
         }
-        Reading::Count(_) => line.push_str(" a count")?,
+        Reading::Count(_) => line.say(" a count"),
     }
-    Ok(())
 }
 
-pub(crate) fn tell_pairs(line: &mut String, pairs: &Pairs) -> Result<(), Fail> {
+pub(crate) fn tell_pairs(line: &mut Telling, pairs: &Pairs) {
     for (key, value) in pairs.as_slice() {
-        tell_pair(line, key.as_str(), value)?;
+        tell_pair(line, key.as_str(), value);
     }
-    Ok(())
 }
 
-pub(crate) fn tell_pair(line: &mut String, key: &str, value: &Value) -> Result<(), Fail> {
-    line.push_str(" ")?;
-    line.push_str(key)?;
-    line.push_str("=")?;
+pub(crate) fn tell_pair(line: &mut Telling, key: &str, value: &Value) {
+    line.say(" ");
+    line.say(key);
+    line.say("=");
     tell_value(line, value)
 }

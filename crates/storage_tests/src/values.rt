@@ -3,13 +3,13 @@ use do_value::{Args, BuildFault, Fields, Items, Text, Value};
 use serde_json::Value as Json;
 use std::alloc::Global;
 use std::test::Fail;
-use test_rows::{count, tell_value, value, word};
+use test_rows::{Telling, count, tell_value, value, word};
 
 pub(crate) fn answer(
     alloc: Global,
     values: &mut Vec<Value>,
     row: &Json,
-    line: &mut String,
+    line: &mut Telling,
 ) -> Result<(), Fail> {
     match word(row, 1) {
         "new" => values.push(value(alloc, row, 2)?)?,
@@ -21,11 +21,12 @@ pub(crate) fn answer(
             let _ = values.pop();
         }
         "bytes" => tell_bytes(alloc, values.as_slice(), line)?,
-        "same" => tell_same(values.as_slice(), line)?,
+        "same" => tell_same(values.as_slice(), line),
         "text" => tell_text_copy(alloc, word(row, 2), line)?,
         _ => change(alloc, values, row, line)?,
     }
-    tell_top(values.as_slice(), line)
+    tell_top(values.as_slice(), line);
+    Ok(())
 }
 
 fn copy_top(values: &mut Vec<Value>) -> Result<(), Fail> {
@@ -66,12 +67,12 @@ fn close(values: &mut Vec<Value>, row: &Json) -> Result<(), Fail> {
 }
 
 // The list of the topmost alone comes in its place.
-fn wrap(alloc: Global, values: &mut Vec<Value>, line: &mut String) -> Result<(), Fail> {
+fn wrap(alloc: Global, values: &mut Vec<Value>, line: &mut Telling) -> Result<(), Fail> {
     let mut items = Vec::new(alloc);
     items.push(values.pop().unwrap_or(Value::Undefined))?;
     match Value::list(items) {
         Ok(list) => values.push(list)?,
-        Err(fault) => tell_built(line, Err(fault))?,
+        Err(fault) => tell_built(line, Err(fault)),
     }
     Ok(())
 }
@@ -80,7 +81,7 @@ fn change(
     alloc: Global,
     values: &mut Vec<Value>,
     row: &Json,
-    line: &mut String,
+    line: &mut Telling,
 ) -> Result<(), Fail> {
     let top = match values.pop().unwrap_or(Value::Undefined) {
         Value::List(mut items) => {
@@ -101,7 +102,7 @@ fn change_items(
     alloc: Global,
     items: &mut Items,
     row: &Json,
-    line: &mut String,
+    line: &mut Telling,
 ) -> Result<(), Fail> {
     match word(row, 1) {
         "push" => tell_built(line, items.push(value(alloc, row, 2)?)),
@@ -111,6 +112,7 @@ fn change_items(
         }
         _ => tell_taken(line, items.take(count(row, 2) as usize)?),
     }
+    Ok(())
 }
 
 // Nothing is put where no item is there.
@@ -126,7 +128,7 @@ fn change_fields(
     alloc: Global,
     fields: &mut Fields,
     row: &Json,
-    line: &mut String,
+    line: &mut Telling,
 ) -> Result<(), Fail> {
     match word(row, 1) {
         "put" => {
@@ -139,68 +141,61 @@ fn change_fields(
         }
         _ => tell_taken(line, fields.take(word(row, 2))?),
     }
-}
-
-fn tell_flag(line: &mut String, flag: bool) -> Result<(), Fail> {
-    line.push_str(if flag { "yes: " } else { "no: " })?;
     Ok(())
 }
 
-fn tell_built(line: &mut String, built: Result<(), BuildFault>) -> Result<(), Fail> {
+fn tell_flag(line: &mut Telling, flag: bool) {
+    line.say(if flag { "yes: " } else { "no: " });
+}
+
+fn tell_built(line: &mut Telling, built: Result<(), BuildFault>) {
     if let Err(fault) = built {
-        let told = format!(in *line.allocator(); "{fault:?}: ")?;
-        line.push_str(told.as_str())?;
+        line.tell(format!(in line.alloc(); "{fault:?}: "));
     }
-    Ok(())
 }
 
-fn tell_taken(line: &mut String, taken: Option<Value>) -> Result<(), Fail> {
+fn tell_taken(line: &mut Telling, taken: Option<Value>) {
     match &taken {
-        Some(value) => tell_value(line, value)?,
-        None => line.push_str("nothing")?,
+        Some(value) => tell_value(line, value),
+        None => line.say("nothing"),
     }
-    line.push_str(" taken: ")?;
-    Ok(())
+    line.say(" taken: ");
 }
 
-fn tell_top(values: &[Value], line: &mut String) -> Result<(), Fail> {
+fn tell_top(values: &[Value], line: &mut Telling) {
     if let Some(top) = values.last() {
-        tell_value(line, top)?;
+        tell_value(line, top);
         let (size, depth) = (top.size(), top.depth());
-        let told = format!(in *line.allocator(); ", {size} bytes, {depth} levels")?;
-        line.push_str(told.as_str())?;
+        line.tell(format!(in line.alloc(); ", {size} bytes, {depth} levels"));
     }
-    Ok(())
 }
 
-fn tell_bytes(alloc: Global, values: &[Value], line: &mut String) -> Result<(), Fail> {
+fn tell_bytes(alloc: Global, values: &[Value], line: &mut Telling) -> Result<(), Fail> {
     let mut bytes = Vec::new(alloc);
     if let Some(top) = values.last() {
         top.encode(&mut bytes)?;
     }
-    let told = format!(in alloc; "{:?}: ", bytes.as_slice())?;
-    line.push_str(told.as_str())?;
+    line.tell(format!(in alloc; "{:?}: ", bytes.as_slice()));
     Ok(())
 }
 
 // Whether the two topmost are equal.
-fn tell_same(values: &[Value], line: &mut String) -> Result<(), Fail> {
+fn tell_same(values: &[Value], line: &mut Telling) {
     match values {
         [.., below, top] => tell_flag(line, top.equal(below)),
-        _ => Ok(()),
+        _ => {}
     }
 }
 
 // A text against its copy, and how many arguments a copy of it alone has.
-fn tell_text_copy(alloc: Global, text: &str, line: &mut String) -> Result<(), Fail> {
+fn tell_text_copy(alloc: Global, text: &str, line: &mut Telling) -> Result<(), Fail> {
     let text = Text::new(alloc, text)?;
     let copy = text.copy()?;
-    tell_flag(line, copy.equal(&text))?;
+    tell_flag(line, copy.equal(&text));
     let order = copy.order(&text);
     let mut values = Vec::new(alloc);
     values.push(Value::Text(text))?;
     let args = Args::new(values).copy()?;
-    let told = format!(in alloc; "{order:?}, {}: ", args.values().len())?;
-    line.push_str(told.as_str())?;
+    line.tell(format!(in alloc; "{order:?}, {}: ", args.values().len()));
     Ok(())
 }

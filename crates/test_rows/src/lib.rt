@@ -5,6 +5,7 @@
 mod row;
 mod scripts;
 mod tell;
+mod telling;
 
 pub use row::{count, flag, number, row_of, value, word};
 pub use scripts::{
@@ -12,3 +13,4 @@ pub use scripts::{
     SOFT_READS, STORING, TIMER, TWO_CLASSES, named,
 };
 pub use tell::{tell_number, tell_record, tell_text, tell_value};
+pub use telling::Telling;

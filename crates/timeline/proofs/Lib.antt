@@ -16,3 +16,4 @@ pub mod FewMethods
 pub mod Asking
 pub mod Refused
 pub mod Bounds
+mod Refuting

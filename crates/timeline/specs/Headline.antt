@@ -1,18 +1,21 @@
 -- What an object's logs show: what each incarnation said is what its script tells, and what left is what passes. Source: the
 -- articles on input and output gates.
-use Rattle.std.specs.Prelude.{◌≡◌, ◌⊎◌, ℕ, ◌==◌, false, List, [], ◌∷◌, ◌++◌, length, map, drop, Some, None, Err}
+use Rattle.std.specs.Prelude.{◌≡◌, ◌⊎◌, ℕ, suc, ◌≤◌, ◌==◌, true, false, List, [], ◌∷◌, ◌++◌, length, map, drop, Some, None, Err}
 use Rattle.std.specs.List.{All, Contains, flat_map, filter}
 use Rattle.do_tree.specs.Tree.{Script}
 use Rattle.storage_map.specs.Contents.{Contents}
 use Rattle.timeline.specs.Eligible.{is_eligible}
-use Rattle.timeline.specs.History.{Incarnation, History, history, of_number, batches_in, durable, resets, start_after, IsKept}
+use Rattle.timeline.specs.History.{Incarnation, History, history, of_number, batches_in, durable, is_halting, resets, said_in, start_after, IsKept}
 use Rattle.timeline.specs.Logs.{Fronted, Backed}
-use Rattle.timeline.specs.Object.{Life, State, idle, begun}
-use Rattle.timeline.specs.Passed.{Passed, passed}
+use Rattle.timeline.specs.Object.{Life, State, idle, ended, begun}
+use Rattle.timeline.specs.Passed.{Passed, is_mounted, is_said_down, passed}
 use Rattle.timeline.specs.Told.{Said, message, spoken, spoken_in, told, by_map, told_from}
 use Rattle.timeline.specs.declared.back_log.Missed.{Missed}
 use Rattle.timeline.specs.declared.back_log.Release.{Release}
+use Rattle.timeline.specs.declared.back_log.Stop.{Stop}
+use Rattle.timeline.specs.declared.caller.Cause.{Cause}
 use Rattle.timeline.specs.declared.caller.Failure.TheVariants as failure
+use Rattle.timeline.specs.declared.entry.Body.TheVariants as body
 use Rattle.timeline.specs.declared.event.Event.{Event}
 use Rattle.timeline.specs.declared.event.Event.TheVariants as event
 use Rattle.timeline.specs.declared.message.Message.{Message}
@@ -58,6 +61,27 @@ AreSaid script class opened front back [] = Unit {0}
 AreSaid script class opened front back (i ∷ older) =
     IsSoFar (parts_of script class opened front back i older) (spoken i.sent) × AreSaid script class opened front back older
 
+-- Where the newest incarnation stands at the end of its events.
+abbrev pub state_of : Script → ℕ → Contents → Incarnation → History → State
+state_of script class opened i older =
+    let start = start_after opened older in (told_from by_map (life_of script class i) start (idle (begun start.alarm)) i.delivered).state
+
+-- An end that a turn made is invented by nobody: over the events of its incarnation the script's object has ended by this cause, and the
+-- halt of that turn was taken.
+abbrev pub IsHalted : Script → ℕ → Contents → Incarnation → History → Cause → Type 0
+IsHalted script class opened i older cause = (state_of script class opened i older ≡ ended cause) × Contains (said_in i.taken) (body.Halt cause)
+
+abbrev pub AreHalted : Script → ℕ → Contents → History → Type 0
+AreHalted script class opened [] = Unit {0}
+AreHalted script class opened (i ∷ older) =
+    ((stop : Stop) → i.stop ≡ Some stop → is_halting stop.cause ≡ true → IsHalted script class opened i older stop.cause)
+    × AreHalted script class opened older
+
+-- While the newest incarnation isn't mounted nothing is delivered to it, and it says messages and wishes to be mounted alone.
+abbrev pub RestsUnmounted : History → Type 0
+RestsUnmounted [] = Unit {0}
+RestsUnmounted (i ∷ older) = is_mounted older ≡ false → (i.delivered ≡ []) × All (λ b. is_said_down b ≡ true) (said_in i.sent)
+
 -- Each end kept what an end of its cause keeps.
 abbrev pub KeepBy : History → Type 0
 KeepBy [] = Unit {0}
@@ -70,25 +94,25 @@ release_of release = (release.message, release.needs)
 abbrev pub pass_of : Passed → Message × ℕ
 pass_of p = (p.message, p.needs)
 
--- What the logs of one slot show whenever they are looked at.
+-- What the logs of one slot show whenever they are looked at. Each incarnation that ended was followed by one that was mounted, with the
+-- batches that were kept, but for the last one.
 pub record IsHistory (script : Script) (class : ℕ) (opened : Contents) (front : Fronted) (back : Backed) : Type 0 where
   pub said : AreSaid script class opened front back (history front back)
   pub taken : IsPrefix back.taken front.sent
   pub kept : KeepBy (history front back)
+  pub halted : AreHalted script class opened (history front back)
+  pub mounted : length back.stops ≤ suc (length back.ends)
+  pub unmounted : RestsUnmounted (history front back)
   pub ends : IsPrefix front.ends (map (λ stop. stop.cause) back.stops)
   pub followed : IsPrefix (map (λ end. end.cause) back.ends) (map (λ stop. stop.cause) back.stops)
   pub released : IsPrefix (map release_of back.released) (map pass_of (passed (history front back)))
 
--- At the end: nothing is under way in a slot. Each post was delivered, answered by `Down`, dropped, or isn't eligible.
+-- At the end: nothing is under way in a slot. Its front knows of each end. Each post was delivered, answered by `Down`, dropped, or isn't
+-- eligible.
 abbrev pub AreSaidWhole : Script → ℕ → Contents → Fronted → Backed → History → Type 0
 AreSaidWhole script class opened front back [] = Unit {0}
 AreSaidWhole script class opened front back (i ∷ older) =
     spoken i.sent ≡ flat_map (λ part. part) (parts_of script class opened front back i older)
-
--- Where the newest incarnation stands at the end of its events.
-abbrev pub state_of : Script → ℕ → Contents → Incarnation → History → State
-state_of script class opened i older =
-    let start = start_after opened older in (told_from by_map (life_of script class i) start (idle (begun start.alarm)) i.delivered).state
 
 abbrev pub IsDeferred : State → Event → Type 0
 IsDeferred (idle o) e = is_eligible o e ≡ false
@@ -104,6 +128,7 @@ AreDurable (i ∷ older) = (i.stop ≡ None) → durable i ≡ length (batches_i
 
 pub record IsQuiet (script : Script) (class : ℕ) (opened : Contents) (front : Fronted) (back : Backed)
     (posted : List Event) (sent_on : List Message) : Type 0 where
+  pub ends : front.ends ≡ map (λ stop. stop.cause) back.stops
   pub taken : back.taken ≡ front.sent
   pub said : AreSaidWhole script class opened front back (history front back)
   pub durable : AreDurable (history front back)

@@ -6,10 +6,10 @@ use Rattle.do_value.specs.declared.value.Value.{Value}
 use Rattle.do_value.specs.declared.value.Value.TheVariants as value
 use Rattle.do_tree.specs.Tree.{Method, Script}
 use Rattle.script_mean.specs.Builders.{script_of}
-use Rattle.script_mean.specs.Examples.{puts, own_write}
+use Rattle.script_mean.specs.Examples.{puts, own_write, two}
 use Rattle.storage_map.specs.declared.ask.StoreAsk.TheVariants.{Get}
 use Rattle.timeline.specs.Eligible.{is_eligible}
-use Rattle.timeline.specs.Examples.{request, calls, number, lives, runs_to}
+use Rattle.timeline.specs.Examples.{request, calls, goes, number, lives, runs_to}
 use Rattle.timeline.specs.History.{History, history}
 use Rattle.timeline.specs.Intake.{Taken, opened, sent_by}
 use Rattle.timeline.specs.Left.{left}
@@ -72,11 +72,35 @@ acknowledged = let entries = entry 1 1 (body.Batch (puts "x" 1 ∷ puts "y" 2 �
     history (fronts ((1, calls 1 0 []) ∷ []) entries []) (backs entries (1 ∷ []) [] [] [])
 
 -- The flight of `two` fails, the object can't be mounted again, and a second call finds it down.
+abbrev pub downed_entries : List Entry
+downed_entries = entry 1 1 (body.Batch (puts "x" 1 ∷ puts "y" 2 ∷ []) None) ∷ entry 1 2 (sends 1 (Ok (number 3)))
+    ∷ entry 2 1 body.Mend ∷ entry 2 2 (sends 2 (Err (failure.Down 2 3))) ∷ []
+
+abbrev pub downed_front : Fronted
+downed_front = record (fronts ((1, calls 1 0 []) ∷ []) downed_entries (failed_disk ∷ [])) { downed = (2, calls 2 0 []) ∷ [] }
+
+abbrev pub downed_back : Backed
+downed_back = backs downed_entries [] (stops failed_disk 0 1 ∷ []) [] (misses 1 2 ∷ misses 2 3 ∷ [])
+
 abbrev pub downed : History
-downed = let entries = entry 1 1 (body.Batch (puts "x" 1 ∷ puts "y" 2 ∷ []) None) ∷ entry 1 2 (sends 1 (Ok (number 3)))
-    ∷ entry 2 1 body.Mend ∷ entry 2 2 (sends 2 (Err (failure.Down 2 3))) ∷ [] in
-    history (fronts ((1, calls 1 0 []) ∷ []) entries (failed_disk ∷ []))
-    (backs entries [] (stops failed_disk 0 1 ∷ []) [] (misses 1 2 ∷ misses 2 3 ∷ []))
+downed = history downed_front downed_back
+
+abbrev pub the_two : Script
+the_two = script_of (two ∷ [])
+
+-- `go` writes in a block and throws out of it: the incarnation ends, its call is reset, and the write is kept.
+abbrev pub the_goes : Script
+the_goes = script_of (goes ∷ [])
+
+abbrev pub thrown_entries : List Entry
+thrown_entries = entry 1 1 (body.Batch (puts "k" 1 ∷ []) None) ∷ entry 1 2 (body.Halt cause.BlockThrew)
+    ∷ entry 2 1 (sends 1 (Err (failure.Reset cause.BlockThrew))) ∷ []
+
+abbrev pub thrown_front : Fronted
+thrown_front = fronts ((1, calls 1 0 []) ∷ []) thrown_entries (cause.BlockThrew ∷ [])
+
+abbrev pub thrown_back : Backed
+thrown_back = backs thrown_entries (1 ∷ []) (stops cause.BlockThrew 1 1 ∷ []) (keeps 1 cause.BlockThrew ∷ []) []
 
 -- `add` twice. The first flight fails, and so many of its batches are found.
 abbrev pub added_again : ℕ → ℕ → History

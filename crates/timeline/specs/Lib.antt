@@ -14,5 +14,6 @@ pub mod Switch
 pub mod Left
 pub mod Headline
 pub mod Histories
+pub mod Refuted
 pub mod Laws
 pub mod Finish

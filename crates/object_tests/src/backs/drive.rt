@@ -11,7 +11,7 @@ use output_gate::Back;
 use serde_json::Value as Json;
 use std::alloc::Global;
 use std::test::Fail;
-use test_rows::{count, word};
+use test_rows::{Telling, count, word};
 use timeline::{Entry, Message, Notice, Stepped};
 
 /// The lanes of a back.
@@ -42,18 +42,16 @@ impl Lanes {
     }
 
     // What a step has told the front.
-    fn tell_noticed(&mut self, alloc: Global, line: &mut String) -> Result<(), Fail> {
-        match self.notices.take() {
-            Some(notice) => tell_notice(alloc, line, &notice),
-            None => Ok(()),
+    fn tell_noticed(&mut self, alloc: Global, line: &mut Telling) {
+        if let Some(notice) = self.notices.take() {
+            tell_notice(alloc, line, &notice);
         }
     }
 
     // What a step has let leave.
-    fn tell_sent(&mut self, alloc: Global, line: &mut String) -> Result<(), Fail> {
-        match self.out.take() {
-            Some(message) => tell_message(alloc, line, &message),
-            None => Ok(()),
+    fn tell_sent(&mut self, alloc: Global, line: &mut Telling) {
+        if let Some(message) = self.out.take() {
+            tell_message(alloc, line, &message);
         }
     }
 }
@@ -105,17 +103,17 @@ fn tell_done(
     lanes: &mut Lanes,
     name: &str,
     stepped: Mem<Stepped>,
-    line: &mut String,
+    line: &mut Telling,
 ) -> Result<(), Fail> {
     let Ok(stepped) = stepped else {
         return Err("no memory")?;
     };
-    line.push_str(name)?;
-    line.push_str(" ")?;
-    tell_step(line, stepped)?;
-    lanes.tell_noticed(alloc, line)?;
-    lanes.tell_sent(alloc, line)?;
-    line.push_str("; ")?;
+    line.say(name);
+    line.say(" ");
+    tell_step(line, stepped);
+    lanes.tell_noticed(alloc, line);
+    lanes.tell_sent(alloc, line);
+    line.say("; ");
     Ok(())
 }
 
@@ -125,7 +123,7 @@ fn go<D: Disk>(
     back: &mut Back<D>,
     lanes: &mut Lanes,
     case_step: &Json,
-    line: &mut String,
+    line: &mut Telling,
 ) -> Result<(), Fail>
     requires { CanServe D.moment_of D.left_since D.told D.image D.faults_of back.old }
     ensures { CanServe D.moment_of D.left_since D.told D.image D.faults_of back.new }
@@ -146,7 +144,7 @@ fn go_at<D: Disk>(
     lanes: &mut Lanes,
     row: &Json,
     at: usize,
-    line: &mut String,
+    line: &mut Telling,
 ) -> Result<(), Fail>
     requires { CanServe D.moment_of D.left_since D.told D.image D.faults_of back.old }
     ensures { CanServe D.moment_of D.left_since D.told D.image D.faults_of back.new }
@@ -163,7 +161,7 @@ fn go_through<D: Disk>(
     back: &mut Back<D>,
     lanes: &mut Lanes,
     row: &Json,
-    line: &mut String,
+    line: &mut Telling,
 ) -> Result<(), Fail>
     requires { CanServe D.moment_of D.left_since D.told D.image D.faults_of back.old }
     ensures { CanServe D.moment_of D.left_since D.told D.image D.faults_of back.new }
@@ -179,7 +177,7 @@ fn go_alone<D: Disk>(
     alloc: Global,
     back: &mut Back<D>,
     row: &Json,
-    line: &mut String,
+    line: &mut Telling,
 ) -> Result<(), Fail>
     requires { CanServe D.moment_of D.left_since D.told D.image D.faults_of back.old }
     ensures { CanServe D.moment_of D.left_since D.told D.image D.faults_of back.new }
@@ -197,17 +195,23 @@ fn go_and_tell<D: Disk>(
     alloc: Global,
     back: &mut Back<D>,
     row: &Json,
-    line: &mut String,
+    line: &mut Telling,
 ) -> Result<(), Fail>
     requires { CanServe D.moment_of D.left_since D.told D.image D.faults_of back.old }
     ensures { CanServe D.moment_of D.left_since D.told D.image D.faults_of back.new }
 {
     go_alone(alloc, back, row, line)?;
-    tell_log(alloc, line, back.log())
+    tell_log(alloc, line, back.log());
+    Ok(())
 }
 
 // Mounts this disk, drives a back over it through the steps of the case, tells the log, and gives the disk.
-fn drive<D: Disk + Drop>(alloc: Global, disk: D, row: &Json, line: &mut String) -> Result<D, Fail> {
+fn drive<D: Disk + Drop>(
+    alloc: Global,
+    disk: D,
+    row: &Json,
+    line: &mut Telling,
+) -> Result<D, Fail> {
     let Ok(mounted) = Journal::mount(alloc, disk, 4096) else {
         return Err("not mounted")?;
     };
@@ -239,21 +243,22 @@ fn fails_of(alloc: Global, row: &Json) -> Result<Fails, Fail> {
 }
 
 // What a crash leaves, as a mounting finds it.
-fn tell_left(alloc: Global, disk: MemDisk, row: &Json, line: &mut String) -> Result<(), Fail> {
+fn tell_left(alloc: Global, disk: MemDisk, row: &Json, line: &mut Telling) -> Result<(), Fail> {
     let left = disk.crash(pick_of(row))?;
     match Journal::mount(alloc, left, 4096) {
         Ok(mounted) => tell_map(line, &mounted.map),
         Err(_) => Err("not mounted")?,
     }
+    Ok(())
 }
 
 /// `[FAILS, PICK, STEP..]` behind a word: a back over an empty disk whose calls fail so, what each step does, the log, and what a
 /// crash then leaves.
 pub(crate) fn answer(alloc: Global, row: &Json) -> Result<String, Fail> {
-    let mut line = String::new(alloc);
+    let mut line = Telling::new(alloc);
     let disk = MemDisk::new(Vec::new(alloc), fails_of(alloc, row)?);
     let disk = drive(alloc, disk, row, &mut line)?;
-    line.push_str("; left")?;
+    line.say("; left");
     tell_left(alloc, disk, row, &mut line)?;
-    Ok(line)
+    line.into_text()
 }

@@ -3,7 +3,7 @@ ghost use Rattle.std.specs.Prelude.{IfSome};
 ghost use Rattle.do_tree.specs.Checked.{tree_of};
 ghost use Rattle.front_turns.specs.Paused.{HasClass};
 ghost use Rattle.object_front.specs.Evaluated.{seen};
-ghost use Rattle.object_front.specs.Turning.{CanTurn};
+ghost use Rattle.front_half.specs.Turning.{CanTurn};
 
 use crate::fronts::given::{answer as answered, event, notice, script};
 use crate::fronts::tell::{tell_entry, tell_left};
@@ -14,7 +14,7 @@ use object_front::{Front, Turned};
 use serde_json::Value as Json;
 use std::alloc::Global;
 use std::test::Fail;
-use test_rows::{count, word};
+use test_rows::{Telling, count, word};
 use timeline::{Entry, Event, Notice};
 
 /// The lanes of a front.
@@ -62,14 +62,13 @@ impl Lanes {
     }
 
     // What the front has sent since it was told last.
-    fn tell_sent(&mut self, line: &mut String) -> Result<(), Fail> {
+    fn tell_sent(&mut self, line: &mut Telling) {
         for _ in 0..u64::MAX {
             let Some(entry) = self.line.take() else {
                 break;
             };
-            tell_entry(line, &entry)?;
+            tell_entry(line, &entry);
         }
-        Ok(())
     }
 }
 
@@ -92,8 +91,8 @@ fn tell_turn(
     checked: &Checked,
     front: &mut Front,
     lanes: &mut Lanes,
-    line: &mut String,
-) -> Result<(), Fail>
+    line: &mut Telling,
+)
     requires { CanTurn seen (tree_of checked.now) front.old.half }
     ensures { CanTurn seen (tree_of checked.now) front.new.half }
 {
@@ -102,10 +101,9 @@ fn tell_turn(
         Ok(Turned::Ran) => "ran",
         Err(_) => "no memory",
     };
-    line.push_str(word)?;
-    lanes.tell_sent(line)?;
-    line.push_str("; ")?;
-    Ok(())
+    line.say(word);
+    lanes.tell_sent(line);
+    line.say("; ");
 }
 
 // The fetches of the first incarnation from the first to this one are answered, each by a turn of its own, of which nothing is told.
@@ -134,14 +132,17 @@ fn go(
     front: &mut Front,
     lanes: &mut Lanes,
     step: &Json,
-    line: &mut String,
+    line: &mut Telling,
 ) -> Result<(), Fail>
     requires { CanTurn seen (tree_of checked.now) front.old.half }
     ensures { CanTurn seen (tree_of checked.now) front.new.half }
 {
     match (step.as_str(), word(step, 0)) {
         (Some("left"), _) => tell_left(alloc, checked, front, line),
-        (Some(_), _) => tell_turn(alloc, checked, front, lanes, line),
+        (Some(_), _) => {
+            tell_turn(alloc, checked, front, lanes, line);
+            Ok(())
+        }
         (None, "often") => answer_often(alloc, checked, front, lanes, count(step, 1)),
         (None, _) => lanes.give(alloc, checked, step),
     }
@@ -155,7 +156,7 @@ fn go_at(
     lanes: &mut Lanes,
     row: &Json,
     at: usize,
-    line: &mut String,
+    line: &mut Telling,
 ) -> Result<(), Fail>
     requires { CanTurn seen (tree_of checked.now) front.old.half }
     ensures { CanTurn seen (tree_of checked.now) front.new.half }
@@ -173,7 +174,7 @@ fn go_through(
     front: &mut Front,
     lanes: &mut Lanes,
     row: &Json,
-    line: &mut String,
+    line: &mut Telling,
 ) -> Result<(), Fail>
     requires { CanTurn seen (tree_of checked.now) front.old.half }
 {
@@ -197,7 +198,7 @@ fn open(alloc: Global, checked: &Checked, row: &Json) -> Front
 }
 
 // The same, with a new front of the case's class, and lanes of its own.
-fn go_alone(alloc: Global, checked: &Checked, row: &Json, line: &mut String) -> Result<(), Fail> {
+fn go_alone(alloc: Global, checked: &Checked, row: &Json, line: &mut Telling) -> Result<(), Fail> {
     let mut front = open(alloc, checked, row);
     let mut lanes = Lanes {
         inbox: Plain::new(alloc),
@@ -210,8 +211,8 @@ fn go_alone(alloc: Global, checked: &Checked, row: &Json, line: &mut String) -> 
 /// `[SCRIPT, CLASS, STEP..]` behind a word: what a front of the script says at these steps. It has an object of the class from the
 /// start, and none where the script has no such class.
 pub(crate) fn answer(alloc: Global, row: &Json) -> Result<String, Fail> {
-    let mut line = String::new(alloc);
+    let mut line = Telling::new(alloc);
     let checked = script(alloc, word(row, 1))?;
     go_alone(alloc, &checked, row, &mut line)?;
-    Ok(line)
+    line.into_text()
 }

@@ -8,24 +8,16 @@ use mailbox::SwitchFault;
 use serde_json::Value as Json;
 use std::alloc::Global;
 use std::test::Fail;
-use test_rows::{count, named, word};
+use test_rows::{Telling, count, named, word};
 use timeline::Stepped;
 
 // What the switch does at a step, or why it stops.
-fn tell_did(
-    alloc: Global,
-    did: Result<Stepped, SwitchFault>,
-    line: &mut String,
-) -> Result<(), Fail> {
+fn tell_did(alloc: Global, did: Result<Stepped, SwitchFault>, line: &mut Telling) {
     match did {
         Ok(Stepped::Did) => {}
-        Ok(Stepped::Nothing) => line.push_str("; nothing")?,
-        Err(fault) => {
-            let told = format!(in alloc; "; {fault:?}")?;
-            line.push_str(told.as_str())?;
-        }
+        Ok(Stepped::Nothing) => line.say("; nothing"),
+        Err(fault) => line.tell(format!(in alloc; "; {fault:?}")),
     }
-    Ok(())
 }
 
 // The next line of the input is accepted, a message is routed, what is left is printed, or an object says something.
@@ -58,13 +50,13 @@ fn go_through(
     lines: &mut Lines<MemSource>,
     table: &mut Table,
     row: &Json,
-    line: &mut String,
+    line: &mut Telling,
 ) -> Result<(), Fail> {
     for at in 3..64 {
         if let Some(step) = row.get(at) {
             let did = go(alloc, checked, lines, table, step)?;
-            tell_did(alloc, did, line)?;
-            table.tell_got(alloc, line)?;
+            tell_did(alloc, did, line);
+            table.tell_got(alloc, line);
         }
     }
     Ok(())
@@ -79,9 +71,9 @@ pub(crate) fn answer(alloc: Global, row: &Json) -> Result<String, Fail> {
     let source = MemSource::new(input(alloc, row)?, 4096, Fails::Listed(Vec::new(alloc)));
     let mut lines = Lines::new(alloc, source);
     let mut table = Table::open(alloc, &checked, Fails::From(count(row, 2)))?;
-    let mut line = String::new(alloc);
+    let mut line = Telling::new(alloc);
     go_through(alloc, &checked, &mut lines, &mut table, row, &mut line)?;
-    line.push_str(" | ")?;
+    line.say(" | ");
     table.tell_written(&mut line)?;
-    Ok(line)
+    line.into_text()
 }

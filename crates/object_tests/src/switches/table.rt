@@ -11,6 +11,7 @@ use mailbox::{Switch, SwitchFault};
 use placement::Directory;
 use std::alloc::Global;
 use std::test::Fail;
+use test_rows::Telling;
 use timeline::{Caller, Event, Message, Stepped, Waits};
 
 /// A switch, with the ends that its objects hold.
@@ -80,27 +81,25 @@ impl Table {
     }
 
     /// What the objects have got, at most two events each.
-    pub(crate) fn tell_got(&mut self, alloc: Global, line: &mut String) -> Result<(), Fail> {
+    pub(crate) fn tell_got(&mut self, alloc: Global, line: &mut Telling) {
         for turn in 0..4 {
-            self.tell_next(alloc, line, turn / 2)?;
+            self.tell_next(alloc, line, turn / 2);
         }
-        Ok(())
     }
 
-    fn tell_next(&mut self, alloc: Global, line: &mut String, slot: usize) -> Result<(), Fail> {
+    fn tell_next(&mut self, alloc: Global, line: &mut Telling, slot: usize) {
         let Some(inbox) = self.inboxes.get_mut(slot) else {
-            return Ok(());
+            return;
         };
         let Some(event) = inbox.take() else {
-            return Ok(());
+            return;
         };
-        let told = format!(in alloc; "; {slot}: ")?;
-        line.push_str(told.as_str())?;
+        line.tell(format!(in alloc; "; {slot}: "));
         tell_event(alloc, line, &event)
     }
 
     /// What was written, a space for each line's end.
-    pub(crate) fn tell_written(self, line: &mut String) -> Result<(), Fail> {
+    pub(crate) fn tell_written(self, line: &mut Telling) -> Result<(), Fail> {
         let Table {
             switch,
             inboxes,
@@ -112,7 +111,7 @@ impl Table {
         drop(log);
         let text = str::from_utf8(sink.taken())?;
         for c in text.trim_end().chars() {
-            line.push(if c == '\n' { ' ' } else { c })?;
+            line.letter(if c == '\n' { ' ' } else { c });
         }
         Ok(())
     }

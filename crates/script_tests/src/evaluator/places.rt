@@ -5,7 +5,7 @@ use script_places::{Step, assign, assign_own, element, moved, part_at, property,
 use serde_json::Value as Json;
 use std::alloc::Global;
 use std::test::Fail;
-use test_rows::{number, tell_record, tell_value, value, word};
+use test_rows::{Telling, number, tell_record, tell_value, value, word};
 
 // A text is a name, a number an index, and a record `{"key": ..}` an index that is a text.
 fn step(alloc: Global, json: &Json) -> Result<Step, Fail> {
@@ -29,14 +29,14 @@ fn steps(alloc: Global, row: &Json, from: usize) -> Result<Vec<Step>, Fail> {
     Ok(steps)
 }
 
-fn tell(line: &mut String, answer: &Result<Value, OpFault>) -> Result<(), Fail> {
+fn tell(line: &mut Telling, answer: &Result<Value, OpFault>) {
     match answer {
         Ok(value) => tell_value(line, value),
         Err(OpFault::Throw(value)) => {
-            line.push_str("throws ")?;
-            tell_value(line, value)
+            line.say("throws ");
+            tell_value(line, value);
         }
-        Err(OpFault::NoMemory) => Err("no memory")?,
+        Err(OpFault::NoMemory) => line.refuse(),
     }
 }
 
@@ -53,7 +53,7 @@ fn write_own(
     own: &mut Fields,
     path: &[Step],
     row: &Json,
-    line: &mut String,
+    line: &mut Telling,
 ) -> Result<(), Fail> {
     let Some((Step::Named(name), rest)) = path.split_first() else {
         return Err("no name")?;
@@ -63,14 +63,15 @@ fn write_own(
         "put" => done(assign_own(alloc, own, name, rest, written)),
         _ => push_own(alloc, own, name, rest, written),
     };
-    tell(line, &answer)?;
-    line.push_str(" in ")?;
-    tell_record(line, own)
+    tell(line, &answer);
+    line.say(" in ");
+    tell_record(line, own);
+    Ok(())
 }
 
 /// `put VALUE RECORD STEPS`, `push VALUE RECORD STEPS`: what the write gives, and what it leaves; in a value, and in the fields of
 /// an object.
-pub(crate) fn answer_write(alloc: Global, row: &Json, line: &mut String) -> Result<(), Fail> {
+pub(crate) fn answer_write(alloc: Global, row: &Json, line: &mut Telling) -> Result<(), Fail> {
     let path = steps(alloc, row, 3)?;
     let mut whole = value(alloc, row, 2)?;
     let written = value(alloc, row, 1)?;
@@ -78,10 +79,10 @@ pub(crate) fn answer_write(alloc: Global, row: &Json, line: &mut String) -> Resu
         "put" => done(assign(alloc, &mut whole, path.as_slice(), written)),
         _ => push(alloc, &mut whole, path.as_slice(), written),
     };
-    tell(line, &answer)?;
-    line.push_str(" in ")?;
-    tell_value(line, &whole)?;
-    line.push_str(", ")?;
+    tell(line, &answer);
+    line.say(" in ");
+    tell_value(line, &whole);
+    line.say(", ");
     let Value::Rec(mut own) = value(alloc, row, 2)? else {
         return Err("no record")?;
     };
@@ -89,22 +90,24 @@ pub(crate) fn answer_write(alloc: Global, row: &Json, line: &mut String) -> Resu
 }
 
 /// `read VALUE STEPS`, by each step alone where it is one; `moved VALUE BY`.
-pub(crate) fn answer_read(alloc: Global, row: &Json, line: &mut String) -> Result<(), Fail> {
+pub(crate) fn answer_read(alloc: Global, row: &Json, line: &mut Telling) -> Result<(), Fail> {
     let whole = value(alloc, row, 1)?;
     if word(row, 0) == "moved" {
-        return tell(line, &moved(alloc, &whole, number(row, 2)));
+        tell(line, &moved(alloc, &whole, number(row, 2)));
+        return Ok(());
     }
     let path = steps(alloc, row, 2)?;
-    tell(line, &part_at(alloc, &whole, path.as_slice()))?;
+    tell(line, &part_at(alloc, &whole, path.as_slice()));
     match path.as_slice() {
         [Step::Named(name)] => {
-            line.push_str(", ")?;
-            tell(line, &property(alloc, &whole, name.as_str()))
+            line.say(", ");
+            tell(line, &property(alloc, &whole, name.as_str()));
         }
         [Step::Indexed(index)] => {
-            line.push_str(", ")?;
-            tell(line, &element(alloc, &whole, index))
+            line.say(", ");
+            tell(line, &element(alloc, &whole, index));
         }
-        _ => Ok(()),
+        _ => {}
     }
+    Ok(())
 }

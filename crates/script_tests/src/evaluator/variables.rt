@@ -5,7 +5,7 @@ use script_vars::{Bound, Vars};
 use serde_json::Value as Json;
 use std::alloc::Global;
 use std::test::Fail;
-use test_rows::{tell_value, value, word};
+use test_rows::{Telling, tell_value, value, word};
 
 fn named(alloc: Global, row: &Json, at: usize) -> Result<Vec<Name>, Fail> {
     let mut named = Vec::new(alloc);
@@ -24,18 +24,17 @@ fn values(alloc: Global, row: &Json, at: usize) -> Result<Vec<Value>, Fail> {
 }
 
 // What a name stands for.
-fn tell(line: &mut String, name: &str, bound: Option<&Bound>) -> Result<(), Fail> {
-    line.push_str(name)?;
-    line.push_str(" ")?;
+fn tell(line: &mut Telling, name: &str, bound: Option<&Bound>) {
+    line.say(name);
+    line.say(" ");
     match bound {
-        None => line.push_str("nothing")?,
-        Some(Bound::Handle) => line.push_str("handle")?,
-        Some(Bound::Context) => line.push_str("context")?,
-        Some(Bound::Environment) => line.push_str("environment")?,
-        Some(Bound::Value(value)) => tell_value(line, value)?,
+        None => line.say("nothing"),
+        Some(Bound::Handle) => line.say("handle"),
+        Some(Bound::Context) => line.say("context"),
+        Some(Bound::Environment) => line.say("environment"),
+        Some(Bound::Value(value)) => tell_value(line, value),
     }
-    line.push_str("; ")?;
-    Ok(())
+    line.say("; ");
 }
 
 /// `enter`, `leave`, `declare NAME VALUE`, `set NAME VALUE`, `take NAME`, `parameters NAMES VALUES`, `constructor NAMES`,
@@ -44,7 +43,7 @@ pub(crate) fn answer(
     alloc: Global,
     vars: &mut Vars,
     row: &Json,
-    line: &mut String,
+    line: &mut Telling,
 ) -> Result<(), Fail> {
     match word(row, 0) {
         "new" => *vars = Vars::new(alloc),
@@ -52,7 +51,7 @@ pub(crate) fn answer(
         "leave" => vars.leave(),
         "declare" => vars.declare(&Text::new(alloc, word(row, 1))?, value(alloc, row, 2)?)?,
         "set" => vars.set(word(row, 1), value(alloc, row, 2)?),
-        "take" => tell_taken(line, vars.take(word(row, 1)))?,
+        "take" => tell_taken(line, vars.take(word(row, 1))),
         "parameters" => {
             let arguments = values(alloc, row, 2)?;
             vars.parameters(&named(alloc, row, 1)?, arguments)?;
@@ -63,18 +62,17 @@ pub(crate) fn answer(
     }
     for name in word(row, 3).split(' ') {
         if !name.is_empty() {
-            tell(line, name, vars.get(name))?;
+            tell(line, name, vars.get(name));
         }
     }
     Ok(())
 }
 
-fn tell_taken(line: &mut String, taken: Option<Value>) -> Result<(), Fail> {
-    line.push_str("took ")?;
+fn tell_taken(line: &mut Telling, taken: Option<Value>) {
+    line.say("took ");
     match taken {
-        Some(value) => tell_value(line, &value)?,
-        None => line.push_str("nothing")?,
+        Some(value) => tell_value(line, &value),
+        None => line.say("nothing"),
     }
-    line.push_str("; ")?;
-    Ok(())
+    line.say("; ");
 }

@@ -12,7 +12,7 @@ use serde_json::Value as Json;
 use std::alloc::Global;
 use std::test::Fail;
 use storage_map::{Batch, Identity};
-use test_rows::{count, word};
+use test_rows::{Telling, count, word};
 
 // Tries to append a frame of the batch, as the first. There is nothing where the disk has frames, or memory is wanting.
 fn append_first<D: Disk + Drop>(
@@ -47,7 +47,7 @@ fn pick_of(row: &Json) -> Pick {
 
 /// `append LETTERS STOP PICK`: one put over an empty disk whose calls fail from this one on, how it ends, and what a crash then
 /// leaves.
-pub(crate) fn answer(alloc: Global, row: &Json, line: &mut String) -> Result<(), Fail> {
+pub(crate) fn answer(alloc: Global, row: &Json, line: &mut Telling) -> Result<(), Fail> {
     let batch = one(alloc, put(alloc, count(row, 1))?)?;
     let disk = MemDisk::new(Vec::new(alloc), Fails::From(count(row, 2)));
     let Ok(mounted) = Journal::mount(alloc, disk, LIMIT) else {
@@ -55,10 +55,10 @@ pub(crate) fn answer(alloc: Global, row: &Json, line: &mut String) -> Result<(),
     };
     let tried = append_first(mounted, &batch, &object(alloc)?);
     let (disk, outcome) = tried.ok_or("not appended")?;
-    let told = format!(in alloc; "{outcome:?} after {} calls: ", disk.moment())?;
-    line.push_str(told.as_str())?;
+    line.tell(format!(in alloc; "{outcome:?} after {} calls: ", disk.moment()));
     let left = disk.crash(pick_of(row))?;
-    tell_bytes(alloc, line, left.content())
+    tell_bytes(alloc, line, left.content());
+    Ok(())
 }
 
 // Appends both batches as the first frame, and gives the disk. There is nothing where the disk has frames, memory is wanting
@@ -92,7 +92,7 @@ fn append_both<D: Disk + Drop>(
 }
 
 /// `both`: the file of a put and a delete as two batches of one frame.
-pub(crate) fn answer_both(alloc: Global, line: &mut String) -> Result<(), Fail> {
+pub(crate) fn answer_both(alloc: Global, line: &mut Telling) -> Result<(), Fail> {
     let put = one(alloc, put(alloc, 0)?)?;
     let delete = one(alloc, delete(alloc)?)?;
     let disk = MemDisk::new(Vec::new(alloc), Fails::Listed(Vec::new(alloc)));
@@ -100,5 +100,6 @@ pub(crate) fn answer_both(alloc: Global, line: &mut String) -> Result<(), Fail> 
         return Err("not mounted")?;
     };
     let disk = append_both(mounted, &put, &delete, &object(alloc)?);
-    tell_bytes(alloc, line, disk.ok_or("not appended")?.content())
+    tell_bytes(alloc, line, disk.ok_or("not appended")?.content());
+    Ok(())
 }

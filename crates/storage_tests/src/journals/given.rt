@@ -7,7 +7,7 @@ use serde_json::Value as Json;
 use std::alloc::Global;
 use std::test::Fail;
 use storage_map::{Batch, Identity, Key, Op};
-use test_rows::word;
+use test_rows::{Telling, word};
 
 /// The bytes at this place of the case, in hexadecimal.
 pub(crate) fn bytes_at(alloc: Global, row: &Json, at: usize) -> Result<Vec<u8>, Fail> {
@@ -15,9 +15,8 @@ pub(crate) fn bytes_at(alloc: Global, row: &Json, at: usize) -> Result<Vec<u8>, 
 }
 
 /// Adds the bytes to the line, in hexadecimal.
-pub(crate) fn tell_bytes(alloc: Global, line: &mut String, bytes: &[u8]) -> Result<(), Fail> {
-    line.push_str(hex::encode(alloc, bytes)?.as_str())?;
-    Ok(())
+pub(crate) fn tell_bytes(alloc: Global, line: &mut Telling, bytes: &[u8]) {
+    line.tell(hex::encode(alloc, bytes));
 }
 
 /// The object a of class C.

@@ -6,7 +6,7 @@ use serde_json::Value as Json;
 use std::alloc::Global;
 use std::test::Fail;
 use storage_map::{Batch, Identity};
-use test_rows::count;
+use test_rows::{Telling, count};
 
 fn read(bytes: &[u8]) -> Result<FrameView<'_>, BadFrame> {
     if bytes.len() > 2_000_000 {
@@ -16,52 +16,49 @@ fn read(bytes: &[u8]) -> Result<FrameView<'_>, BadFrame> {
 }
 
 // An operation as it is lent, with the place of a value's first byte.
-fn tell_op(alloc: Global, line: &mut String, op: &OpView) -> Result<(), Fail> {
+fn tell_op(alloc: Global, line: &mut Telling, op: &OpView) {
     match op {
         OpView::Put { key, value, at } => {
-            let told = format!(in alloc; "put {key} of {} bytes at {at}", value.len())?;
-            line.push_str(told.as_str())?;
+            line.tell(format!(in alloc; "put {key} of {} bytes at {at}", value.len()));
         }
         OpView::Delete { key } => {
-            line.push_str("delete ")?;
-            line.push_str(*key)?;
+            line.say("delete ");
+            line.say(*key);
         }
-        OpView::DeleteAll => line.push_str("delete all")?,
+        OpView::DeleteAll => line.say("delete all"),
         OpView::SetAlarm { time, retry } => {
-            let told = format!(in alloc; "alarm {time} retry {retry}")?;
-            line.push_str(told.as_str())?;
+            line.tell(format!(in alloc; "alarm {time} retry {retry}"));
         }
-        OpView::ClearAlarm => line.push_str("no alarm")?,
+        OpView::ClearAlarm => line.say("no alarm"),
     }
-    Ok(())
 }
 
-fn tell(alloc: Global, bytes: &[u8], line: &mut String) -> Result<(), Fail> {
+fn tell(alloc: Global, bytes: &[u8], line: &mut Telling) {
     let Ok(frame) = read(bytes) else {
-        line.push_str("bad")?;
-        return Ok(());
+        line.say("bad");
+        return;
     };
     let (class, name) = frame.identity();
-    line.push_str(class)?;
-    line.push_str(" ")?;
-    line.push_str(name)?;
+    line.say(class);
+    line.say(" ");
+    line.say(name);
     for batch in frame.batches() {
-        line.push_str(":")?;
+        line.say(":");
         for op in batch.ops() {
-            line.push_str(" ")?;
-            tell_op(alloc, line, &op)?;
+            line.say(" ");
+            tell_op(alloc, line, &op);
         }
     }
-    Ok(())
 }
 
 /// `payload HEX`
-pub(crate) fn answer(alloc: Global, row: &Json, line: &mut String) -> Result<(), Fail> {
-    tell(alloc, &bytes_at(alloc, row, 1)?, line)
+pub(crate) fn answer(alloc: Global, row: &Json, line: &mut Telling) -> Result<(), Fail> {
+    tell(alloc, &bytes_at(alloc, row, 1)?, line);
+    Ok(())
 }
 
 /// `large HEAD PUT PUTS LETTERS`: the payload of one batch that has so many puts of a text of so many letters, whether it is read.
-pub(crate) fn answer_large(alloc: Global, row: &Json, line: &mut String) -> Result<(), Fail> {
+pub(crate) fn answer_large(alloc: Global, row: &Json, line: &mut Telling) -> Result<(), Fail> {
     let puts = u32::try_from(count(row, 3)).unwrap_or(0);
     let letters = u32::try_from(count(row, 4)).unwrap_or(0);
     let mut bytes = bytes_at(alloc, row, 1)?;
@@ -74,7 +71,7 @@ pub(crate) fn answer_large(alloc: Global, row: &Json, line: &mut String) -> Resu
             bytes.push(b'a')?;
         }
     }
-    line.push_str(if read(&bytes).is_ok() { "read" } else { "bad" })?;
+    line.say(if read(&bytes).is_ok() { "read" } else { "bad" });
     Ok(())
 }
 
@@ -86,9 +83,10 @@ fn encode_both(alloc: Global, first: Batch, second: Batch, identity: &Identity) 
 }
 
 /// `encode`: a put of 5 and then a delete, as two batches.
-pub(crate) fn answer_encode(alloc: Global, line: &mut String) -> Result<(), Fail> {
+pub(crate) fn answer_encode(alloc: Global, line: &mut Telling) -> Result<(), Fail> {
     let put = one(alloc, put(alloc, 0)?)?;
     let delete = one(alloc, delete(alloc)?)?;
     let bytes = encode_both(alloc, put, delete, &object(alloc)?)?;
-    tell_bytes(alloc, line, &bytes)
+    tell_bytes(alloc, line, &bytes);
+    Ok(())
 }

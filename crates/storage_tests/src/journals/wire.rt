@@ -4,7 +4,7 @@ use do_wire::{from_json, to_json};
 use serde_json::{Map, Value as Json};
 use std::alloc::Global;
 use std::test::Fail;
-use test_rows::count;
+use test_rows::{Telling, count};
 
 // An object whose one key has so many letters.
 fn long_key(alloc: Global, letters: u64) -> Result<Json, Fail> {
@@ -17,31 +17,27 @@ fn long_key(alloc: Global, letters: u64) -> Result<Json, Fail> {
     Ok(Json::Object(members))
 }
 
-fn tell(alloc: Global, json: &Json, line: &mut String) -> Result<(), Fail> {
+fn tell(alloc: Global, json: &Json, line: &mut Telling) -> Result<(), Fail> {
     match from_json(alloc, json) {
-        Ok(value) => tell_printed(alloc, &value, line),
-        Err(fault) => {
-            let told = format!(in alloc; "{fault:?}")?;
-            line.push_str(told.as_str())?;
-            Ok(())
-        }
+        Ok(value) => tell_printed(alloc, &value, line)?,
+        Err(fault) => line.tell(format!(in alloc; "{fault:?}")),
     }
+    Ok(())
 }
 
 // The value as it is printed, or how many bytes that has.
-fn tell_printed(alloc: Global, value: &Value, line: &mut String) -> Result<(), Fail> {
+fn tell_printed(alloc: Global, value: &Value, line: &mut Telling) -> Result<(), Fail> {
     let printed = to_json(alloc, value)?.to_string(alloc)?;
     if printed.len() > 1000 {
-        let told = format!(in alloc; "{} bytes", printed.len())?;
-        line.push_str(told.as_str())?;
+        line.tell(format!(in alloc; "{} bytes", printed.len()));
     } else {
-        line.push_str(printed.as_str())?;
+        line.say(printed.as_str());
     }
     Ok(())
 }
 
 /// `json JSON`: what it prints as once it has been read, or why it is refused. `json 0 LETTERS` is an object of one long key.
-pub(crate) fn answer(alloc: Global, row: &Json, line: &mut String) -> Result<(), Fail> {
+pub(crate) fn answer(alloc: Global, row: &Json, line: &mut Telling) -> Result<(), Fail> {
     let nothing = Json::Null;
     if row.get(2).is_some() {
         return tell(alloc, &long_key(alloc, count(row, 2))?, line);
@@ -50,14 +46,14 @@ pub(crate) fn answer(alloc: Global, row: &Json, line: &mut String) -> Result<(),
 }
 
 /// `undefined`: how it prints, alone, in a list, and as a field of a record.
-pub(crate) fn answer_undefined(alloc: Global, line: &mut String) -> Result<(), Fail> {
+pub(crate) fn answer_undefined(alloc: Global, line: &mut Telling) -> Result<(), Fail> {
     let mut values = Vec::new(alloc);
     values.push(Value::Undefined)?;
     let mut pairs = Vec::new(alloc);
     pairs.push((Text::new(alloc, "k")?, Value::Undefined))?;
     tell_printed(alloc, &Value::Undefined, line)?;
-    line.push_str(" ")?;
+    line.say(" ");
     tell_printed(alloc, &Value::list(values)?, line)?;
-    line.push_str(" ")?;
+    line.say(" ");
     tell_printed(alloc, &Value::fields(pairs)?, line)
 }

@@ -2,7 +2,7 @@ use Rattle.std.proofs.Common.{◌∙◌, sym, ap, subst}
 use Rattle.std.specs.Prelude.{OnOk}
 use Rattle.timeline.specs.Logs.{backed, fronted}
 use Rattle.object_front.specs.Evaluated.{seen}
-use Rattle.object_front.specs.Turning.{CanTurn}
+use Rattle.front_half.specs.Turning.{CanTurn}
 use Rattle.object_front.specs.declared.front.Front.{Front}
 use Rattle.output_gate.specs.Serving.{CanServe}
 use Rattle.output_gate.specs.Storing.{IsDiskOf}

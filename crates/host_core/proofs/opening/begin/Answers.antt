@@ -3,7 +3,7 @@ use Rattle.do_tree.specs.Checked.{tree_of}
 use Rattle.storage_map.specs.Limits.{Object}
 use Rattle.object_core.specs.One.{class_in}
 use Rattle.object_front.specs.Evaluated.{seen}
-use Rattle.object_front.specs.Standing.{IsHalf, fresh}
+use Rattle.front_half.specs.Standing.{IsHalf, fresh}
 use Rattle.host_core.proofs.Beginning.{has_begun, known_as}
 use Rattle.host_core.proofs.opening.begin.Goals as goal
 

@@ -1,10 +1,8 @@
-use Rattle.std.proofs.Common.{sym, ◌∙◌, arith, ◌∷◌, [], ◌++◌, length-append}
+use Rattle.std.proofs.Common.{◌++◌, ap, ◌∙◌, arith}
 use Rattle.line_server.specs.Limits.{most_line_bytes}
-use Rattle.line_server.proofs.Keeping.{take_full, take_short}
+use Rattle.line_server.proofs.Keeping.{take_more}
 use Rattle.line_server.proofs.raw_line.keep.Goals as goal
 
-pub returns-then-len-ge-MOST_LINE_BYTES-clause-kept : goal.returns-then-len-ge-MOST_LINE_BYTES-clause-kept
-returns-then-len-ge-MOST_LINE_BYTES-clause-kept c = sym (take_full most_line_bytes c.args.kept.now.items (c.args.byte ∷ []) (omega arith))
-
 pub returns-clause-kept : goal.returns-clause-kept
-returns-clause-kept c = c.in_ok-push.ensures.items ∙ sym (take_short most_line_bytes (c.args.kept.now.items ++ c.args.byte ∷ []) (omega (arith, length-append c.args.kept.now.items (c.args.byte ∷ []))))
+returns-clause-kept c =
+    c.in_ok-extend_from_slice.ensures.items ∙ ap (λ r. c.args.kept.now.items ++ r) c.fitting.ensures ∙ take_more most_line_bytes _ c.args.kept.now.items c.args.bytes.now (omega arith)

@@ -3,7 +3,7 @@ use Rattle.timeline.specs.Logs.{fronted}
 use Rattle.timeline.specs.declared.event.Event.{Event}
 use Rattle.object_front.specs.Came.{kept}
 use Rattle.object_core.proofs.Becoming.{fitting_first}
-use Rattle.object_core.proofs.Classless.{is_unmoved, says_no_message}
+use Rattle.object_core.proofs.Classless.{has_done_nothing, is_unmoved, says_no_message}
 use Rattle.object_core.proofs.Drops.{drops_only}
 use Rattle.object_core.proofs.Owing.{is_owed}
 use Rattle.object_core.proofs.Telling.{has_told, is_history}
@@ -29,8 +29,9 @@ returns g c = record {
       let first = class_in script origin.object in
       drops_only core.inbox.got all (fronted core.front.half.log) core.back.log.downs.items (kept one.st) one.has_got.lost starts one.has_got.come
       ((one.drops tells).dropped (fitting_first script first core.inbox.got starts.0 (subst (λ (es : List Event). AreFitting script first es) starts.1 fit)));
-  classless = λ core script origin tells one none. (
-    says_no_message g.D.Disk.moment_of g.D.Disk.left_since g.D.Disk.told g.D.Disk.image g.D.Disk.faults_of core script origin one tells,
-    is_unmoved g.D.Disk.moment_of g.D.Disk.left_since g.D.Disk.told g.D.Disk.image g.D.Disk.faults_of core script origin one tells none,
-  );
+  classless = λ core script origin tells one. record {
+    unbound = has_done_nothing g.D.Disk.moment_of g.D.Disk.left_since g.D.Disk.told g.D.Disk.image g.D.Disk.faults_of core script origin one tells;
+    asks = λ none. says_no_message g.D.Disk.moment_of g.D.Disk.left_since g.D.Disk.told g.D.Disk.image g.D.Disk.faults_of core script origin one tells;
+    rests = λ none. is_unmoved g.D.Disk.moment_of g.D.Disk.left_since g.D.Disk.told g.D.Disk.image g.D.Disk.faults_of core script origin one tells none;
+  };
 }

@@ -5,7 +5,7 @@ use Rattle.do_tree.specs.Checked.{tree_of}
 use Rattle.storage_map.specs.Limits.{Object}
 use Rattle.object_core.specs.One.{class_in}
 use Rattle.object_front.specs.Evaluated.{seen}
-use Rattle.object_front.specs.Standing.{IsHalf, fresh}
+use Rattle.front_half.specs.Standing.{IsHalf, fresh}
 use Rattle.host_tests.proofs.workers.given.begin.Goals as goal
 
 pub returns : goal.returns

@@ -1,6 +1,6 @@
 use Rattle.do_tree.specs.Checked.{tree_of}
 use Rattle.object_front.specs.Evaluated.{seen}
-use Rattle.object_front.specs.Turning.{CanTurn}
+use Rattle.front_half.specs.Turning.{CanTurn}
 use Rattle.object_tests.proofs.fronts.drive.go_through.Given as goal
 
 -- a turn may be asked for

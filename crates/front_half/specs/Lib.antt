@@ -1,0 +1,13 @@
+pub mod Answering
+pub mod ByCallers
+pub mod Ending
+pub mod Gated
+pub mod Kinds
+pub mod Leaving
+pub mod Moving
+pub mod Noticing
+pub mod Remaining
+pub mod Sending
+pub mod Standing
+pub mod Taking
+pub mod Turning

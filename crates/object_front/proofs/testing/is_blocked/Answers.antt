@@ -1,5 +1,0 @@
-use Rattle.object_front.proofs.Judging.{blocks_held}
-use Rattle.object_front.proofs.testing.is_blocked.Goals as goal
-
-pub returns : goal.returns
-returns g c = λ l ts held. blocks_held c.args.object.now.blocks ts held.blocks

@@ -1,9 +1,0 @@
-use Rattle.std.proofs.Common.{◌∙◌, sym, ap}
-use Rattle.object_front.specs.Taking.{stale}
-use Rattle.object_front.proofs.testing.stale.Goals as goal
-
-pub returns-then-is_early : goal.returns-then-is_early
-returns-then-is_early c = ap stale (sym c.if-is_early.true ∙ c.is_early.ensures)
-
-pub returns : goal.returns
-returns c = ap stale (sym c.if-is_early.false ∙ c.is_early.ensures)

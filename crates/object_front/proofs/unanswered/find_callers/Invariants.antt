@@ -1,8 +1,0 @@
-use Rattle.std.proofs.Common.{◌≡◌, ◌++◌, drop}
-use Rattle.object_front.specs.Answering.{without_reply}
-use Rattle.object_front.proofs.Answered.{callers_in}
-use Rattle.object_front.proofs.unanswered.find_callers.Given as goal
-
--- the callers so far, and those in what is left
-abbrev pub invariant-loop-logged : goal.invariant-loop-logged
-invariant-loop-logged l = l.callers.items ++ without_reply l.answered (callers_in (drop l.logged-index l.delivered)) ≡ without_reply l.answered (callers_in l.delivered)
