@@ -21,6 +21,9 @@ export class Bench extends DurableObject {
     return null;
   }
 
+  // Nothing.
+  take(value) { return null; }
+
   // No storage.
   async echo(value) { return value; }
 

@@ -38,7 +38,12 @@ main().catch((error) => {
 });
 
 async function main() {
-  const { worker: workerPath, script, folder, values } = wordsGiven();
+  const words = wordsGiven();
+  if (!words) {
+    process.stdout.write(`${USAGE}\n`);
+    return;
+  }
+  const { worker: workerPath, script, folder, values } = words;
   const port = numberOf('port', values.port ?? '8787', 65_535);
   installWeb();
   const worker = workerPath && (await workerOf(workerPath));
@@ -74,7 +79,8 @@ function wordsGiven() {
     throw new Usage(fault.message);
   }
   const { values, positionals } = given;
-  if (values.help || positionals.length < 2 || positionals.length > 3) throw new Usage('a script and a folder are wanted');
+  if (values.help) return undefined;
+  if (positionals.length < 2 || positionals.length > 3) throw new Usage('a script and a folder are wanted');
   const [folder, script, worker] = positionals.reverse();
   return { worker, script, folder, values };
 }

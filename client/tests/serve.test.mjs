@@ -109,6 +109,7 @@ test('words that are wrong, and what can not be opened, are told in a sentence',
   const script = `${TOP}examples/counter/script.js`;
   const cases = [
     [[], 1, /usage: node client\/serve.mjs/],
+    [['--help'], 0, /^usage: node client\/serve.mjs/],
     [[script, folder, '--port', '70000'], 1, /--port takes a whole number up to 65535/],
     [[script, folder, '--sloths', '3'], 1, /sloths/],
     [[script, folder, '--slots', '900'], 2, /the option slots is to be a whole number from 1 to 256/],
@@ -118,7 +119,7 @@ test('words that are wrong, and what can not be opened, are told in a sentence',
   ];
   const ends = cases.map(([words]) => new Promise((resolve) => {
     const options = { env: { ...process.env, DURABLE: PROGRAM }, timeout: SLOW };
-    execFile(process.execPath, [SERVE, ...words], options, (fault, out, told) => resolve([fault?.code, told]));
+    execFile(process.execPath, [SERVE, ...words], options, (fault, out, told) => resolve([fault ? fault.code : 0, told || out]));
   }));
   for (const [at, [words, status, why]] of cases.entries()) {
     const [got, told] = await ends[at];

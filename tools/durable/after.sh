@@ -63,17 +63,26 @@ tell_journal() {
     return 1
 }
 
+# what isn't there of the paths that the words name, if anything
+tell_paths() {
+    local script=$1 folder=$2
+    if [ -n "$script" ]; then
+        if [ ! -e "$script" ]; then say "there is no script $script"; return 0; fi
+        if [ -d "$script" ]; then say "$script is a folder, and no script"; return 0; fi
+        if [ ! -r "$script" ]; then say "the script $script can't be read by this user"; return 0; fi
+    fi
+    if [ -n "$folder" ]; then
+        if [ ! -e "$folder" ]; then say "there is no folder $folder: make it with mkdir"; return 0; fi
+        if [ ! -d "$folder" ]; then say "$folder is no folder"; return 0; fi
+    fi
+    return 1
+}
+
 # what of the words can't be opened
 tell_opening() {
     local script=$1 folder=$2 number
-    if [ -n "$script" ]; then
-        if [ ! -e "$script" ]; then say "there is no script $script"; return; fi
-        if [ -d "$script" ]; then say "$script is a folder, and no script"; return; fi
-        if [ ! -r "$script" ]; then say "the script $script can't be read by this user"; return; fi
-    fi
+    if tell_paths "$script" "$folder"; then return; fi
     if [ -z "$folder" ]; then say "the script $script couldn't be read"; return; fi
-    if [ ! -e "$folder" ]; then say "there is no folder $folder: make it with mkdir"; return; fi
-    if [ ! -d "$folder" ]; then say "$folder is no folder"; return; fi
     for ((number = 0; number < slots; number++)); do
         if tell_journal "$(file_of "$folder" "$number")" "$folder"; then return; fi
     done

@@ -1,5 +1,11 @@
 # shellcheck shell=bash
-# What is seen in the folder before a run.
+# What is seen before a run, in the words and in the folder.
+
+# Before the program is built, which takes an hour: ends where the words are none, or name what isn't there.
+see_words() {
+    if [ -n "$fault" ]; then tell_words; exit 1; fi
+    if tell_paths "$script" "$folder"; then exit 3; fi
+}
 
 # the journals that stand in a folder, in order; where a number is given, those of more bytes than that
 journals_of() {

@@ -1,5 +1,5 @@
 # Prints what to write instead, where a script was refused for a form that other JavaScript has, and nothing where that isn't sure.
-# usage: LC_ALL=C awk -v place=BYTES -v kind=KIND -f hint.awk SCRIPT
+# usage: LC_ALL=C awk -v place=BYTES -v kind=KIND -f hint.awk < SCRIPT
 # The text is cut into the words and marks of docs/SCRIPT.md: token[1] and on, with their places and lines.
 
 BEGIN { tables() }
@@ -13,12 +13,13 @@ END {
     told = ""
     if (kind == "Unexpected") {
         if (!told) told = of_marks()
+        if (!told) told = of_types()
         if (!told) told = of_classes()
         if (!told) told = of_statements()
         if (!told) told = of_expressions()
         if (!told) told = of_ends()
     } else if (kind == "BadChar") told = of_characters()
-    else if (kind == "Unbound") told = of_name(p)
+    else if (kind == "Unbound") told = of_name(p, a == "." ? token[f + 2] : "")
     else if (kind == "NotAwaited") told = of_unawaited()
     else if (kind == "Form" || kind == "AwaitOfSync") told = of_call(f + (p == "await"))
     if (!told && kind == "AwaitOfSync" && a == "this" && token[f + 4] == "(") told = "take the await away, or write async in front of the method " token[f + 3]
@@ -116,7 +117,7 @@ function of_marks() {
     if (p == "=" && (a == "=" && is_glued(f + 1) || b == "=" && is_glued(f))) return "write ===, which compares what lists and records hold"
     if (p == "!" && a == "=") return "write !=="
     if (p == "." && b == "?" && is_glued(f)) return "there is no ?. here: write (a ?? {}).b, or test for undefined first"
-    if (p == "." && a == ".") return stack == "{(" ? "there are no rest parameters: take a list" : "there is no spread: a list is copied as it is assigned, let b = a; b.push(x);"
+    if (p == "." && a == ".") return of_spread()
     if (p == "=" && b ~ /^([*\/%]|\?\?|\|\||&&)$/ && is_glued(f)) return "write a = a " b " (..)"
     if (p == "*" && b == "*" && is_glued(f)) return "there is no power: multiply in a loop"
     if (p == b && p ~ /^[<>]$/ && is_glued(f)) return "there are no operators of bits: multiply, or divide what is even"
@@ -128,6 +129,29 @@ function of_marks() {
     if (p == "/" && !ends_value(f - 1)) return "there are no regular expressions: texts have startsWith, endsWith, includes and split"
     if (b == "=>" && p != "{") return "the body of an arrow stands in braces: async () => { .. }"
     if (p == "=>" || a == "=>" || p == "async" && a == "(" || p == "," && before_open(f) == "async") return of_arrow()
+    return ""
+}
+
+function of_spread(    call) {
+    call = top == "(" ? before_open(f) : ""
+    if (stack == "{(") return "there are no rest parameters: take a list"
+    if (call ~ /^(min|max)$/) return "write a loop: let best = list[0]; for (const x of list) { if (x " (call == "max" ? ">" : "<") " best) { best = x; } }"
+    if (call == "push") return of_methods["concat"]
+    if (token[f + 4] == "." && token[f + 5] ~ /^(values|keys|entries)$/) return of_pairs
+    if (top == "r") return "there is no spread: a record is copied as it is assigned, let s = r; s.a = 1;"
+    return "there is no spread: a list is copied as it is assigned, let b = a; b.push(x);"
+}
+
+# what TypeScript has beside JavaScript
+function of_types() {
+    if (stack == "" && (p ~ /^(interface|type|enum|declare|namespace|abstract)$/ || b ~ /^(interface|type|enum|declare|namespace|abstract)$/)) return no_types
+    if (p == "<" && b == "DurableObject") return no_types
+    if (stack == "{" && b ~ /^(private|public|protected|readonly|declare|override)$/ && is_word(p)) return no_types
+    if (stack == "{(" && p ~ /^[:?]$/ && is_word(b)) return no_types
+    if (stack == "{" && p == ":" && b == ")") return no_types
+    if (p == ":" && is_word(b) && c ~ /^(let|const)$/) return no_types
+    if (p == "as" && ends_value(f - 1)) return no_types
+    if (p == "!" && a != "=" && ends_value(f - 1) && is_glued(f)) return no_types
     return ""
 }
 
@@ -202,8 +226,16 @@ function of_expressions() {
     if (p == "," && before_open(f) == "Error") return "new Error takes its text alone"
     if (top == "r" && p == "[") return "a record has no computed keys: write r[key] = value; behind it"
     if (top == "r" && p == "(" && behind_group(f) == "{") return "functions are no values: write a method"
+    if (p == "=" && top == "{" && ends_value(f - 1) && writes_before(f)) return "a write gives no value: write b = x; and then a = b;"
     if (p == "=" && (is_word(b) || b == "]") && ends_value(f - 1) && (top ~ /^[([]$/ || head_of(f - 1) ~ /^(return|let|const|throw)$/)) return "an assignment is a statement of its own and gives no value; to compare write ==="
     return ""
+}
+
+# whether a write stands before token i in its statement, which declares nothing
+function writes_before(i) {
+    if (head_of(i) ~ /^(let|const|var)$/) return 0
+    for (; i > 1 && !(token[i - 1] ~ /^[;{}]$/); i--) if (token[i - 1] ~ /^[+-]?=$/) return 1
+    return 0
 }
 
 function of_new() {
@@ -238,11 +270,14 @@ function of_characters() {
     return ""
 }
 
-function of_name(name,    member) {
-    member = a == "." ? token[f + 2] : ""
+function of_name(name, member) {
     if (name == "Math" && member ~ /^(floor|trunc|round|ceil)$/) return "numbers are whole: (a - a % b) / b divides without a rest"
     if (name == "Math" && member ~ /^(max|min)$/) return "write a " (member == "max" ? ">" : "<") " b ? a : b"
-    if (name == "Object" && member ~ /^(entries|values|assign|fromEntries)$/) return "write for (const key of Object.keys(r)) { .. r[key] .. }"
+    if (name == "Math" && member == "abs") return "write a < 0 ? -a : a"
+    if (name == "Object" && member == "fromEntries") return "write let r = {}; for (const pair of pairs) { r[pair[0]] = pair[1]; }"
+    if (name == "Array" && member == "from") return of_pairs
+    if (name == "crypto" && member == "subtle") return "there is no crypto.subtle: have it done outside, and hand in what it gives"
+    if (name == "Object" && member ~ /^(entries|values|assign)$/) return "write for (const key of Object.keys(r)) { .. r[key] .. }"
     if (name in of_names) return of_names[name]
     if (a == "(" && is_own(name)) return "write this." name "(..): a method of the object is called so"
     return ""
@@ -262,10 +297,11 @@ function is_own(name,    i) {
 function of_call(i,    object, name) {
     object = token[i] == "this" ? i + 2 : i
     if (token[object] == "env") return of_env(token[object + 2], token[object + 4], token[object + 6])
+    if (token[object] == "ctx" && token[object + 2] == "storage" && token[object + 5] == "<") return no_types
     if (token[object] == "ctx" && token[object + 2] in of_ctx) return of_ctx[token[object + 2]]
     if (token[object] == "ctx" && token[object + 2] == "storage" && token[object + 4] in of_storage) return of_storage[token[object + 4]]
     if (token[object] == "ctx" && token[object + 3] != "." && kind == "Form") return "no part of ctx is a value: write the call whole, as this.ctx.storage.get(key)"
-    if (token[i] in of_names) return of_names[token[i]]
+    if (token[i] in of_names) return of_name(token[i], token[i + 1] == "." ? token[i + 2] : "")
     name = method_of(i)
     if (name in of_methods) return of_methods[name]
     if (token[i] == "this" && token[i + 1] != "." && kind == "Form") return "this is no value: write this.name or this.m(..)"
@@ -306,6 +342,8 @@ function put_all(words, told, into,    n, i, list) {
 
 function tables() {
     no_functions = "functions are no values: write a loop, for (const x of list) { .. }, or a method. An arrow is the body of transaction and blockConcurrencyWhile alone"
+    no_types = "this is TypeScript: leave its types out"
+    of_pairs = "what list and get(keys) give is a list of pairs: let out = []; for (const pair of pairs) { out.push(pair[1]); }"
     of_names["Promise"] = "there are no promises as values: await the calls one after the other"
     of_names["Math"] = "there is no Math: numbers are whole"
     of_names["JSON"] = "there is no JSON: values are stored, passed and answered as they are"
@@ -324,6 +362,7 @@ function tables() {
     put_all("setTimeout setInterval clearTimeout clearInterval", of_names["scheduler"], of_names)
     of_ctx["id"] = "an object doesn't know its name: hand it in as an argument, and store it"
     of_ctx["waitUntil"] = "there is no waitUntil: await the call"
+    of_ctx["abort"] = "there is no abort: a throw out of blockConcurrencyWhile resets the object"
     put_all("acceptWebSocket getWebSockets", "there are no web sockets", of_ctx)
     of_storage["sql"] = "there is no SQL: storage has keys and values"
     of_storage["kv"] = "write await this.ctx.storage.get(key) and this.ctx.storage.put(key, value)"
@@ -337,6 +376,7 @@ function tables() {
     of_methods["join"] = "join in a loop: text = text + \",\" + x"
     put_all("sort reverse toSorted toReversed", "nothing sorts a list: store the items under keys, which list(..) gives in ascending order, or turned round by reverse", of_methods)
     of_methods["toString"] = "write String(x)"
+    of_methods["toFixed"] = "numbers are whole: count in cents or thousandths, and String(x) gives the text"
     of_methods["at"] = "write list[list.length - 1]"
     put_all("then catch finally", "write await, and try and catch around it", of_methods)
     put_all("json text", "what fetch gives is the value that the input answered, already read", of_methods)

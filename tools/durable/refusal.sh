@@ -50,7 +50,7 @@ tell_refusal() {
 
 tell_hint() {
     local hint
-    hint=$(LC_ALL=C awk -v place="$2" -v kind="$3" -f "$top/tools/durable/hint.awk" "$1" 2>/dev/null)
+    hint=$(LC_ALL=C awk -v place="$2" -v kind="$3" -f "$top/tools/durable/hint.awk" <"$1" 2>/dev/null)
     if [ -n "$hint" ]; then
         say "$hint"
         say "docs/FROM-CLOUDFLARE.md has such forms beside what stands for them here; docs/SCRIPT.md has the language"
