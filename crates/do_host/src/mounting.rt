@@ -103,6 +103,7 @@ fn row_of<D: Disk>(alloc: Global, mounted: Mounted<D>) -> (SlotReport<D>, Map)
         journal,
         identity,
         map,
+        index: _,
     } = mounted;
     let row = SlotReport {
         store: journal.into_disk(),

@@ -7,6 +7,7 @@ use Rattle.std.proofs.lemmas.Option.{none-some}
 use Rattle.do_value.specs.Tree.{Tree}
 use Rattle.do_tree.specs.Lookup.{constructor_of, alarm_of}
 use Rattle.storage_map.specs.declared.op.Op.{Op}
+use Rattle.write_batcher.specs.declared.batcher.Made.{Made}
 use Rattle.storage_map.specs.declared.op.Op.TheVariants.{ClearAlarm}
 use Rattle.alarm_core.specs.AlarmRule.{is_due, after_success, after_failure}
 use Rattle.script_mean.specs.Task as task
@@ -66,14 +67,15 @@ module _ (o : Object) (gated : AreGated 0 o.made o.tasks) (closed : is_blocked o
     started = inl refl;
   }
 
-  written_goes : (p : Purpose) (t : OpenTask) (tail : ℕ) (batches : List (List Op)) → Goes p o.parked o.started (asks_written o t tail batches).state
+  written_goes : (p : Purpose) (t : OpenTask) (tail : ℕ) (batches : List Made) → Goes p o.parked o.started (asks_written o t tail batches).state
   written_goes p t tail [] = went p
-  written_goes p t tail (ops ∷ []) = waits
-  written_goes p t tail (ops ∷ next ∷ batches) = written_goes p t tail (next ∷ batches)
+  written_goes p t tail (made ∷ []) = waits
+  written_goes p t tail (made ∷ next ∷ batches) = written_goes p t tail (next ∷ batches)
 
   ask_goes : (again : OpenTask → Step) → ((u : OpenTask) → Goes u.purpose o.parked o.started (again u).state)
-      → (l : Life) (t : OpenTask) (batches : List (List Op)) (a : Ask) → Goes t.purpose o.parked o.started (on_ask again l o t batches a).state
+      → (l : Life) (t : OpenTask) (batches : List Made) (a : Ask) → Goes t.purpose o.parked o.started (on_ask again l o t batches a).state
   ask_goes again goes l t batches (ask.Store a) = waits
+  ask_goes again goes l t batches (ask.Open a) = waits
   ask_goes again goes l t batches (ask.Written tail) = written_goes t.purpose t tail batches
   ask_goes again goes l t batches ask.Sync = waits
   ask_goes again goes l t batches (ask.Call to method args) = outside_goes again goes t _ _

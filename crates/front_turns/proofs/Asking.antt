@@ -1,5 +1,5 @@
 -- Where an ask leads.
-use Rattle.std.proofs.Common.{◌≡◌, ◌∙◌, sym, refl, ap, ℕ, List, [], ◌∷◌, ◌++◌, map, append_assoc}
+use Rattle.std.proofs.Common.{◌≡◌, ◌∙◌, sym, refl, ap, subst, ℕ, List, [], ◌∷◌, ◌++◌, map, append_assoc}
 use Rattle.std.specs.Prelude.{Some}
 use Rattle.do_value.specs.declared.value.Value.{Value}
 use Rattle.script_mean.specs.declared.ask.Ask.TheVariants as ask
@@ -8,11 +8,13 @@ use Rattle.timeline.specs.declared.notice.Waits.TheVariants as waits
 use Rattle.front_turns.specs.Held.{HasAsked, WaitsFor}
 use Rattle.front_turns.specs.declared.object.Awaited.TheVariants as awaited
 use Rattle.storage_map.specs.declared.op.Op.{Op}
+use Rattle.write_batcher.specs.declared.batcher.Made.{Made}
 use Rattle.timeline.specs.Object as seen
 use Rattle.timeline.specs.Object.{Life, OpenTask, Step}
 use Rattle.timeline.specs.Steps.{batch, before, asks, asks_written, resumed}
 use Rattle.script_mean.specs.declared.answer.Answer.TheVariants.{Thrown}
-use Rattle.front_turns.specs.Held.{object_of}
+use Rattle.front_turns.specs.Held.{Says, object_of}
+use Rattle.front_turns.specs.declared.object.State.{State}
 use Rattle.timeline.specs.declared.entry.Body.{Body}
 use Rattle.timeline.specs.declared.entry.Body.TheVariants as body
 use Rattle.front_turns.specs.Paused.{Paused}
@@ -21,16 +23,21 @@ use Rattle.front_turns.specs.declared.asks.Went.{Went}
 use Rattle.front_turns.specs.declared.asks.Went.TheVariants as went
 use Rattle.front_turns.proofs.Saying.{says_more}
 
-written_last : (o : seen.Object) (t : OpenTask) (tail : ℕ) (first : List (List Op)) (last : List Op)
-    → asks_written o t tail (first ++ last ∷ []) ≡ before (map batch first) (asks o t (body.Batch last (Some tail)))
+written_last : (o : seen.Object) (t : OpenTask) (tail : ℕ) (first : List Made) (last : Made)
+    → asks_written o t tail (first ++ last ∷ []) ≡ before (map batch first) (asks o t (body.Batch last.batch (Some tail)))
 written_last o t tail [] last = refl
 written_last o t tail (a ∷ []) last = refl
 written_last o t tail (a ∷ b ∷ first) last = ap (before (batch a ∷ [])) (written_last o t tail (b ∷ first) last)
 
 -- All batches but the last are said, and then the last one is asked.
-pub written_by_last : (o : seen.Object) (t : OpenTask) (tail : ℕ) (all first : List (List Op)) (last : List Op) → all ≡ first ++ last ∷ []
-    → asks_written o t tail all ≡ before (map batch first) (asks o t (body.Batch last (Some tail)))
+pub written_by_last : (o : seen.Object) (t : OpenTask) (tail : ℕ) (all first : List Made) (last : Made) → all ≡ first ++ last ∷ []
+    → asks_written o t tail all ≡ before (map batch first) (asks o t (body.Batch last.batch (Some tail)))
 written_by_last o t tail all first last e = ap (asks_written o t tail) e ∙ written_last o t tail first last
+
+-- The last one is asked with the operations that it has.
+pub asked_with : {T : Type 0} (see : T → Paused) (l : Life) (old new : List Body) (s : State T) (o : seen.Object) (t : OpenTask) (tail : ℕ) (ops same : List Op)
+    → ops ≡ same → Says see l old new s (asks o t (body.Batch ops (Some tail))) → Says see l old new s (asks o t (body.Batch same (Some tail)))
+asked_with see l old new s o t tail ops same e says = subst (λ (xs : List Op). Says see l old new s (asks o t (body.Batch xs (Some tail)))) e says
 
 before_both : (xs ys : List Body) (s : Step) → before xs (before ys s) ≡ before (xs ++ ys) s
 before_both xs ys s = ap (λ (says : List Body). record { says = says; state = s.state }) (sym (append_assoc xs ys s.says))

@@ -5,7 +5,7 @@ use Rattle.do_value.specs.Seen.{tree_of, trees_in}
 use Rattle.do_value.specs.Tree.{Tree}
 use Rattle.do_value.specs.declared.value.Value.{Value}
 use Rattle.script_mean.specs.declared.answer.Answer.TheVariants.{Thrown}
-use Rattle.storage_map.specs.declared.op.Op.{Op}
+use Rattle.write_batcher.specs.declared.batcher.Made.{Made}
 use Rattle.script_mean.specs.Task as task
 use Rattle.script_mean.specs.declared.ask.Ask.{Ask}
 use Rattle.do_tree.specs.Tree.{Script}
@@ -73,21 +73,21 @@ runs_first see l t o r stays fresh running gives of_class =
 
 -- What follows a turn, with the object that it leaves: it asked, it is done, it threw.
 pub asked_goes : {T : Type 0} (see : T → Paused) (l : Life) (old new : List Body) (w : Went T) (again : seen.Object → OpenTask → Step) (o p : seen.Object) (t : OpenTask)
-    (batches : List (List Op)) (fs : Fields) (a : Ask) (block : Bool) → p ≡ wrote batches (record o { fields = fs })
+    (batches : List Made) (fs : Fields) (a : Ask) (block : Bool) → p ≡ wrote batches (record o { fields = fs })
     → Goes see l old new w again (on_ask (again p) l p (record t { block = block }) batches a)
     → Goes see l old new w again (on_turn again l o t (Some (task.asked batches fs a block)))
 asked_goes see l old new w again o p t batches fs a block is goes =
     subst (λ (q : seen.Object). Goes see l old new w again (on_ask (again q) l q (record t { block = block }) batches a)) is goes
 
 pub done_says : {T : Type 0} (see : T → Paused) (l : Life) (old mid new : List Body) (s : State T) (again : seen.Object → OpenTask → Step) (o p : seen.Object) (t : OpenTask)
-    (purpose : seen.Purpose) (batches : List (List Op)) (fs : Fields) (v : Tree) → p ≡ wrote batches (record o { fields = fs }) → t.purpose ≡ purpose
+    (purpose : seen.Purpose) (batches : List Made) (fs : Fields) (v : Tree) → p ≡ wrote batches (record o { fields = fs }) → t.purpose ≡ purpose
     → mid ≡ old ++ map batch batches → Says see l mid new s (on_done p purpose v) → Says see l old new s (on_turn again l o t (Some (task.done batches fs v)))
 done_says see l old mid new s again o p t purpose batches fs v is why e says =
     says_more (map batch batches) e (subst (λ (q : seen.Object). Says see l mid new s (on_done q t.purpose v)) is
     (subst (λ (u : seen.Purpose). Says see l mid new s (on_done p u v)) (sym why) says))
 
 pub threw_says : {T : Type 0} (see : T → Paused) (l : Life) (old mid new : List Body) (s : State T) (again : seen.Object → OpenTask → Step) (o p : seen.Object) (t : OpenTask)
-    (purpose : seen.Purpose) (batches : List (List Op)) (fs : Fields) (v : Tree) → p ≡ wrote batches (record o { fields = fs }) → t.purpose ≡ purpose
+    (purpose : seen.Purpose) (batches : List Made) (fs : Fields) (v : Tree) → p ≡ wrote batches (record o { fields = fs }) → t.purpose ≡ purpose
     → mid ≡ old ++ map batch batches → Says see l mid new s (on_thrown p purpose v) → Says see l old new s (on_turn again l o t (Some (task.threw batches fs v false)))
 threw_says see l old mid new s again o p t purpose batches fs v is why e says =
     says_more (map batch batches) e (subst (λ (q : seen.Object). Says see l mid new s (on_thrown q t.purpose v)) is

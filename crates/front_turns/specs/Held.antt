@@ -3,7 +3,7 @@ use Rattle.std.specs.Prelude.{◌≡◌, ℕ, ◌+◌, ℤ, Bool, pos, ◌≤ℤ
 use Rattle.do_tree.specs.Tree.{Script}
 use Rattle.object_calls.specs.Numbered.{AreAtMost}
 use Rattle.storage_map.specs.Limits.{most_time}
-use Rattle.storage_map.specs.declared.op.Op.{Op}
+use Rattle.write_batcher.specs.declared.batcher.Made.{Made}
 use Rattle.script_mean.specs.Task as task
 use Rattle.script_mean.specs.Task.{Fields}
 use Rattle.script_mean.specs.declared.ask.Ask.{Ask}
@@ -57,7 +57,7 @@ pub record IsPaused (l : Life) (p : Paused) (r : Running) (t : OpenTask) : Type 
 
 -- The latest turn of a task ended with this ask.
 pub record HasAsked (l : Life) (t : OpenTask) (a : Ask) : Type 0 where
-  pub batches : List (List Op)
+  pub batches : List Made
   pub fields : Fields
   pub block : Bool
   pub turn : latest_turn l t ≡ Some (task.asked batches fields a block)

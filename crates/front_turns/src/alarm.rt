@@ -5,7 +5,8 @@ ghost use Rattle.storage_map.specs.Ops.{IsOp};
 ghost use Rattle.storage_map.specs.Stored.{alarm_after, alarm_step};
 ghost use Rattle.alarm_core.specs.AlarmRule.{touches};
 
-use storage_map::{Alarm, Batch, Op};
+use storage_map::{Alarm, Op};
+use write_batcher::Made;
 
 // What one operation makes of the alarm.
 fn step(alarm: Option<Alarm>, op: &Op) -> Option<Alarm>
@@ -53,23 +54,23 @@ pub(crate) fn any_touches(ops: &[Op]) -> bool
 
 // What the batches make of the alarm.
 #[tactic(auto, using(crate::proofs::Alarms::next_alarm))]
-pub(crate) fn after_batches(alarm: Option<Alarm>, batches: &[Batch]) -> Option<Alarm>
-    ensures { result ≡ alarm_after alarm (flat_map (λ ops. ops) batches.now) }
+pub(crate) fn after_batches(alarm: Option<Alarm>, batches: &[Made]) -> Option<Alarm>
+    ensures { result ≡ alarm_after alarm (flat_map (λ made. made.batch) batches.now) }
 {
     let mut after = alarm;
-    for batch in batches {
-        after = after_ops(after, batch.as_slice());
+    for made in batches {
+        after = after_ops(after, made.batch.as_slice());
     }
     after
 }
 
 // Whether one of them touches it.
 #[tactic(auto, using(crate::proofs::Alarms::next_any))]
-pub(crate) fn any_batch_touches(batches: &[Batch]) -> bool
-    ensures { result ≡ list_any touches (flat_map (λ ops. ops) batches.now) }
+pub(crate) fn any_batch_touches(batches: &[Made]) -> bool
+    ensures { result ≡ list_any touches (flat_map (λ made. made.batch) batches.now) }
 {
-    for batch in batches {
-        if any_touches(batch.as_slice()) {
+    for made in batches {
+        if any_touches(made.batch.as_slice()) {
             return true;
         }
     }

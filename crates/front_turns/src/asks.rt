@@ -20,8 +20,9 @@ use object_calls::{CallFault, MOST_DEPTH, admit};
 use script_mean::Ask;
 use script_ops::Refusal;
 use std::alloc::Global;
-use storage_map::{Batch, Identity, StoreAsk};
+use storage_map::{Identity, StoreAsk};
 use timeline::{Body as Said, Message};
+use write_batcher::Made;
 
 /// Where a turn of a task leaves its object: it rests; or a call was refused, and the task goes on with what that throws.
 #[derive(Drop)]
@@ -199,7 +200,7 @@ fn calls<T: Task + Drop>(
 }
 
 // The batches before the last one, and that one.
-fn split_last(batches: Vec<Batch>) -> Option<(Vec<Batch>, Batch)>
+fn split_last(batches: Vec<Made>) -> Option<(Vec<Made>, Made)>
     ensures none { IfNone result (batches.items ≡ []) }
     ensures some { IfSome result (λ r. batches.items ≡ r.0.items ++ r.1 ∷ []) }
 {
@@ -225,7 +226,7 @@ fn asks_written<T: Task + Drop>(
     object: Object<T>,
     running: Running,
     task: T,
-    batches: Vec<Batch>,
+    batches: Vec<Made>,
     tail: u32,
 ) -> Mem<State<T>>
     ensures { IfOk result (λ s. (l : Life) (ts : List OpenTask) (t : OpenTask) → Holds T.seen l object ts → IsPaused l (T.seen task) running t
@@ -236,10 +237,10 @@ fn asks_written<T: Task + Drop>(
             drop(task);
             Ok(State::Idle { object })
         }
-        Some((batches, batch)) => {
+        Some((batches, made)) => {
             say_batches(says, batches)?;
             let last = Said::Batch {
-                batch,
+                batch: made.into_batch(),
                 tail: Some(tail),
             };
             let state = asks(says, object, running, task, last, Asked::Taken)?;
@@ -248,13 +249,13 @@ fn asks_written<T: Task + Drop>(
     }
 }
 
-// A read is asked behind these batches.
+// A read is asked behind these batches, an open ask as another.
 fn asks_store<T: Task + Drop>(
     says: &mut Vec<Said>,
     object: Object<T>,
     running: Running,
     task: T,
-    batches: Vec<Batch>,
+    batches: Vec<Made>,
     ask: StoreAsk,
 ) -> Mem<State<T>>
     ensures { IfOk result (λ s. (l : Life) (ts : List OpenTask) (t : OpenTask) (again : SeenObject → OpenTask → Step)
@@ -281,7 +282,7 @@ fn asks_sync<T: Task + Drop>(
     object: Object<T>,
     running: Running,
     task: T,
-    batches: Vec<Batch>,
+    batches: Vec<Made>,
 ) -> Mem<State<T>>
     ensures { IfOk result (λ s. (l : Life) (ts : List OpenTask) (t : OpenTask) (again : SeenObject → OpenTask → Step)
         → Holds T.seen l object ts → IsPaused l (T.seen task) running t
@@ -300,7 +301,7 @@ fn asks_call<T: Task + Drop>(
     object: Object<T>,
     running: Running,
     task: T,
-    batches: Vec<Batch>,
+    batches: Vec<Made>,
     to: Identity,
     method: Text,
     args: Args,
@@ -344,7 +345,7 @@ fn asks_fetch<T: Task + Drop>(
     object: Object<T>,
     running: Running,
     task: T,
-    batches: Vec<Batch>,
+    batches: Vec<Made>,
     value: Value,
 ) -> Mem<Went<T>>
     ensures { IfOk result (λ w. (l : Life) (ts : List OpenTask) (t : OpenTask) (again : SeenObject → OpenTask → Step)
@@ -381,7 +382,7 @@ pub(crate) fn on_ask<T: Task + Drop>(
     object: Object<T>,
     running: Running,
     task: T,
-    batches: Vec<Batch>,
+    batches: Vec<Made>,
     ask: Ask,
 ) -> Mem<Went<T>>
     ensures { IfOk result (λ w. (l : Life) (ts : List OpenTask) (t : OpenTask) (again : SeenObject → OpenTask → Step)
@@ -391,6 +392,10 @@ pub(crate) fn on_ask<T: Task + Drop>(
     match ask {
         Ask::Store(ask) => {
             let state = asks_store(says, object, running, task, batches, ask)?;
+            Ok(Went::Rests(state))
+        }
+        Ask::Open(read) => {
+            let state = asks_store(says, object, running, task, batches, read)?;
             Ok(Went::Rests(state))
         }
         Ask::Written { tail } => {

@@ -22,11 +22,11 @@ use do_tree::Checked;
 use do_value::{Fields, Mem, NoMemory, Value};
 use script_mean::{Answer, Ask};
 use std::alloc::Global;
-use storage_map::Batch;
 use timeline::Body as Said;
+use write_batcher::Made;
 
 // The object after a turn that closed these batches.
-fn wrote<T: Task + Drop>(object: Object<T>, fields: Fields, batches: &Vec<Batch>) -> Object<T>
+fn wrote<T: Task + Drop>(object: Object<T>, fields: Fields, batches: &Vec<Made>) -> Object<T>
     ensures object { (ts : List OpenTask) → object_of result ts ≡ steps.wrote batches.now.items (record (object_of object ts) { fields = fields }) }
     ensures holds { (l : Life) (ts : List OpenTask) → Holds T.seen l object ts → Holds T.seen l result ts }
 {
@@ -46,7 +46,7 @@ fn after_pause<T: Task + Drop>(
     object: Object<T>,
     running: Running,
     task: T,
-    batches: Vec<Batch>,
+    batches: Vec<Made>,
     ask: Ask,
     fields: Fields,
 ) -> Mem<Went<T>>
@@ -76,7 +76,7 @@ fn after_done<T: Task + Drop>(
     says: &mut Vec<Said>,
     object: Object<T>,
     running: Running,
-    batches: Vec<Batch>,
+    batches: Vec<Made>,
     value: Value,
     fields: Fields,
 ) -> Mem<State<T>>
@@ -97,7 +97,7 @@ fn after_throw<T: Task + Drop>(
     says: &mut Vec<Said>,
     object: Object<T>,
     running: Running,
-    batches: Vec<Batch>,
+    batches: Vec<Made>,
     value: Value,
     fields: Fields,
 ) -> Mem<State<T>>
@@ -116,7 +116,7 @@ fn after_throw<T: Task + Drop>(
 fn after_reset<T: Task + Drop>(
     says: &mut Vec<Said>,
     running: Running,
-    batches: Vec<Batch>,
+    batches: Vec<Made>,
 ) -> Mem<State<T>>
     ensures { IfOk result (λ s. (l : Life) (o : SeenObject) (t : OpenTask) (again : SeenObject → OpenTask → Step) (fields : Kept) (value : Tree)
         → IsRunning running t → Says T.seen l says.old.items says.new.items s (steps.on_turn again l o t (Some (threw batches.items fields value true)))) }
@@ -132,7 +132,7 @@ fn throws<T: Task + Drop>(
     says: &mut Vec<Said>,
     object: Object<T>,
     running: Running,
-    batches: Vec<Batch>,
+    batches: Vec<Made>,
     value: Value,
     fields: Fields,
     reset: bool,
@@ -157,7 +157,7 @@ fn throws<T: Task + Drop>(
 fn after_stop<T: Task + Drop>(
     says: &mut Vec<Said>,
     running: Running,
-    batches: Vec<Batch>,
+    batches: Vec<Made>,
 ) -> Mem<State<T>>
     ensures { IfOk result (λ s. (l : Life) (o : SeenObject) (t : OpenTask) (again : SeenObject → OpenTask → Step)
         → IsRunning running t → Says T.seen l says.old.items says.new.items s (steps.on_turn again l o t (Some (exceeded batches.items)))) }

@@ -12,6 +12,7 @@ use Rattle.storage_map.specs.Limits.{Object}
 use Rattle.front_half.proofs.Fitted.{named}
 use Rattle.output_gate.specs.Logs.{IsFresh}
 use Rattle.output_gate.specs.Serving.{IsBack}
+use Rattle.object_core.specs.Limited.{end_in}
 use Rattle.object_core.specs.One.{AreFresh, class_in}
 use Rattle.host_workers.specs.declared.joining.Halves.{Halves}
 use Rattle.host_core.specs.Begun.{HasBegun, IsMountedAt}
@@ -53,5 +54,6 @@ module _ {D : Type 0} (moment_of : D → ℕ) (left_since : D → ℕ → List �
       object = fresh.identity ∙ at.object;
       left = refl;
       limited = fresh.limit ∙ at.limited;
+      end = ap end_in fresh.store ∙ at.mount.at_rest.end;
     };
   }

@@ -28,11 +28,14 @@ use Rattle.front_half.specs.Standing.{IsClass, IsHalf, Stood, is_stopped}
 use Rattle.front_half.specs.Turning.{CanTurn}
 use Rattle.object_front.specs.declared.evaluated.Evaluated.{Evaluated}
 use Rattle.front_half.specs.declared.half.Half.{Half}
+use Rattle.output_gate.proofs.Written.{written_history}
 use Rattle.output_gate.specs.Storing.{IsDiskOf}
 use Rattle.output_gate.specs.Telling.{HasTold, opened_map}
+use Rattle.output_gate.specs.Written.{AreFilled, MayBe}
 use Rattle.placement.specs.Slots.{Slots, object_at}
 use Rattle.storage_map.specs.Limits.{Object}
 use Rattle.timeline.specs.Headline.{IsHistory, IsPrefix}
+use Rattle.timeline.specs.History.{history as logged}
 use Rattle.timeline.specs.Logs.{Backed, Fronted, backed, fronted}
 use Rattle.timeline.specs.Switch.{SwitchLog}
 use Rattle.timeline.specs.declared.back_log.Stop.{Stop}
@@ -200,6 +203,16 @@ module _ {D : Type 0} (moment_of : D → ℕ) (left_since : D → ℕ → List �
         subst (λ (n : ℕ). IsFullAt n stop.cause) slot.begun.limited
         ((limited script slot.origin slot.one).full stop (subst (λ (log : Backed). Contains log.stops stop) back_is has))
 
+    filled_in : IsTold (told row.store) → (object : Object) → MayBe row.identity object
+        → AreFilled limit slot.origin.extent.end object (logged (fronted row.front) (backed row.back))
+    filled_in is_told object may =
+        let by = limited script slot.origin slot.one in
+        let logs = (tells script slot.origin row.store store_is is_told slot.one).logs in
+        let all = written_history slot.origin.extent.limit slot.origin.extent.end core.back logs (by.written row.store store_is is_told) (fronted row.front) object
+        (subst (λ (o : Option Object). MayBe o object) identity_is may) in
+        subst (λ (log : Backed). AreFilled limit slot.origin.extent.end object (logged (fronted row.front) log)) (sym back_is)
+        (subst (λ (n : ℕ). AreFilled n slot.origin.extent.end object (logged (fronted row.front) (backed core.back.log))) slot.begun.limited all)
+
     drops_in : IsTold (told row.store) → AreFitting script (class_in script named) posts → DropsOnly posts (fronted row.front) row.back.downs.items
     unfolding served_in
     drops_in is_told fit =
@@ -233,6 +246,7 @@ module _ {D : Type 0} (moment_of : D → ℕ) (left_since : D → ℕ → List �
     routes = routes_in limit script content named posts routed inbox out slot;
     owed = owed_in limit script content named posts routed inbox out slot;
     full = full_in limit script content named posts routed inbox out slot;
+    filled = filled_in limit script content named posts routed inbox out slot;
     unended = unended_in limit script content named posts routed inbox out slot;
     drops = drops_in limit script content named posts routed inbox out slot;
     silent = silent_in limit script content named posts routed inbox out slot;

@@ -3,6 +3,7 @@ use Rattle.std.specs.Prelude.{◌≡◌, ℕ, List, [], ◌∷◌, Option, Some,
 use Rattle.batch_journal.specs.Moments.{IsTold}
 use Rattle.do_tree.specs.Tree.{Script}
 use Rattle.front_half.specs.Standing.{nothing_logged}
+use Rattle.output_gate.specs.Examples.{some_object}
 use Rattle.output_gate.specs.Logs.{no_log}
 use Rattle.storage_map.specs.Limits.{Object}
 use Rattle.storage_map.specs.declared.op.Op.TheVariants.{DeleteAll}
@@ -40,3 +41,9 @@ IsTouchedBy S log = (posts : List Event) (routed : List Message) (remaining : Li
 -- A slot that had an object at the opening has it still.
 abbrev pub KeepsObject : (S : Type 0) → Type 0
 KeepsObject S = (object : Object) (row : SlotReport S) → IsObjectIn (Some object) row → row.identity ≡ Some object
+
+-- No row of a slot that had no object, and whose journal may have 4,096 bytes, shows that it was full as this log says.
+abbrev pub IsNoFullRow : {S : Type 0} → (S → ℕ) → (S → ℕ → List ℕ → Type 0) → (S → Option (List ℕ)) → (S → ℕ) → Backed → Type 0
+IsNoFullRow {S} moment_of left_since told faults_of log = (script : Script) (content : Option (List ℕ)) (posts : List Event) (routed : List Message)
+    (row : SlotReport S) → IsTold (told row.store) → backed row.back ≡ log → row.identity ≡ Some some_object
+    → IsRow moment_of left_since told faults_of 4096 script content None posts routed row → ⊥

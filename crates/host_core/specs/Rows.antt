@@ -20,9 +20,11 @@ use Rattle.object_messages.specs.Ends.{TellNoEnd}
 use Rattle.object_messages.specs.Unmoved.{AreAnswers}
 use Rattle.output_gate.specs.Kept.{RecoversTo}
 use Rattle.output_gate.specs.Telling.{HasTold, opened_map}
+use Rattle.output_gate.specs.Written.{AreFilled, MayBe}
 use Rattle.placement.specs.Slots.{Slots, object_at}
 use Rattle.storage_map.specs.Limits.{Object}
 use Rattle.timeline.specs.Headline.{IsHistory, IsPrefix}
+use Rattle.timeline.specs.History.{history as logged}
 use Rattle.timeline.specs.Logs.{fronted, backed}
 use Rattle.timeline.specs.Switch.{SwitchLog}
 use Rattle.timeline.specs.declared.back_log.Stop.{Stop}
@@ -58,7 +60,8 @@ RecoversAsOpened left_since origin row = (c : List ℕ) → left_since row.store
 -- with which it starts, and events were delivered through the input gate; as long as none of the delivered events gave it a class, it has done
 -- nothing; what a crash leaves, now or at any moment since the opening, recovers to a prefix of its whole batches, which since a release
 -- holds what the release needs, and where nothing was taken to what it recovered to at the opening; nobody was replied to more often than he
--- called, and each call and fetch that left was sent; where no incarnation has stopped, no message that left tells of an end; where
+-- called, and each call and fetch that left was sent; where no incarnation has stopped, no message that left tells of an end; at an end by a
+-- full journal the frame of what was taken and had not flown would have passed the limit, and the end tells the bytes that were needed; where
 -- what was posted fits, no call and no binding of it was dropped; and an object of no class of the script, to which nothing but answers was
 -- posted, asked nothing. Over any disk: an end by a full journal names this number of bytes, and tells more than these.
 pub record IsRow {S : Type 0} (moment_of : S → ℕ) (left_since : S → ℕ → List ℕ → Type 0) (told : S → Option (List ℕ)) (faults_of : S → ℕ)
@@ -80,6 +83,8 @@ pub record IsRow {S : Type 0} (moment_of : S → ℕ) (left_since : S → ℕ �
   pub owed : IsTold (told row.store) → IsOwed (fronted row.front) (messages row.back.released.items)
   pub unended : IsTold (told row.store) → (backed row.back).stops ≡ [] → TellNoEnd (messages row.back.released.items)
   pub full : (stop : Stop) → Contains (backed row.back).stops stop → IsFullAt limit stop.cause
+  pub filled : IsTold (told row.store) → (object : Object) → MayBe row.identity object
+      → AreFilled limit origin.extent.end object (logged (fronted row.front) (backed row.back))
   pub drops : IsTold (told row.store) → AreFitting script (class_in script named) posts → DropsOnly posts (fronted row.front) row.back.downs.items
   pub silent : IsTold (told row.store) → IsOfNoClass script named → AreAnswers posts → asked_in (messages row.back.released.items) ≡ []
 

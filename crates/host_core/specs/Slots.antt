@@ -4,6 +4,7 @@ use Rattle.do_disk.specs.Disk.{IfTold, next_count}
 use Rattle.do_tree.specs.Tree.{Script}
 use Rattle.lane.specs.Lanes.{Both, sent_on, StartsWith}
 use Rattle.batch_journal.specs.Frames.{Frame, batches_in}
+use Rattle.batch_journal.specs.Laws.{end_after}
 use Rattle.batch_journal.specs.Reading.{IsObjectOf}
 use Rattle.batch_journal.specs.Recovery.{Recovers}
 use Rattle.storage_map.specs.Limits.{Object}
@@ -14,7 +15,7 @@ use Rattle.object_core.specs.declared.object.Core.{Core}
 use Rattle.host_core.specs.Acting.{HasSettled}
 
 -- An object runs from the frames that its slot's file, of this content, recovered to, and which name this object, since the first call of
--- its disk; its journal may have so many bytes.
+-- its disk; its journal may have so many bytes, and ended behind these frames.
 pub record IsBegun (limit : ℕ) (content : Option (List ℕ)) (named : Option Object) (origin : Origin) : Type 0 where
   pub frames : List Frame
   pub recovered : IfTold content (λ c. Recovers c frames)
@@ -23,7 +24,8 @@ pub record IsBegun (limit : ℕ) (content : Option (List ℕ)) (named : Option O
   pub opening : origin.opening ≡ next_count 0
   pub object : origin.object ≡ named
   pub left : origin.left ≡ []
-  pub limited : origin.limit ≡ limit
+  pub limited : origin.extent.limit ≡ limit
+  pub end : origin.extent.end ≡ end_after frames
 
 -- The object is one; what was posted to the slot went to the object before it had this queue, or into its queue, and the first of it to the object;
 -- what was routed from the slot was taken of the object before, or came out of its queue, into which the first of what left went.

@@ -232,6 +232,7 @@ fn adopt<D: Disk + Drop>(
                 journal,
                 identity: _identity,
                 map: _map,
+                index: _index,
             } = mounted;
             *unopened = Some(journal.into_disk());
             Err(end)

@@ -1,5 +1,6 @@
 //! Examples of rows that no report has: functions without a body, for their clauses. The logs stand in `specs/RowExamples.antt`.
-ghost use Rattle.host_core.specs.RowExamples.{IsNoRow, IsTouchedBy, KeepsObject, answered_unbound, wiped};
+ghost use Rattle.output_gate.specs.Examples.{full_early};
+ghost use Rattle.host_core.specs.RowExamples.{IsNoFullRow, IsNoRow, IsTouchedBy, KeepsObject, answered_unbound, wiped};
 
 use do_disk::Disk;
 
@@ -16,4 +17,9 @@ pub fn unknown_class_writes_nothing<S>()
 /// A slot that had an object keeps it.
 pub fn objects_stay<S>()
     ensures { KeepsObject S }
+{}
+
+/// A journal in which nothing stood isn't full at a small write, whatever the end says.
+pub fn small_writes_fill_no_slot<D: Disk>()
+    ensures { IsNoFullRow D.moment_of D.left_since D.told D.faults_of full_early }
 {}

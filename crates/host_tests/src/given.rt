@@ -91,9 +91,19 @@ fn input_of(alloc: Global, given: &Json) -> Result<Vec<u8>, Fail> {
     let mut input = Vec::new(alloc);
     let lines = given.get("lines").and_then(Json::as_array);
     for line in lines.map_or(&[][..], |lines| lines.as_slice()) {
-        add_line(alloc, &mut input, line)?;
+        add_lines(alloc, &mut input, line)?;
     }
     Ok(input)
+}
+
+// A record `{"times": n, "line": LINE}` is that line so many times, anything else one line.
+fn add_lines(alloc: Global, input: &mut Vec<u8>, line: &Json) -> Result<(), Fail> {
+    let times = number_of(line, "times").unwrap_or(1);
+    let one = line.get("line").unwrap_or(line);
+    for _ in 0..times {
+        add_line(alloc, input, one)?;
+    }
+    Ok(())
 }
 
 // A record of pieces is written as they stand, any other JSON compactly and with LF.
@@ -130,14 +140,24 @@ fn add_piece(alloc: Global, input: &mut Vec<u8>, piece: &Json) -> Result<(), Fai
     Ok(())
 }
 
-// More bytes are told by their number.
+// More bytes are told by their number, and by the last of them.
 const MOST: usize = 1024;
+
+// How many are the last ones.
+const LAST: usize = 64;
 
 /// Adds the bytes of a text to the line, each LF as a mark.
 pub(crate) fn tell_bytes(line: &mut Telling, bytes: &[u8]) {
     if bytes.len() > MOST {
-        return line.tell(format!(in line.alloc(); "({} bytes)", bytes.len()));
+        let (_, last) = bytes.split_at(bytes.len().saturating_sub(LAST));
+        line.tell(format!(in line.alloc(); "({} bytes) ..", bytes.len()));
+        return tell_all(line, last);
     }
+    tell_all(line, bytes);
+}
+
+// Adds all of these bytes.
+fn tell_all(line: &mut Telling, bytes: &[u8]) {
     for byte in bytes {
         line.letter(if *byte == b'\n' { '⏎' } else { *byte as char });
     }

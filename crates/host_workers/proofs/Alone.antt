@@ -14,7 +14,8 @@ use Rattle.timeline.specs.declared.message.Message.{Message as Sent}
 use Rattle.timeline.specs.declared.notice.Notice.{Notice}
 use Rattle.timeline.specs.declared.notice.Stepped.{Stepped}
 use Rattle.timeline.specs.declared.notice.Stepped.TheVariants.{Did, Nothing}
-use Rattle.output_gate.proofs.Stored.{still_tells}
+use Rattle.output_gate.proofs.Stored.{still_end, still_tells}
+use Rattle.output_gate.proofs.Written.{written_fresh}
 use Rattle.output_gate.proofs.Unfit.{fit_taken, unfit_identity, unfit_log, unfit_notice}
 use Rattle.output_gate.specs.Entering.{Enters, is_unfit, notice_at}
 use Rattle.output_gate.specs.Flushing.{Flushes}
@@ -25,16 +26,18 @@ use Rattle.output_gate.specs.Storing.{HasLimit, KeepsDisk, KeepsLimit, KeepsTell
 use Rattle.output_gate.specs.Taking.{fit_of, is_wanted, may_take}
 use Rattle.output_gate.specs.Telling.{opened_map}
 use Rattle.output_gate.specs.declared.back.Back.{Back}
+use Rattle.output_gate.specs.Written.{FindsEnd}
 use Rattle.output_gate.specs.declared.back.Ending.{Ending}
+use Rattle.output_gate.specs.declared.back.Mode.TheVariants.{Mounted, Wanted}
 use Rattle.object_history.specs.Seen.{stand_of}
 use Rattle.object_core.proofs.Due.{is_due}
 use Rattle.object_core.proofs.Knowing.{knows_enters, knows_still}
-use Rattle.object_core.proofs.Limiting.{limited_as_before, limited_enters, limited_flush, limited_release, limited_remounts, limited_stays}
+use Rattle.object_core.proofs.Limiting.{limited_as_before, limited_enters, limited_flush, limited_noted, limited_release, limited_remounts, limited_stays, never_mends}
 use Rattle.object_core.proofs.Naming.{named_enters, named_still}
 use Rattle.object_core.specs.Alone.{IsBackAlone, KnowsObject, StuckAt}
 use Rattle.object_core.specs.Apart.{BackRuns}
 use Rattle.object_core.specs.Fitting.{known_over}
-use Rattle.object_core.specs.Limited.{IsLimitedBy}
+use Rattle.object_core.specs.Limited.{Extent, IsLimitedBy, end_in, extent_of}
 use Rattle.object_core.specs.One.{IsNamed, TellsNow}
 use Rattle.object_core.specs.Seen.{due_map, seen_of}
 use Rattle.host_workers.proofs.Backing.{TakesBy, ReleasesBy, MendsBy, did_not, err_not, flush_keeps, flushed_stuck, flushed_taken, free_of, log_taken, mend_keeps, release_keeps, stuck_still, take_keeps, taken_still}
@@ -57,9 +60,9 @@ module _ {D : Type 0} (moment_of : D → ℕ) (left_since : D → ℕ → List �
   abbrev Over : Back D → List Entry → List Notice → List Sent → Type 0
   Over = IsBackOver moment_of left_since told image faults_of start opening
 
-  module _ (object : Option Object) (limit : ℕ) (alarm : Option (ℤ × ℕ)) where
+  module _ (object : Option Object) (extent : Extent) (alarm : Option (ℤ × ℕ)) where
     abbrev Alone : Back D → List Entry → List Notice → List Sent → Type 0
-    Alone = IsBackAlone moment_of left_since told image faults_of start opening object limit alarm
+    Alone = IsBackAlone moment_of left_since told image faults_of start opening object extent alarm
 
     abbrev Stuck : Back D → List Entry → List Notice → Type 0
     Stuck back got notices = back.stuck ≡ true → is_stopped back ≡ false
@@ -77,7 +80,7 @@ module _ {D : Type 0} (moment_of : D → ℕ) (left_since : D → ℕ → List �
     }
 
     -- What is known of a back, by what is known of its cell and of its step.
-    pub alone_by : (back : Back D) (got : List Entry) (notices : List Notice) (out : List Sent) → Over back got notices out → IsNamed object back → IsLimitedBy limit back
+    pub alone_by : (back : Back D) (got : List Entry) (notices : List Notice) (out : List Sent) → Over back got notices out → IsNamed object back → IsLimitedBy told extent back
         → (TellsNow told back → alarm ≡ (opened_map start).alarm) → KnowsObject object back → Stuck back got notices → Alone back got notices out
     alone_by back got notices out over named limited at knows stuck = record {
       stands = over.stands;
@@ -141,8 +144,8 @@ module _ {D : Type 0} (moment_of : D → ℕ) (left_since : D → ℕ → List �
         took_all : later_got ≡ old.log.taken.items ++ e ∷ []
         took_all = took ∙ ap (λ (l : List Entry). l ++ e ∷ []) (one.took ∙ ap (λ (l : List Entry). old.log.taken.items ++ l) none ∙ append-nil old.log.taken.items)
 
-        limited_so : Enters old new e → IsLimitedBy limit new
-        limited_so enters = limited_enters limit old new e enters (same_disk.limit old.limit) one.limited
+        limited_so : Enters old new e → IsLimitedBy told extent new
+        limited_so enters = limited_enters moment_of left_since told image faults_of start opening (not (is_stopped old)) extent old new one.stands (still_tells told old.store new.store same_disk) one.limited e enters same_disk
 
         -- It doesn't fit.
         unfit_so : (enters : Enters old new e) → is_unfit (fit_of old e) ≡ true → (is_stopped new ≡ false → later ≡ notices) → After
@@ -186,7 +189,8 @@ module _ {D : Type 0} (moment_of : D → ℕ) (left_since : D → ℕ → List �
         loses off (inl same) =
             let taken : new.log.taken.items ≡ old.log.taken.items = ap (λ (x : Backed). x.taken) same.log in
             alone_by new later_got later later_out now (named_still object old new same.identity taken one.named)
-            (limited_as_before limit old new same (same_disk.limit old.limit) one.limited) (opened_at (still_tells told old.store new.store same_disk)) (knows_still object old new same.identity taken one.knows) (off_not off)
+            (limited_as_before moment_of left_since told image faults_of start opening (not (is_stopped old)) extent old new one.stands (still_tells told old.store new.store same_disk) one.limited
+            same (same_disk.limit old.limit) (λ mounted. same_disk.end)) (opened_at (still_tells told old.store new.store same_disk)) (knows_still object old new same.identity taken one.knows) (off_not off)
         loses off (inr enters) =
             entered (is_unfit (fit_of old e)) refl enters (λ goes. absurd (true≢false (sym off ∙ goes)))
 
@@ -218,7 +222,7 @@ module _ {D : Type 0} (moment_of : D → ℕ) (left_since : D → ℕ → List �
           let taken = flushed_taken faults_of old new flushes in
           let same = flushed_identity faults_of old new flushes in
           alone_by new later_got later later_out now (named_still object old new same taken one.named)
-          (limited_flush moment_of left_since told image faults_of start opening (not (is_stopped old)) limit old new one.stands differ flushes (has old.limit) one.limited)
+          (limited_flush moment_of left_since told image faults_of start opening (not (is_stopped old)) extent old new one.stands telling one.limited differ flushes (has old.limit))
           (opened_at telling) (knows_still object old new same taken one.knows) (stuck_on (flushed_stuck faults_of old new flushes) stopped taken took said telling)
 
       -- So does a flush.
@@ -244,13 +248,14 @@ module _ {D : Type 0} (moment_of : D → ℕ) (left_since : D → ℕ → List �
           let taken : new.log.taken.items ≡ old.log.taken.items =
           ap (λ (x : Backed). x.taken) (r.log disk.0 disk.1) ∙ log_taken old (moment_of disk.0) r.first r.first.body in
           alone_by new later_got later later_out now (named_still object old new r.identity taken one.named)
-          (limited_release moment_of left_since told image faults_of start opening (not (is_stopped old)) limit old new one.stands disk.0 disk.1 notices later out later_out r one.limited)
+          (limited_release moment_of left_since told image faults_of start opening (not (is_stopped old)) extent old new one.stands (still_tells told old.store new.store by.disk) one.limited
+          (not (is_stopped new)) now.stands disk.0 disk.1 notices later out later_out r)
           (opened_at (still_tells told old.store new.store by.disk)) (knows_still object old new r.identity taken one.knows)
           (λ is goes. did_not (by.barred on (ap (λ (s : Bool). not s && is_ready old.held.items old.durable) (sym r.stuck ∙ is))).nothing)
       release_as false on (Err fault) by now =
           let s = by.stays in
           let taken : new.log.taken.items ≡ old.log.taken.items = ap (λ (x : Backed). x.taken) s.log in
-          alone_by new later_got later later_out now (named_still object old new s.identity taken one.named) (limited_stays limit old new notices later out later_out s one.limited)
+          alone_by new later_got later later_out now (named_still object old new s.identity taken one.named) (limited_stays moment_of left_since told image faults_of start opening (not (is_stopped old)) extent old new one.stands (still_tells told old.store new.store by.disk) one.limited notices later out later_out s)
           (opened_at (still_tells told old.store new.store by.disk)) (knows_still object old new s.identity taken one.knows) (off_not by.stops.wanting)
 
       -- So does a release.
@@ -263,22 +268,23 @@ module _ {D : Type 0} (moment_of : D → ℕ) (left_since : D → ℕ → List �
       abbrev Remounted : Result Stepped NoMemory → Type 0
       Remounted = MendsBy moment_of left_since told image faults_of start opening old new got later_got notices later out later_out over
 
-      noted_limited : IsLimitedBy limit (record new { stopped = old.stopped }) → IsLimitedBy limit new
-      noted_limited by = record { kept = by.kept; journal = by.journal; full = by.full }
-
       -- Memory was wanting at it.
-      mend_lost : is_stopped new ≡ true → KeepsTelling told old.store new.store → (HasLimit old.limit old.store → HasLimit old.limit new.store) → Over new later_got later later_out
-          → IsAsBefore old new ⊎ ((ending : Ending) × (notice : Notice) × Remounts faults_of old (record new { stopped = old.stopped }) ending notice) → After
-      mend_lost off telling has now (inl same) =
+      mend_lost : is_stopped new ≡ true → FindsEnd told old new → (old.mode ≡ Mounted → new ≡ old) → KeepsTelling told old.store new.store → (HasLimit old.limit old.store → HasLimit old.limit new.store) → Over new later_got later later_out
+          → IsAsBefore old new ⊎ ((ending : Ending) × (notice : Notice) × (old.mode ≡ Wanted ending) × Remounts faults_of old (record new { stopped = old.stopped }) ending notice)
+          → After
+      mend_lost off finds rests telling has now (inl same) =
           let taken : new.log.taken.items ≡ old.log.taken.items = ap (λ (x : Backed). x.taken) same.log in
-          alone_by new later_got later later_out now (named_still object old new same.identity taken one.named) (limited_as_before limit old new same has one.limited)
+          alone_by new later_got later later_out now (named_still object old new same.identity taken one.named) (limited_as_before moment_of left_since told image faults_of start opening (not (is_stopped old)) extent old new one.stands telling one.limited
+          same has (λ mounted. still_end old.store new.store (ap (λ (b : Back D). b.store) (rests mounted))))
           (opened_at telling) (knows_still object old new same.identity taken one.knows) (off_not off)
-      mend_lost off telling has now (inr lost) =
+      mend_lost off finds rests telling has now (inr lost) =
           let noted : Back D = record new { stopped = old.stopped } in
-          let taken : new.log.taken.items ≡ old.log.taken.items = taken_still faults_of old noted lost.0 lost.1 lost.2 in
-          let same : new.identity ≡ old.identity = mended_identity faults_of old noted lost.0 lost.1 lost.2 in
+          let taken : new.log.taken.items ≡ old.log.taken.items = taken_still faults_of old noted lost.0 lost.1 lost.3 in
+          let same : new.identity ≡ old.identity = mended_identity faults_of old noted lost.0 lost.1 lost.3 in
           alone_by new later_got later later_out now (named_still object old new same taken one.named)
-          (noted_limited (limited_remounts limit old noted faults_of lost.0 lost.1 lost.2 has one.limited)) (opened_at telling) (knows_still object old new same taken one.knows) (off_not off)
+          (limited_noted told extent old.stopped new
+          (limited_remounts moment_of left_since told image faults_of start opening (not (is_stopped old)) extent old noted one.stands telling one.limited
+          lost.0 lost.1 lost.2 lost.3 finds has)) (opened_at telling) (knows_still object old new same taken one.knows) (off_not off)
 
       mend_as : (off : Bool) → is_stopped old ≡ off → (result : Result Stepped NoMemory) → Remounted result → (HasLimit old.limit old.store → HasLimit old.limit new.store)
           → Over new later_got later later_out → After
@@ -289,11 +295,11 @@ module _ {D : Type 0} (moment_of : D → ℕ) (left_since : D → ℕ → List �
           let taken : new.log.taken.items ≡ old.log.taken.items = taken_still faults_of old new m.ending m.notice m.remounts in
           let same = mended_identity faults_of old new m.ending m.notice m.remounts in
           alone_by new later_got later later_out now (named_still object old new same taken one.named)
-          (limited_remounts limit old new faults_of m.ending m.notice m.remounts has one.limited) (opened_at by.tells) (knows_still object old new same taken one.knows)
+          (limited_remounts moment_of left_since told image faults_of start opening (not (is_stopped old)) extent old new one.stands by.tells one.limited m.ending m.notice m.wanted m.remounts by.finds has) (opened_at by.tells) (knows_still object old new same taken one.knows)
           (λ is goes. did_not (by.barred on
           (ap (λ (s : Bool). not s && is_wanted old.mode) (sym (stuck_still faults_of old new m.ending m.notice m.remounts) ∙ is))).nothing)
       mend_as false on (Err fault) by has now =
-          mend_lost by.stops.wanting by.tells has now (⊎_elim (λ same. inl same) (λ lost. inr (lost.0, lost.1, lost.3)) by.lost.log)
+          mend_lost by.stops.wanting by.finds (λ mounted. (by.barred on (never_mends old mounted)).back) by.tells has now by.lost.log
 
       -- So does a mounting.
       pub mend_alone : (result : Result Stepped NoMemory) → Remounted result → (HasLimit old.limit old.store → HasLimit old.limit new.store) → After
@@ -305,11 +311,17 @@ module _ {D : Type 0} (moment_of : D → ℕ) (left_since : D → ℕ → List �
 pub begins_alone : {D : Type 0} (moment_of : D → ℕ) (left_since : D → ℕ → List ℕ → Type 0) (told : D → Option (List ℕ)) (image : D → List ℕ → Type 0) (faults_of : D → ℕ)
     (start : List (List Op)) (opening : ℕ) (back : Back D) → IsFresh back → IsBack moment_of left_since told image faults_of start opening back → HasLimit back.limit back.store
     → (got : List Entry) (notices : List Notice) (out : List Sent) → got ≡ [] → notices ≡ [] → out ≡ []
-    → IsBackAlone moment_of left_since told image faults_of start opening back.identity back.limit back.cache.alarm back got notices out
+    → IsBackAlone moment_of left_since told image faults_of start opening back.identity (extent_of back) back.cache.alarm back got notices out
 begins_alone moment_of left_since told image faults_of start opening back fresh known has got notices out no_entry no_notice no_message =
-    alone_by moment_of left_since told image faults_of start opening back.identity back.limit back.cache.alarm back got notices out
+    alone_by moment_of left_since told image faults_of start opening back.identity (extent_of back) back.cache.alarm back got notices out
     (begins_back moment_of left_since told image faults_of start opening back fresh known got notices out no_entry no_notice no_message) (inl refl)
-    (record { kept = refl; journal = has; full = λ stop is. none_has stop (ap (λ (x : Backed). x.stops) fresh.log) is })
+    (record {
+      kept = refl;
+      journal = has;
+      full = λ stop is. none_has stop (ap (λ (x : Backed). x.stops) fresh.log) is;
+      written = λ disk at tells.
+          written_fresh moment_of left_since told image faults_of start opening (not (is_stopped back)) back back.limit (end_in back.store) fresh.log known (λ journal is. sym (ap end_in is));
+    })
     (λ tells.
     ap (λ (m : Contents). m.alarm)
     (is_due moment_of left_since told image faults_of start opening back tells.0 tells.1 tells.2 known fresh.serves

@@ -21,6 +21,7 @@ use Rattle.output_gate.specs.Mending.{IsIdleMend, LosesMend, Mends, Remounts, ma
 use Rattle.output_gate.specs.Releasing.{IsIdleRelease, Releases, Stays, may_release, released_log, released_messages, released_notices}
 use Rattle.output_gate.specs.Serving.{IsAsBefore, IsBack, KeepsBack, StopsBy, is_stopped}
 use Rattle.output_gate.specs.Storing.{KeepsDisk, KeepsTelling}
+use Rattle.output_gate.specs.Written.{FindsEnd}
 use Rattle.output_gate.specs.Taking.{fit_of, may_take}
 use Rattle.output_gate.specs.Telling.{opened_map}
 use Rattle.output_gate.specs.declared.back.Back.{Back}
@@ -305,6 +306,7 @@ module _ {D : Type 0} (moment_of : D → ℕ) (left_since : D → ℕ → List �
     pub mended : result ≡ Ok Did → Mends faults_of old new notices later
     pub lost : OnErr result (LosesMend faults_of old new notices later)
     pub stops : StopsBy result new
+    pub finds : FindsEnd told old new
     pub tells : KeepsTelling told old.store new.store
     pub back : KeepsBack moment_of left_since told image faults_of old new
     pub line : later_got ≡ got

@@ -70,7 +70,7 @@ module _ {D T : Type 0} (moment_of : D → ℕ) (left_since : D → ℕ → List
     out = lanes.out ∙ is.out;
     some = is.some;
     back = λ start opening begun. keeps start opening (is.back start opening begun);
-    alone = λ start opening begun. alone start opening (run.objects slot) (run.limits slot) (run.alarms slot) (is.alone start opening begun);
+    alone = λ start opening begun. alone start opening (run.objects slot) (run.extents slot) (run.alarms slot) (is.alone start opening begun);
   }
 
 -- names of lanes that stay the same

@@ -22,7 +22,7 @@ pub record AreEnded {D T : Type 0} (moment_of : D → ℕ) (left_since : D → �
     (image : D → List ℕ → Type 0) (faults_of : D → ℕ) (origin : Origin) (alarm : Option (ℤ × ℕ)) (front : FrontCell T)
     (back : BackCell D T) (inbox : Both Event) (line : Both Entry) (notices : Both Notice) (out : Both Sent) : Type 0 where
   pub is_front : IsFrontCell (class_in (script_of front) origin.object) alarm front
-  pub is_back : IsCellAlone moment_of left_since told image faults_of origin.start origin.opening origin.object origin.limit alarm back
+  pub is_back : IsCellAlone moment_of left_since told image faults_of origin.start origin.opening origin.object origin.extent alarm back
   pub inbox_got : inbox.got ≡ front.inbox.got
   pub line_rest : IsRestOf front.line.sent back.line.got line
   pub notices_rest : IsRestOf back.notices.sent front.notices.got notices
@@ -44,5 +44,5 @@ pub record IsJoined {D T : Type 0} (moment_of : D → ℕ) (left_since : D → �
   pub given : sent_on core.inbox ≡ posts
   pub collected : core.out.got ≡ taken
   pub one : (origin : Origin) (alarm : Option (ℤ × ℕ)) → origin.left ≡ [] → IsFrontCell (class_in (script_of front) origin.object) alarm front
-      → IsCellAlone moment_of left_since told image faults_of origin.start origin.opening origin.object origin.limit alarm back
+      → IsCellAlone moment_of left_since told image faults_of origin.start origin.opening origin.object origin.extent alarm back
       → IsOne moment_of left_since told image faults_of (script_of front) origin core

@@ -10,6 +10,7 @@ use Rattle.output_gate.specs.Logs.{no_log}
 use Rattle.output_gate.specs.Serving.{IsBack, is_stopped}
 use Rattle.output_gate.specs.declared.back.Back.{Back}
 use Rattle.object_core.specs.Alone.{IsBackAlone}
+use Rattle.object_core.specs.Limited.{Extent}
 use Rattle.object_core.specs.One.{messages}
 use Rattle.host_workers.specs.Runs.{Tells}
 use Rattle.host_workers.specs.declared.back_cell.BackCell.{BackCell}
@@ -50,18 +51,18 @@ abbrev pub KeepsBackCell : {D T : Type 0} → (D → ℕ) → (D → ℕ → Lis
 KeepsBackCell moment_of left_since told image faults_of old new = (start : List (List Op)) (opening : ℕ)
     → IsBackCell moment_of left_since told image faults_of start opening old → IsBackCell moment_of left_since told image faults_of start opening new
 
--- Of the back of a slot with this object, this limit and this alarm when it was mounted: what is known of it where it ran alone, over what went
+-- Of the back of a slot with this object, this journal's extent and this alarm when it was mounted: what is known of it where it ran alone, over what went
 -- through the cell's own ends.
 abbrev pub IsCellAlone : {D T : Type 0} → (D → ℕ) → (D → ℕ → List ℕ → Type 0) → (D → Option (List ℕ)) → (D → List ℕ → Type 0) → (D → ℕ)
-    → (start : List (List Op)) → (opening : ℕ) → Option Object → (limit : ℕ) → (alarm : Option (ℤ × ℕ)) → BackCell D T → Type 0
-IsCellAlone moment_of left_since told image faults_of start opening object limit alarm cell =
-    IsBackAlone moment_of left_since told image faults_of start opening object limit alarm cell.back cell.line.got cell.notices.sent cell.out.sent
+    → (start : List (List Op)) → (opening : ℕ) → Option Object → Extent → (alarm : Option (ℤ × ℕ)) → BackCell D T → Type 0
+IsCellAlone moment_of left_since told image faults_of start opening object extent alarm cell =
+    IsBackAlone moment_of left_since told image faults_of start opening object extent alarm cell.back cell.line.got cell.notices.sent cell.out.sent
 
 abbrev pub KeepsCellAlone : {D T : Type 0} → (D → ℕ) → (D → ℕ → List ℕ → Type 0) → (D → Option (List ℕ)) → (D → List ℕ → Type 0) → (D → ℕ)
     → (old new : BackCell D T) → Type 0
-KeepsCellAlone moment_of left_since told image faults_of old new = (start : List (List Op)) (opening : ℕ) (object : Option Object) (limit : ℕ)
-    (alarm : Option (ℤ × ℕ)) → IsCellAlone moment_of left_since told image faults_of start opening object limit alarm old
-    → IsCellAlone moment_of left_since told image faults_of start opening object limit alarm new
+KeepsCellAlone moment_of left_since told image faults_of old new = (start : List (List Op)) (opening : ℕ) (object : Option Object) (extent : Extent)
+    (alarm : Option (ℤ × ℕ)) → IsCellAlone moment_of left_since told image faults_of start opening object extent alarm old
+    → IsCellAlone moment_of left_since told image faults_of start opening object extent alarm new
 
 -- The ends are those of the same lanes.
 pub record SameLanes {D T : Type 0} (old new : BackCell D T) : Type 0 where

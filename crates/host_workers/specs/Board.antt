@@ -82,7 +82,7 @@ pub record IsBackOf {D T : Type 0} (moment_of : D → ℕ) (left_since : D → �
   pub some : (start : List (List Op)) × (opening : ℕ) × run.begun slot start opening
   pub back : (start : List (List Op)) (opening : ℕ) → run.begun slot start opening → IsBackCell moment_of left_since told image faults_of start opening cell
   pub alone : (start : List (List Op)) (opening : ℕ) → run.begun slot start opening
-      → IsCellAlone moment_of left_since told image faults_of start opening (run.objects slot) (run.limits slot) (run.alarms slot) cell
+      → IsCellAlone moment_of left_since told image faults_of start opening (run.objects slot) (run.extents slot) (run.alarms slot) cell
 
 -- The switch of the run. The sink's count of faults is the one named as long as no write has failed, and rose where one did.
 pub record IsSwitchOf {W T : Type 0} (taken : W → Option (List ℕ)) (faults : W → ℕ) (run : Run) (cell : SwitchCell W T) : Type 0 where

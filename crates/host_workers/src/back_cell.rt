@@ -10,6 +10,7 @@ ghost use Rattle.output_gate.specs.Releasing.{Releases, may_release};
 ghost use Rattle.output_gate.specs.Serving.{IsBack, is_stopped};
 ghost use Rattle.output_gate.specs.Storing.{HasLimit};
 ghost use Rattle.output_gate.specs.Taking.{may_take};
+ghost use Rattle.object_core.specs.Limited.{extent_of};
 ghost use Rattle.host_workers.specs.Backs.{CanStep, IsBackCell, IsCellAlone, IsFresh, KeepsBackCell, KeepsCellAlone, SameLanes};
 
 use do_disk::Disk;
@@ -61,7 +62,7 @@ impl<D: Disk, T: Wait + Copy> BackCell<D, T> {
             → IsBackCell D.moment_of D.left_since D.told D.image D.faults_of start opening result }
         ensures alone { (start : List (List Op)) (opening : ℕ) → IsBack D.moment_of D.left_since D.told D.image D.faults_of start opening back
             → HasLimit back.limit back.store
-            → IsCellAlone D.moment_of D.left_since D.told D.image D.faults_of start opening back.identity back.limit back.cache.alarm result }
+            → IsCellAlone D.moment_of D.left_since D.told D.image D.faults_of start opening back.identity (extent_of back) back.cache.alarm result }
     {
         BackCell {
             back,

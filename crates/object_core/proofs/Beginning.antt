@@ -1,6 +1,6 @@
 -- An object whose slot was just mounted.
 use Rattle.std.proofs.Common.{◌≡◌, ◌∙◌, ap, sym, refl, subst, inl, inr, true≢false, ℕ, suc, List, [], ◌++◌, length, arith, Option}
-use Rattle.std.specs.Prelude.{Bool, is_some}
+use Rattle.std.specs.Prelude.{Bool, is_some, not}
 use Rattle.std.proofs.lemmas.List.Elements.{All-nil}
 use Rattle.std.specs.List.{All, Contains, flat_map}
 use Rattle.do_tree.specs.Tree.{Script}
@@ -19,7 +19,8 @@ use Rattle.object_front.specs.Came.{EventsCome}
 use Rattle.object_front.specs.Classed.{class_by}
 use Rattle.object_front.specs.declared.evaluated.Evaluated.{Evaluated}
 use Rattle.front_half.specs.declared.half.Half.{Half}
-use Rattle.output_gate.specs.Serving.{IsBack, IsBackAs}
+use Rattle.output_gate.proofs.Written.{written_fresh}
+use Rattle.output_gate.specs.Serving.{IsBack, IsBackAs, is_stopped}
 use Rattle.output_gate.specs.Telling.{opened_map}
 use Rattle.output_gate.specs.declared.back.Back.{Back}
 use Rattle.output_gate.specs.declared.back.Mode.TheVariants.{Mounted}
@@ -31,6 +32,7 @@ use Rattle.object_core.proofs.Dropping.{none_said}
 use Rattle.object_core.proofs.Rebuilding.{One, due_now}
 use Rattle.object_core.specs.Dropping.{IsFitFor, MayDrop}
 use Rattle.object_core.specs.Fitting.{known_over}
+use Rattle.object_core.specs.Limited.{end_in}
 use Rattle.object_core.specs.One.{AreFresh, Origin, class_in, messages, mounted_at, unused}
 use Rattle.object_core.specs.Seen.{due_map, seen_of}
 
@@ -95,7 +97,14 @@ module _ {D : Type 0} (moment_of : D → ℕ) (left_since : D → ℕ → List �
       answer = λ so. absurd (true≢false (sym so));
     };
     sticks = λ tells on stuck. absurd (true≢false (sym stuck ∙ are.stands.stuck));
-    limited = record { kept = refl; journal = are.limit; full = λ stop has. no_stop stop (ap (λ (x : Backed). x.stops) are.back_log) has };
+    limited = record {
+      kept = refl;
+      journal = are.limit;
+      full = λ stop has. no_stop stop (ap (λ (x : Backed). x.stops) are.back_log) has;
+      written = λ disk at tells.
+          written_fresh moment_of left_since told image faults_of start opening (not (is_stopped back)) back origin.extent.limit origin.extent.end are.back_log known
+          (λ journal is. sym (ap end_in is));
+    };
     drops = λ tells. record {
       unbound = λ on none. (ap (λ (x : Option ℕ). fresh x back.cache.alarm) none, ap (λ (x : Fronted). x.sent) are.front_log);
       unsaid = λ none. none_said (fronted front.log) are.front_log;

@@ -79,8 +79,8 @@ module _ {D : Type 0} (moment_of : D → ℕ) (left_since : D → ℕ → List �
       (λ tells. record { heard = s.0; given = []; steps = s.1; are = inr refl; come = sym (append-nil notices.waiting) })
       (hears_on moment_of left_since told image faults_of script origin front inbox old new line notices out one by.tells (λ goes. sym by.stopped ∙ goes) []
       (one.lost ++ line.waiting) [] notices.waiting steps refl (sym (append-nil notices.waiting)))
-      (limited_flush moment_of left_since told image faults_of origin.start origin.opening (not (is_stopped old)) origin.limit old new one.back_stands differ flushes
-      (by.limit old.limit) one.limited)
+      (limited_flush moment_of left_since told image faults_of origin.start origin.opening (not (is_stopped old)) origin.extent old new one.back_stands by.tells one.limited
+      differ flushes (by.limit old.limit))
 
   pub flush_keeps : After
   flush_keeps = ⊎_elim nothing_flown flown (cases_eq old.before old.durable)

@@ -15,22 +15,23 @@ use Rattle.timeline.specs.declared.notice.Stepped.{Stepped}
 use Rattle.timeline.specs.declared.notice.Stepped.TheVariants.{Did, Nothing}
 use Rattle.object_front.specs.declared.evaluated.Evaluated.{Evaluated}
 use Rattle.front_half.specs.declared.half.Half.{Half}
+use Rattle.output_gate.proofs.Stored.{still_end}
 use Rattle.output_gate.specs.Mending.{IsIdleMend, Mends, LosesMend, Remounts, may_mend}
 use Rattle.output_gate.specs.Storing.{HasLimit, KeepsTelling}
 use Rattle.output_gate.specs.Serving.{IsBack, IsAsBefore, KeepsBack, StopsBy, is_stopped}
 use Rattle.output_gate.specs.Telling.{opened_map}
+use Rattle.output_gate.specs.Written.{FindsEnd}
 use Rattle.output_gate.specs.declared.back.Back.{Back}
 use Rattle.output_gate.specs.declared.back.Ending.{Ending}
-use Rattle.output_gate.specs.declared.back.Mode.TheVariants.{Wanted}
+use Rattle.output_gate.specs.declared.back.Mode.TheVariants.{Mounted, Wanted}
 use Rattle.object_history.proofs.GateStepping as gate
 use Rattle.object_history.specs.Pair.{mounted, wanted}
 use Rattle.object_history.specs.Seen.{rear_of, stand_of}
 use Rattle.front_history.specs.Turns.{BackStepsKeep}
 use Rattle.object_core.proofs.Due.{steps_as_due, steps_unheard}
 use Rattle.object_core.proofs.Lanes.{took_none, sent_last}
-use Rattle.object_core.proofs.Limiting.{limited_as_before, limited_remounts}
+use Rattle.object_core.proofs.Limiting.{limited_as_before, limited_noted, limited_remounts, never_mends}
 use Rattle.object_core.proofs.Rebuilding.{One, hears_on, due_now, told_earlier, stepped, unseen, same_queue}
-use Rattle.object_core.specs.Limited.{IsLimitedBy}
 use Rattle.object_core.specs.One.{Origin, messages}
 
 -- What the back's own contract says of a mounting.
@@ -42,6 +43,7 @@ pub record MendsBy {D : Type 0} (moment_of : D → ℕ) (left_since : D → ℕ 
   pub mended : result ≡ Ok Did → Mends faults_of old new (sent_on notices) (sent_on later)
   pub lost : OnErr result (LosesMend faults_of old new (sent_on notices) (sent_on later))
   pub stops : StopsBy result new
+  pub finds : FindsEnd told old new
   pub tells : KeepsTelling told old.store new.store
   pub limit : HasLimit old.limit old.store → HasLimit old.limit new.store
   pub outlet : later.got ≡ notices.got
@@ -87,9 +89,9 @@ module _ {D : Type 0} (moment_of : D → ℕ) (left_since : D → ℕ → List �
       (subst (λ (n : Both Notice). One moment_of left_since told image faults_of script origin front inbox old line n out)
       (sym (same_queue notices later got (sym (took_none notices later got said)))) one)
 
-  mounts : is_stopped old ≡ false → is_stopped new ≡ false → Known → KeepsTelling told old.store new.store → KeepsOwn → later.got ≡ notices.got
+  mounts : is_stopped old ≡ false → is_stopped new ≡ false → Known → FindsEnd told old new → KeepsTelling told old.store new.store → KeepsOwn → later.got ≡ notices.got
       → Mends faults_of old new (sent_on notices) (sent_on later) → After
-  mounts on goes known telling own got m =
+  mounts on goes known finds telling own got m =
       let s = gate.mend_steps moment_of left_since told image faults_of origin.start origin.opening (not (is_stopped old)) old new (sent_on notices) (sent_on later) one.back_stands m in
       stepped moment_of left_since told image faults_of script origin front inbox keeps old new line notices later out out one known telling
       (identity_still faults_of old new m.ending m.notice m.remounts)
@@ -109,15 +111,13 @@ module _ {D : Type 0} (moment_of : D → ℕ) (left_since : D → ℕ → List �
       })
       (hears_on moment_of left_since told image faults_of script origin front inbox old new line notices out one telling (λ off. on) [] (one.lost ++ line.waiting) s.0
       later.waiting s.2 refl (sent_last notices later s.0 got s.1))
-      (limited_remounts origin.limit old new faults_of m.ending m.notice m.remounts own one.limited)
-
-  limited_noted : IsLimitedBy origin.limit (record new { stopped = old.stopped }) → IsLimitedBy origin.limit new
-  limited_noted by = record { kept = by.kept; journal = by.journal; full = by.full }
+      (limited_remounts moment_of left_since told image faults_of origin.start origin.opening (not (is_stopped old)) origin.extent old new one.back_stands telling one.limited
+      m.ending m.notice m.wanted m.remounts finds own)
 
   -- What the front is told of it is lost.
-  unheard : is_stopped new ≡ true → Known → KeepsTelling told old.store new.store → KeepsOwn → later.got ≡ notices.got → sent_on later ≡ sent_on notices
+  unheard : is_stopped new ≡ true → Known → FindsEnd told old new → KeepsTelling told old.store new.store → KeepsOwn → later.got ≡ notices.got → sent_on later ≡ sent_on notices
       → (ending : Ending) (notice : Notice) → old.mode ≡ Wanted ending → Remounts faults_of old (record new { stopped = old.stopped }) ending notice → After
-  unheard off known telling own got said ending notice wants remounts =
+  unheard off known finds telling own got said ending notice wants remounts =
       let noted : Back D = record new { stopped = old.stopped } in
       let m : Mends faults_of old noted [] (notice ∷ []) = record { ending = ending; notice = notice; wanted = wants; remounts = remounts; told = refl } in
       let s = gate.mend_steps moment_of left_since told image faults_of origin.start origin.opening (not (is_stopped old)) old noted [] (notice ∷ []) one.back_stands m in
@@ -136,23 +136,27 @@ module _ {D : Type 0} (moment_of : D → ℕ) (left_since : D → ℕ → List �
         come = sym (took_none notices later got said) ∙ sym (append-nil notices.waiting);
       })
       (λ tells on goes. absurd (true≢false (sym off ∙ goes)))
-      (limited_noted (limited_remounts origin.limit old noted faults_of ending notice remounts own one.limited))
+      (limited_noted told origin.extent old.stopped new
+      (limited_remounts moment_of left_since told image faults_of origin.start origin.opening (not (is_stopped old)) origin.extent old noted one.back_stands telling one.limited
+      ending notice wants remounts finds own))
 
-  loses : is_stopped new ≡ true → Known → KeepsTelling told old.store new.store → KeepsOwn → later.got ≡ notices.got → sent_on later ≡ sent_on notices
+  loses : is_stopped new ≡ true → Known → FindsEnd told old new → (old.mode ≡ Mounted → new ≡ old) → KeepsTelling told old.store new.store → KeepsOwn → later.got ≡ notices.got → sent_on later ≡ sent_on notices
       → IsAsBefore old new ⊎ ((ending : Ending) × (notice : Notice) × (old.mode ≡ Wanted ending) × Remounts faults_of old (record new { stopped = old.stopped }) ending notice)
       → After
-  loses off known telling own got said (inl same) =
+  loses off known finds rests telling own got said (inl same) =
       unseen moment_of left_since told image faults_of script origin front inbox keeps old new line notices later out out one known telling same.identity
       (λ free on. absurd (true≢false (sym off ∙ on))) (λ on. absurd (true≢false (sym off ∙ on))) same.log same.held same.mode same.before same.durable got said refl off
-      (limited_as_before origin.limit old new same own one.limited)
-  loses off known telling own got said (inr lost) = unheard off known telling own got said lost.0 lost.1 lost.2 lost.3
+      (limited_as_before moment_of left_since told image faults_of origin.start origin.opening (not (is_stopped old)) origin.extent old new one.back_stands telling one.limited
+      same own (λ mounted. still_end old.store new.store (ap (λ (b : Back D). b.store) (rests mounted))))
+  loses off known finds rests telling own got said (inr lost) = unheard off known finds telling own got said lost.0 lost.1 lost.2 lost.3
 
   ran : (result : Result Stepped NoMemory) → is_stopped old ≡ false → Known → MendsBy moment_of left_since told image faults_of old new notices later result → After
-  ran (Ok Did) on known by = mounts on by.stops.good known by.tells by.limit by.outlet (by.mended refl)
+  ran (Ok Did) on known by = mounts on by.stops.good known by.finds by.tells by.limit by.outlet (by.mended refl)
   ran (Ok Nothing) on known by =
       let i = by.barred on (by.nothing refl) in
       idle i.back by.outlet i.told
-  ran (Err fault) on known by = loses by.stops.wanting known by.tells by.limit by.outlet by.lost.told by.lost.log
+  ran (Err fault) on known by =
+      loses by.stops.wanting known by.finds (λ mounted. (by.barred on (never_mends old mounted)).back) by.tells by.limit by.outlet by.lost.told by.lost.log
 
   stopped_as : (off : Bool) → is_stopped old ≡ off → (result : Result Stepped NoMemory)
       → MendsBy moment_of left_since told image faults_of old new notices later result → After

@@ -122,7 +122,7 @@ module _ {D : Type 0} (moment_of : D → ℕ) (left_since : D → ℕ → List �
       → (lost : List Entry) → (new.stuck ≡ false → is_stopped new ≡ false → lost ≡ [])
       → front.log.sent.items ≡ new.log.taken.items ++ lost ++ later_line.waiting → messages new.log.released.items ≡ origin.left ++ sent_on later_out
       → StaysPair old new line later_line notices later out one lost → StillHears old new line notices out one (lost ++ later_line.waiting) later.waiting
-      → FitsItsBack told script origin.object front new → IsLimitedBy origin.limit new
+      → FitsItsBack told script origin.object front new → IsLimitedBy told origin.extent new
       → (TellsNow told new → KeepsDowns old.log.downs.items new.log.downs.items) → One new later_line later later_out
   rebuilt old new line later_line notices later out later_out one stands telling named lost none is_line left pair heard fits limited downs = record {
     back_stands = stands;
@@ -168,7 +168,7 @@ module _ {D : Type 0} (moment_of : D → ℕ) (left_since : D → ℕ → List �
     -- A step that takes nothing of the line.
     pub stepped : new.log.taken.items ≡ old.log.taken.items → messages new.log.released.items ≡ origin.left ++ sent_on later_out
         → (TellsNow told new → Hears (seen_of (opened_map origin.start) old) (seen_of (opened_map origin.start) new) [] notices.waiting later.waiting)
-        → StillHears old new line notices out one (one.lost ++ line.waiting) later.waiting → IsLimitedBy origin.limit new → One new line later later_out
+        → StillHears old new line notices out one (one.lost ++ line.waiting) later.waiting → IsLimitedBy told origin.extent new → One new line later later_out
     stepped taken left steps heard limited =
         rebuilt old new line line notices later out later_out one known telling (named_still origin.object old new same taken one.named) one.lost none (still_line taken) left
         (λ tells k paired.
@@ -181,7 +181,7 @@ module _ {D : Type 0} (moment_of : D → ℕ) (left_since : D → ℕ → List �
 
     -- Nothing that is seen has changed where memory was wanting.
     pub unseen : backed new.log ≡ backed old.log → new.held.items ≡ old.held.items → new.mode ≡ old.mode → new.before ≡ old.before → new.durable ≡ old.durable
-        → later.got ≡ notices.got → sent_on later ≡ sent_on notices → later_out ≡ out → is_stopped new ≡ true → IsLimitedBy origin.limit new
+        → later.got ≡ notices.got → sent_on later ≡ sent_on notices → later_out ≡ out → is_stopped new ≡ true → IsLimitedBy told origin.extent new
         → One new line later later_out
     unseen log held mode before durable got said left off limited =
         rebuilt old new line line notices later out later_out one known telling

@@ -101,8 +101,8 @@ module _ {D : Type 0} (moment_of : D → ℕ) (left_since : D → ℕ → List �
       })
       (hears_on moment_of left_since told image faults_of script origin front inbox old new line notices out one telling (λ off. on) [] (one.lost ++ line.waiting)
       (released_notices old r.first.body) later.waiting steps refl (sent_last notices later (released_notices old r.first.body) got r.told))
-      (limited_release moment_of left_since told image faults_of origin.start origin.opening (not (is_stopped old)) origin.limit old new one.back_stands disk.0 disk.1
-      (sent_on notices) (sent_on later) (sent_on out) (sent_on later_out) r one.limited)
+      (limited_release moment_of left_since told image faults_of origin.start origin.opening (not (is_stopped old)) origin.extent old new one.back_stands telling one.limited
+      (not (is_stopped new)) known disk.0 disk.1 (sent_on notices) (sent_on later) (sent_on out) (sent_on later_out) r)
 
   may_as : (may : Bool) → may_release old ≡ may → is_stopped old ≡ false → IsBack moment_of left_since told image faults_of origin.start origin.opening new
       → (result : Result Stepped NoMemory) → ReleasesBy moment_of left_since told image faults_of old new notices later out later_out result → After
@@ -115,7 +115,8 @@ module _ {D : Type 0} (moment_of : D → ℕ) (left_since : D → ℕ → List �
       unseen moment_of left_since told image faults_of script origin front inbox keeps old new line notices later out later_out one known (still_tells told old.store new.store by.disk) s.identity
       (λ free off. absurd (true≢false (sym by.stops.wanting ∙ off))) (λ off. absurd (true≢false (sym by.stops.wanting ∙ off))) s.log (ap (λ h. h.items) s.held) s.mode s.before s.durable by.outlet s.told
       (same_queue out later_out by.left (sym (took_none out later_out by.left s.left))) by.stops.wanting
-      (limited_stays origin.limit old new (sent_on notices) (sent_on later) (sent_on out) (sent_on later_out) s one.limited)
+      (limited_stays moment_of left_since told image faults_of origin.start origin.opening (not (is_stopped old)) origin.extent old new one.back_stands
+      (still_tells told old.store new.store by.disk) one.limited (sent_on notices) (sent_on later) (sent_on out) (sent_on later_out) s)
 
   stopped_as : (off : Bool) → is_stopped old ≡ off → (result : Result Stepped NoMemory)
       → ReleasesBy moment_of left_since told image faults_of old new notices later out later_out result → After

@@ -131,7 +131,7 @@ module _ {D : Type 0} (moment_of : D → ℕ) (left_since : D → ℕ → List �
     -- The entry isn't logged, and nothing else that is seen changes.
     unlogged : backed new.log ≡ backed old.log → new.held.items ≡ old.held.items → new.mode ≡ old.mode → new.before ≡ old.before → new.durable ≡ old.durable
         → new.identity ≡ old.identity → (new.stuck ≡ false → is_stopped new ≡ false → ⊥) → FitsItsBack told script origin.object front new
-        → sent_on later ≡ sent_on notices → IsLimitedBy origin.limit new → After
+        → sent_on later ≡ sent_on notices → IsLimitedBy told origin.extent new → After
     unlogged log held mode before durable same bad fits told_same limited =
         rebuilt moment_of left_since told image faults_of script origin front inbox old new line later_line notices later out out one known telling
         (named_still origin.object old new same (ap (λ (x : Backed). x.taken) log) one.named) (e ∷ [])
@@ -144,8 +144,9 @@ module _ {D : Type 0} (moment_of : D → ℕ) (left_since : D → ℕ → List �
         (seen_same opened old new log held mode before durable) (sym waits_first) (sym (took_none notices later kept told_same))) fits limited
         (λ tells some none. some (ap (λ (x : Backed). x.downs) (sym log) ∙ none))
 
-    limited_so : Enters old new e → IsLimitedBy origin.limit new
-    limited_so enters = limited_enters origin.limit old new e enters (same_disk.limit old.limit) one.limited
+    limited_so : Enters old new e → IsLimitedBy told origin.extent new
+    limited_so enters = limited_enters moment_of left_since told image faults_of origin.start origin.opening (not (is_stopped old)) origin.extent old new one.back_stands telling one.limited
+        e enters same_disk
 
     unfit_enters : Enters old new e → is_unfit (fit_of old e) ≡ true → may_take old ≡ true → sent_on later ≡ sent_on notices → After
     unfit_enters enters is may told_same =
@@ -219,7 +220,8 @@ module _ {D : Type 0} (moment_of : D → ℕ) (left_since : D → ℕ → List �
         → (IsAsBefore old new ⊎ Enters old new e) → sent_on later ≡ sent_on notices → After
     loses lost may off (inl same) said =
         unlogged same.log same.held same.mode same.before same.durable same.identity (λ free on. true≢false (sym off ∙ on))
-        (λ has tells goes_on goes. absurd (true≢false (sym off ∙ goes))) said (limited_as_before origin.limit old new same (same_disk.limit old.limit) one.limited)
+        (λ has tells goes_on goes. absurd (true≢false (sym off ∙ goes))) said (limited_as_before moment_of left_since told image faults_of origin.start origin.opening (not (is_stopped old)) origin.extent old new one.back_stands telling one.limited
+        same (same_disk.limit old.limit) (λ mounted. same_disk.end))
     loses lost may off (inr enters) said = unheard_as (is_unfit (fit_of old e)) refl enters may off said
 
   may_not : may_take old ≡ true → old.stuck ≡ false

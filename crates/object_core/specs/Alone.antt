@@ -23,7 +23,7 @@ use Rattle.output_gate.specs.Telling.{opened_map}
 use Rattle.output_gate.specs.declared.back.Back.{Back}
 use Rattle.object_core.specs.Apart.{BackRuns, FrontRuns}
 use Rattle.object_core.specs.Fitting.{AreFit, known_over}
-use Rattle.object_core.specs.Limited.{IsLimitedBy}
+use Rattle.object_core.specs.Limited.{Extent, IsLimitedBy}
 use Rattle.object_core.specs.One.{HasTaken, IsNamed, Origin, TellsNow, class_in, messages}
 use Rattle.object_core.specs.Seen.{seen_of}
 
@@ -63,15 +63,15 @@ pub record StuckAt {D : Type 0} (moment_of : D → ℕ) (left_since : D → ℕ 
   pub knows : KnowsObject object before
   pub runs : TellsNow told back → BackRuns (opened_map start) (seen_of (opened_map start) before) before.log.taken.items notices
 
--- A back of a slot with this object, this limit and this alarm when it was mounted, that ran so while its disk tells its content. What it
+-- A back of a slot with this object, this journal's extent and this alarm when it was mounted, that ran so while its disk tells its content. What it
 -- has logged as taken is what its end of the line gave, but for the last entry, at which it is stuck or stopped; what it has logged as
 -- released was sent on its lane out.
 pub record IsBackAlone {D : Type 0} (moment_of : D → ℕ) (left_since : D → ℕ → List ℕ → Type 0) (told : D → Option (List ℕ))
-    (image : D → List ℕ → Type 0) (faults_of : D → ℕ) (start : List (List Op)) (opening : ℕ) (object : Option Object) (limit : ℕ)
+    (image : D → List ℕ → Type 0) (faults_of : D → ℕ) (start : List (List Op)) (opening : ℕ) (object : Option Object) (extent : Extent)
     (alarm : Option (ℤ × ℕ)) (back : Back D) (got : List Entry) (notices : List Notice) (out : List Sent) : Type 0 where
   pub stands : IsBack moment_of left_since told image faults_of start opening back
   pub named : IsNamed object back
-  pub limited : IsLimitedBy limit back
+  pub limited : IsLimitedBy told extent back
   pub opened_at : TellsNow told back → alarm ≡ (opened_map start).alarm
   pub knows : KnowsObject object back
   pub lost : List Entry
@@ -96,7 +96,7 @@ pub record AreApart {D : Type 0} (moment_of : D → ℕ) (left_since : D → ℕ
   pub alarm : Option (ℤ × ℕ)
   pub front_alone : IsFrontAlone script (class_in script origin.object) alarm front inbox.got heard sent
   pub back_alone :
-      IsBackAlone moment_of left_since told image faults_of origin.start origin.opening origin.object origin.limit alarm back took noticed gone
+      IsBackAlone moment_of left_since told image faults_of origin.start origin.opening origin.object origin.extent alarm back took noticed gone
   pub is_line : sent ≡ took ++ line.waiting
   pub is_told : noticed ≡ heard ++ notices.waiting
   pub is_gone : gone ≡ origin.left ++ sent_on out

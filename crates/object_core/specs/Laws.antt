@@ -97,7 +97,7 @@ OneHasLeft moment_of left_since told image faults_of core = (script : Script) (o
 -- The journal has the limit with which the slot was mounted, whatever has ended since, and an end by a full journal is of it.
 abbrev pub OneIsLimited : {D : Type 0} → (D → ℕ) → (D → ℕ → List ℕ → Type 0) → (D → Option (List ℕ)) → (D → List ℕ → Type 0) → (D → ℕ) → Core D → Type 0
 OneIsLimited moment_of left_since told image faults_of core = (script : Script) (origin : Origin)
-    → IsOne moment_of left_since told image faults_of script origin core → IsLimitedBy origin.limit core.back
+    → IsOne moment_of left_since told image faults_of script origin core → IsLimitedBy told origin.extent core.back
 
 -- What left and what a crash leaves, now and at each moment since the opening.
 abbrev pub OneHasTold : {D : Type 0} → (D → ℕ) → (D → ℕ → List ℕ → Type 0) → (D → Option (List ℕ)) → (D → List ℕ → Type 0) → (D → ℕ) → Core D → Type 0

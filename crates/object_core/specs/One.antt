@@ -33,7 +33,7 @@ use Rattle.object_messages.specs.Naming.{answered_in, asked_in, messages_of}
 use Rattle.object_core.specs.Dropping.{IsDropping}
 use Rattle.object_core.specs.Fitting.{IsFitIntake, known_over}
 use Rattle.object_core.specs.Heard.{IsHeard}
-use Rattle.object_core.specs.Limited.{IsLimitedBy}
+use Rattle.object_core.specs.Limited.{Extent, IsLimitedBy, extent_of}
 use Rattle.object_core.specs.Seen.{seen_of}
 use Rattle.object_core.specs.declared.object.Core.{Core}
 
@@ -103,17 +103,17 @@ abbrev pub SticksAtAnswers : {D : Type 0} → (told : D → Option (List ℕ)) �
 SticksAtAnswers told front back got = TellsNow told back → standing.is_stopped front ≡ false → front.stuck ≡ true → IsGivenUnasked (fronted front.log) got
 
 -- From what an object has run: the batches of its slot's journal at the opening, the disk's moment then, the slot's object then, what
--- it had released and others had taken before the halves were in one place, and how many bytes its journal may have.
+-- it had released and others had taken before the halves were in one place, and how many bytes its journal may have and where it ended.
 pub record Origin : Type 0 where
   pub start : List (List Op)
   pub opening : ℕ
   pub object : Option Object
   pub left : List Sent
-  pub limit : ℕ
+  pub extent : Extent
 
 -- That of a slot that was just mounted.
 abbrev pub mounted_at : {D : Type 0} → (start : List (List Op)) → (opening : ℕ) → Back D → Origin
-mounted_at start opening back = record { start = start; opening = opening; object = back.identity; left = []; limit = back.limit }
+mounted_at start opening back = record { start = start; opening = opening; object = back.identity; left = []; extent = extent_of back }
 
 -- The back knows the slot's object: that of the opening, or, where it had none, one whose binding it has taken.
 abbrev pub IsNamed : {D : Type 0} → Option Object → Back D → Type 0
@@ -124,7 +124,8 @@ IsNamed object back = (back.identity ≡ object)
 -- that of the slot's object at the opening, or of the one that was bound since, which the back knows once it has taken the binding; all
 -- events that the front got are accounted for; what it has sent is what the back has logged as taken and what waits, and between them the
 -- one entry that the back took and didn't log, if it is stuck or memory was wanting; the messages that wait are the last that it has
--- released; no notice was lost but for want of memory; and the journal has the limit that it was mounted with.
+-- released; no notice was lost but for want of memory; and the journal has the limit that it was mounted with,
+-- and was full only where an end says so.
 pub record IsOneOf {D : Type 0} (moment_of : D → ℕ) (left_since : D → ℕ → List ℕ → Type 0) (told : D → Option (List ℕ))
     (image : D → List ℕ → Type 0) (faults_of : D → ℕ) (script : Script) (origin : Origin)
     (front : Half Evaluated) (inbox : Both Event) (back : Back D) (line : Both Entry) (notices : Both Notice) (out : Both Sent) : Type 0 where
@@ -144,7 +145,7 @@ pub record IsOneOf {D : Type 0} (moment_of : D → ℕ) (left_since : D → ℕ 
   pub fits : FitsItsBack told script origin.object front back
   pub heard : HearsOfBack told origin.start st front back (lost ++ line.waiting) notices.waiting
   pub sticks : SticksAtAnswers told front back inbox.got
-  pub limited : IsLimitedBy origin.limit back
+  pub limited : IsLimitedBy told origin.extent back
   pub drops : TellsNow told back → IsDropping script (class_in script origin.object) alarm front st back.log.downs.items inbox.got
 
 abbrev pub IsOne : {D : Type 0} → (D → ℕ) → (D → ℕ → List ℕ → Type 0) → (D → Option (List ℕ)) → (D → List ℕ → Type 0) → (D → ℕ)

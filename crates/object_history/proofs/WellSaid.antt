@@ -7,6 +7,7 @@ use Rattle.std.specs.Prelude.{ℤ, Bool, true, false, map, if◌then◌else◌, 
 use Rattle.do_value.specs.Tree.{Tree}
 use Rattle.do_tree.specs.Lookup.{constructor_of, alarm_of as handler_of}
 use Rattle.storage_map.specs.declared.op.Op.{Op}
+use Rattle.write_batcher.specs.declared.batcher.Made.{Made}
 use Rattle.storage_map.specs.declared.op.Op.TheVariants as op
 use Rattle.script_mean.specs.Task as task
 use Rattle.script_mean.specs.Task.{Segment}
@@ -15,7 +16,7 @@ use Rattle.script_mean.specs.declared.ask.Ask.{Ask}
 use Rattle.script_mean.specs.declared.ask.Ask.TheVariants as ask
 use Rattle.timeline.specs.Object.{Life, Purpose, starts, handles, serves, OpenTask, Object, task_under, tasks_but, State, idle, waiting, ended, Step}
 use Rattle.timeline.specs.Steps as steps
-use Rattle.timeline.specs.Steps.{rests, before, batch, wrote, fresh, resumed, latest_turn, outside, asks, asks_written, refusal, on_ask, handled, on_done, on_threw, on_exceeded, on_turn, runs, goes_on, begins_handler, begins_parked, on_state, then_parked, starts_by, arrives, handles_due, answer_of, moment_of, on_answer, on_event, delivers, hides, answers, halts, replies, most_refused}
+use Rattle.timeline.specs.Steps.{rests, before, batch, confirmed, wrote, fresh, resumed, latest_turn, outside, asks, asks_written, refusal, on_ask, handled, on_done, on_threw, on_exceeded, on_turn, runs, goes_on, begins_handler, begins_parked, on_state, then_parked, starts_by, arrives, handles_due, answer_of, moment_of, on_answer, on_event, delivers, hides, answers, halts, replies, most_refused}
 use Rattle.timeline.specs.declared.caller.Cause.{Cause}
 use Rattle.timeline.specs.declared.caller.Cause.TheVariants as cause
 use Rattle.timeline.specs.declared.caller.Failure.TheVariants as failure
@@ -46,9 +47,9 @@ none_plain = All-nil IsPlain
 one_plain : (b : Body) → is_inner b ≡ true → ArePlain (b ∷ [])
 one_plain b plain = All-cons IsPlain b [] plain none_plain
 
-batches_plain : (batches : List (List Op)) → ArePlain (map batch batches)
+batches_plain : (batches : List Made) → ArePlain (map batch batches)
 batches_plain [] = none_plain
-batches_plain (ops ∷ batches) = All-cons IsPlain (batch ops) (map batch batches) refl (batches_plain batches)
+batches_plain (made ∷ batches) = All-cons IsPlain (batch made) (map batch batches) refl (batches_plain batches)
 
 -- More plain entries before what leads to a state.
 lead_before : (xs says : List Body) (state : State) → ArePlain xs → Leads says state → Leads (xs ++ says) state
@@ -73,11 +74,11 @@ halts_well : (c : Cause) → is_halting c ≡ true → IsInner (halts c)
 halts_well c of_script = ([], refl, none_plain, of_script)
 
 -- A write's completion is waited for.
-written_well : (o : Object) (t : OpenTask) (tail : ℕ) (batches : List (List Op)) → IsInner (asks_written o t tail batches)
+written_well : (o : Object) (t : OpenTask) (tail : ℕ) (batches : List Made) → IsInner (asks_written o t tail batches)
 written_well o t tail [] = none_plain
-written_well o t tail (ops ∷ []) = (none_plain, refl)
-written_well o t tail (ops ∷ next ∷ batches) =
-    before_well (batch ops ∷ []) (asks_written o t tail (next ∷ batches)) (one_plain (batch ops) refl) (written_well o t tail (next ∷ batches))
+written_well o t tail (made ∷ []) = (none_plain, refl)
+written_well o t tail (made ∷ next ∷ batches) =
+    before_well (batch made ∷ []) (asks_written o t tail (next ∷ batches)) (one_plain (batch made) refl) (written_well o t tail (next ∷ batches))
 
 -- A call or a fetch leaves, or is refused.
 outside_well : (again : OpenTask → Step) → ((t : OpenTask) → IsInner (again t)) → (o : Object) (t : OpenTask) (refused : Option Answer)
@@ -86,9 +87,10 @@ outside_well again well o t None message = one_plain (body.Message (message (o.m
 outside_well again well o t (Some a) message = well (resumed o t a)
 
 -- An ask,
-ask_well : (again : OpenTask → Step) → ((u : OpenTask) → IsInner (again u)) → (l : Life) (o : Object) (t : OpenTask) (batches : List (List Op)) (a : Ask)
+ask_well : (again : OpenTask → Step) → ((u : OpenTask) → IsInner (again u)) → (l : Life) (o : Object) (t : OpenTask) (batches : List Made) (a : Ask)
     → IsInner (on_ask again l o t batches a)
 ask_well again well l o t batches (ask.Store a) = before_well (map batch batches) (asks o t (body.Ask a)) (batches_plain batches) (none_plain, refl)
+ask_well again well l o t batches (ask.Open a) = before_well (map batch batches) (asks o t (body.Ask a)) (batches_plain batches) (none_plain, refl)
 ask_well again well l o t batches (ask.Written tail) = written_well o t tail batches
 ask_well again well l o t batches ask.Sync = before_well (map batch batches) (asks o t body.Sync) (batches_plain batches) (none_plain, refl)
 ask_well again well l o t batches (ask.Call to method args) =
@@ -99,7 +101,7 @@ ask_well again well l o t batches (ask.Fetch value) =
 -- the end of a task,
 handled_well : (made : Option Op) (o : Object) → IsInner (handled made o)
 handled_well None o = none_plain
-handled_well (Some made) o = one_plain (batch (made ∷ [])) refl
+handled_well (Some made) o = one_plain (batch (confirmed (made ∷ []))) refl
 
 done_well : (o : Object) (purpose : Purpose) (v : Tree) → IsInner (on_done o purpose v)
 done_well o starts v = none_plain

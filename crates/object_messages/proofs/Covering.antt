@@ -8,6 +8,7 @@ use Rattle.std.specs.Prelude.{ℤ, Bool, true, false, ◌==◌, if◌then◌else
 use Rattle.do_value.specs.Tree.{Tree}
 use Rattle.do_tree.specs.Lookup.{constructor_of, alarm_of as handler_of}
 use Rattle.storage_map.specs.declared.op.Op.{Op}
+use Rattle.write_batcher.specs.declared.batcher.Made.{Made}
 use Rattle.storage_map.specs.declared.op.Op.TheVariants as op
 use Rattle.script_mean.specs.Task as task
 use Rattle.script_mean.specs.Task.{Segment}
@@ -89,11 +90,11 @@ module _ (i : ℕ) (answered : List (ℕ × ℕ)) where
   either_covers false s q one other = other
 
   -- A write's completion is waited for.
-  written_covers : (o : Object) (t : OpenTask) (tail : ℕ) (batches : List (List Op)) → Covers i answered o
+  written_covers : (o : Object) (t : OpenTask) (tail : ℕ) (batches : List Made) → Covers i answered o
       → StepCovers i answered (asks_written o t tail batches)
   written_covers o t tail [] all = all
-  written_covers o t tail (ops ∷ []) all = all
-  written_covers o t tail (ops ∷ next ∷ batches) all = written_covers o t tail (next ∷ batches) all
+  written_covers o t tail (made ∷ []) all = all
+  written_covers o t tail (made ∷ next ∷ batches) all = written_covers o t tail (next ∷ batches) all
 
   -- A call or a fetch leaves and its task waits, or it is refused.
   outside_covers : (again : OpenTask → Step) (o : Object) (t : OpenTask) (refused : Option Answer) (message : ℕ → Message)
@@ -137,6 +138,7 @@ module _ (i : ℕ) (answered : List (ℕ × ℕ)) where
       → (o : Object) (t : OpenTask) (turn : Option Segment) → Covers i answered o → StepCovers i answered (on_turn again l o t turn)
   turn_covers l again covers o t None all = all
   turn_covers l again covers o t (Some (task.asked batches fs (ask.Store a) block)) all = all
+  turn_covers l again covers o t (Some (task.asked batches fs (ask.Open a) block)) all = all
   turn_covers l again covers o t (Some (task.asked batches fs (ask.Written tail) block)) all =
       written_covers (wrote batches (record o { fields = fs })) (record t { block = block }) tail batches all
   turn_covers l again covers o t (Some (task.asked batches fs ask.Sync block)) all = all

@@ -8,6 +8,7 @@ use Rattle.std.specs.Prelude.{ℤ, Bool, true, false, if◌then◌else◌, Optio
 use Rattle.do_value.specs.Tree.{Tree}
 use Rattle.do_tree.specs.Lookup.{constructor_of, alarm_of as handler_of}
 use Rattle.storage_map.specs.declared.op.Op.{Op}
+use Rattle.write_batcher.specs.declared.batcher.Made.{Made}
 use Rattle.storage_map.specs.declared.op.Op.TheVariants as op
 use Rattle.script_mean.specs.Task as task
 use Rattle.script_mean.specs.Task.{Segment}
@@ -98,11 +99,11 @@ module _ (l : Life) (answered all : List (ℕ × ℕ)) where
   more_open made low (u ∷ ts) t next own is = (is.0, is.1, more_open made u.number ts t next own is.2)
 
   -- A write's completion is waited for.
-  written_opens : (o : Object) (t : OpenTask) (tail : ℕ) (batches : List (List Op)) → Opens l answered all o → StepOpens l answered all (asks_written o t tail batches)
+  written_opens : (o : Object) (t : OpenTask) (tail : ℕ) (batches : List Made) → Opens l answered all o → StepOpens l answered all (asks_written o t tail batches)
   written_opens o t tail [] is = λ within. is
-  written_opens o t tail (ops ∷ []) is = λ within. is
-  written_opens o t tail (ops ∷ next ∷ batches) is =
-      before_opens (batch ops ∷ []) (asks_written o t tail (next ∷ batches)) (written_opens o t tail (next ∷ batches) is)
+  written_opens o t tail (made ∷ []) is = λ within. is
+  written_opens o t tail (made ∷ next ∷ batches) is =
+      before_opens (batch made ∷ []) (asks_written o t tail (next ∷ batches)) (written_opens o t tail (next ∷ batches) is)
 
   -- A call or a fetch leaves and its task waits, or it is refused.
   outside_opens : (again : OpenTask → Step) (o : Object) (t : OpenTask) (refused : Option Answer) (message : ℕ → Message)
@@ -147,6 +148,8 @@ module _ (l : Life) (answered all : List (ℕ × ℕ)) where
       → (o : Object) (t : OpenTask) (turn : Option Segment) → latest_turn l t ≡ turn → Opens l answered all o → StepOpens l answered all (on_turn again l o t turn)
   turn_opens again opens o t None is all_so = λ within. all_so
   turn_opens again opens o t (Some (task.asked batches fs (ask.Store a) block)) is all_so =
+      before_opens (map batch batches) (asks (wrote batches (record o { fields = fs })) (record t { block = block }) (body.Ask a)) (λ within. all_so)
+  turn_opens again opens o t (Some (task.asked batches fs (ask.Open a) block)) is all_so =
       before_opens (map batch batches) (asks (wrote batches (record o { fields = fs })) (record t { block = block }) (body.Ask a)) (λ within. all_so)
   turn_opens again opens o t (Some (task.asked batches fs (ask.Written tail) block)) is all_so =
       written_opens (wrote batches (record o { fields = fs })) (record t { block = block }) tail batches all_so

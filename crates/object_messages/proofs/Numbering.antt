@@ -7,6 +7,7 @@ use Rattle.std.specs.Prelude.{ℤ, Bool, true, false, map, if◌then◌else◌, 
 use Rattle.do_value.specs.Tree.{Tree}
 use Rattle.do_tree.specs.Lookup.{constructor_of, alarm_of as handler_of}
 use Rattle.storage_map.specs.declared.op.Op.{Op}
+use Rattle.write_batcher.specs.declared.batcher.Made.{Made}
 use Rattle.storage_map.specs.declared.op.Op.TheVariants as op
 use Rattle.script_mean.specs.Task as task
 use Rattle.script_mean.specs.Task.{Segment}
@@ -65,12 +66,12 @@ before_numbers i made next bodies s first second =
     (lead_numbers i made next (asked bodies) (asked s.says) s.state first second)
 
 -- Batches are no calls.
-batches_ask_none : (batches : List (List Op)) → asked (map batch batches) ≡ []
+batches_ask_none : (batches : List Made) → asked (map batch batches) ≡ []
 batches_ask_none [] = refl
-batches_ask_none (ops ∷ batches) = batches_ask_none batches
+batches_ask_none (made ∷ batches) = batches_ask_none batches
 
 -- So batches before a step leave its numbers.
-batches_number : (i made : ℕ) (batches : List (List Op)) (s : Step) → Numbers i made s → Numbers i made (before (map batch batches) s)
+batches_number : (i made : ℕ) (batches : List Made) (s : Step) → Numbers i made s → Numbers i made (before (map batch batches) s)
 batches_number i made batches s numbers =
     before_numbers i made made (map batch batches) s
     (subst (λ (xs : List (ℕ × ℕ)). Follow i made xs made) (sym (batches_ask_none batches)) refl) numbers
@@ -81,11 +82,11 @@ either_numbers i made true s q one other = one
 either_numbers i made false s q one other = other
 
 -- A write's completion is waited for.
-written_numbers : (i : ℕ) (o : Object) (t : OpenTask) (tail : ℕ) (batches : List (List Op)) → Numbers i o.made (asks_written o t tail batches)
+written_numbers : (i : ℕ) (o : Object) (t : OpenTask) (tail : ℕ) (batches : List Made) → Numbers i o.made (asks_written o t tail batches)
 written_numbers i o t tail [] = refl
-written_numbers i o t tail (ops ∷ []) = (refl, refl)
-written_numbers i o t tail (ops ∷ next ∷ batches) =
-    before_numbers i o.made o.made (batch ops ∷ []) (asks_written o t tail (next ∷ batches)) refl (written_numbers i o t tail (next ∷ batches))
+written_numbers i o t tail (made ∷ []) = (refl, refl)
+written_numbers i o t tail (made ∷ next ∷ batches) =
+    before_numbers i o.made o.made (batch made ∷ []) (asks_written o t tail (next ∷ batches)) refl (written_numbers i o t tail (next ∷ batches))
 
 -- A call or a fetch leaves under the next number, or is refused.
 outside_numbers : (i : ℕ) (again : OpenTask → Step) (o : Object) (t : OpenTask) (refused : Option Answer) (message : ℕ → Message)
@@ -97,9 +98,10 @@ outside_numbers i again o t None message numbers next =
     subst (λ (xs : List (ℕ × ℕ)). Follow i o.made xs (o.made + 1)) (sym next) (refl, refl)
 
 -- An ask,
-ask_numbers : (again : OpenTask → Step) (l : Life) (o : Object) (t : OpenTask) (batches : List (List Op)) (a : Ask)
+ask_numbers : (again : OpenTask → Step) (l : Life) (o : Object) (t : OpenTask) (batches : List Made) (a : Ask)
     → ((u : OpenTask) → Numbers l.incarnation o.made (again u)) → Numbers l.incarnation o.made (on_ask again l o t batches a)
 ask_numbers again l o t batches (ask.Store a) numbers = batches_number l.incarnation o.made batches (asks o t (body.Ask a)) (refl, refl)
+ask_numbers again l o t batches (ask.Open a) numbers = batches_number l.incarnation o.made batches (asks o t (body.Ask a)) (refl, refl)
 ask_numbers again l o t batches (ask.Written tail) numbers = written_numbers l.incarnation o t tail batches
 ask_numbers again l o t batches ask.Sync numbers = batches_number l.incarnation o.made batches (asks o t body.Sync) (refl, refl)
 ask_numbers again l o t batches (ask.Call to method args) numbers =

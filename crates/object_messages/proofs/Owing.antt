@@ -8,6 +8,7 @@ use Rattle.std.specs.Prelude.{ℤ, Bool, true, false, ◌==◌, map, if◌then�
 use Rattle.do_value.specs.Tree.{Tree}
 use Rattle.do_tree.specs.Lookup.{constructor_of, alarm_of as handler_of}
 use Rattle.storage_map.specs.declared.op.Op.{Op}
+use Rattle.write_batcher.specs.declared.batcher.Made.{Made}
 use Rattle.storage_map.specs.declared.op.Op.TheVariants as op
 use Rattle.script_mean.specs.Task as task
 use Rattle.script_mean.specs.Task.{Segment}
@@ -17,7 +18,7 @@ use Rattle.script_mean.specs.declared.ask.Ask.TheVariants as ask
 use Rattle.alarm_core.specs.AlarmRule.{is_due}
 use Rattle.timeline.specs.Object.{Life, Purpose, starts, handles, serves, OpenTask, Object, task_under, tasks_but, State, idle, waiting, ended, Step}
 use Rattle.timeline.specs.Steps as steps
-use Rattle.timeline.specs.Steps.{rests, before, batch, wrote, fresh, resumed, latest_turn, outside, asks, asks_written, refusal, on_ask, handled, on_done, on_threw, on_exceeded, on_turn, runs, goes_on, begins_handler, begins_parked, on_state, then_parked, starts_by, arrives, handles_due, on_answer, answer_of, on_event, delivers, answers, hides, most_refused, moment_of}
+use Rattle.timeline.specs.Steps.{rests, before, batch, confirmed, wrote, fresh, resumed, latest_turn, outside, asks, asks_written, refusal, on_ask, handled, on_done, on_threw, on_exceeded, on_turn, runs, goes_on, begins_handler, begins_parked, on_state, then_parked, starts_by, arrives, handles_due, on_answer, answer_of, on_event, delivers, answers, hides, most_refused, moment_of}
 use Rattle.timeline.specs.declared.caller.Caller.{Caller}
 use Rattle.timeline.specs.declared.entry.Body.{Body}
 use Rattle.timeline.specs.declared.entry.Body.TheVariants as body
@@ -56,12 +57,12 @@ before_owes : (from : Caller) (n m : ℕ) (xs : List Body) (s : Step) → Owes f
 before_owes from n m xs s owes more = omega (arith, owes, more, sum_by-append (told from) xs s.says)
 
 -- Batches reply to nobody.
-batches_silent : (from : Caller) (batches : List (List Op)) → sum_by (told from) (map batch batches) ≡ 0
+batches_silent : (from : Caller) (batches : List Made) → sum_by (told from) (map batch batches) ≡ 0
 batches_silent from [] = refl
-batches_silent from (ops ∷ batches) = omega (arith, batches_silent from batches, sum_by-cons (told from) (batch ops) (map batch batches))
+batches_silent from (made ∷ batches) = omega (arith, batches_silent from batches, sum_by-cons (told from) (batch made) (map batch batches))
 
 -- So batches before a step leave what it owes.
-batches_owe : (from : Caller) (n : ℕ) (batches : List (List Op)) (s : Step) → Owes from n s → Owes from n (before (map batch batches) s)
+batches_owe : (from : Caller) (n : ℕ) (batches : List Made) (s : Step) → Owes from n s → Owes from n (before (map batch batches) s)
 batches_owe from n batches s owes = before_owes from n n (map batch batches) s owes (omega (arith, batches_silent from batches))
 
 -- One of two steps.
@@ -74,13 +75,13 @@ more_owes : (from : Caller) (n m : ℕ) (s : Step) → Owes from n s → n ≤ m
 more_owes from n m s owes more = omega (arith, owes, more)
 
 -- A write's completion is waited for.
-written_owes : (from : Caller) (o : Object) (t : OpenTask) (tail : ℕ) (batches : List (List Op))
+written_owes : (from : Caller) (o : Object) (t : OpenTask) (tail : ℕ) (batches : List Made)
     → Owes from (object_owes from o + task_owes from t) (asks_written o t tail batches)
 written_owes from o t tail [] = omega arith
-written_owes from o t tail (ops ∷ []) = omega arith
-written_owes from o t tail (ops ∷ next ∷ batches) =
+written_owes from o t tail (made ∷ []) = omega arith
+written_owes from o t tail (made ∷ next ∷ batches) =
     let n = object_owes from o + task_owes from t in
-    before_owes from n n (batch ops ∷ []) (asks_written o t tail (next ∷ batches)) (written_owes from o t tail (next ∷ batches)) (omega arith)
+    before_owes from n n (batch made ∷ []) (asks_written o t tail (next ∷ batches)) (written_owes from o t tail (next ∷ batches)) (omega arith)
 
 -- A call or a fetch leaves and its task waits, or it is refused.
 outside_owes : (from : Caller) (again : OpenTask → Step) (o : Object) (t : OpenTask) (refused : Option Answer) (message : ℕ → Message)
@@ -99,10 +100,12 @@ outside_owes from again o t None message owes silent =
     )
 
 -- An ask,
-ask_owes : (from : Caller) (again : OpenTask → Step) (l : Life) (o : Object) (t : OpenTask) (batches : List (List Op)) (a : Ask)
+ask_owes : (from : Caller) (again : OpenTask → Step) (l : Life) (o : Object) (t : OpenTask) (batches : List Made) (a : Ask)
     → ((u : OpenTask) → Owes from (object_owes from o + task_owes from u) (again u))
     → Owes from (object_owes from o + task_owes from t) (on_ask again l o t batches a)
 ask_owes from again l o t batches (ask.Store a) owes =
+    batches_owe from (object_owes from o + task_owes from t) batches (asks o t (body.Ask a)) (omega arith)
+ask_owes from again l o t batches (ask.Open a) owes =
     batches_owe from (object_owes from o + task_owes from t) batches (asks o t (body.Ask a)) (omega arith)
 ask_owes from again l o t batches (ask.Written tail) owes = written_owes from o t tail batches
 ask_owes from again l o t batches ask.Sync owes =
@@ -115,7 +118,7 @@ ask_owes from again l o t batches (ask.Fetch value) owes =
 -- the end of a task,
 handled_owes : (from : Caller) (made : Option Op) (o : Object) → Owes from (object_owes from o) (handled made o)
 handled_owes from None o = omega arith
-handled_owes from (Some made) o = omega (arith, sum_by-cons (told from) (batch (made ∷ [])) [])
+handled_owes from (Some made) o = omega (arith, sum_by-cons (told from) (batch (confirmed (made ∷ []))) [])
 
 -- where it is done,
 done_owes : (from : Caller) (o : Object) (purpose : Purpose) (v : Tree)

@@ -5,6 +5,7 @@ use Rattle.std.specs.Prelude.{ℤ, Bool, true, false, map, if◌then◌else◌, 
 use Rattle.do_value.specs.Tree.{Tree}
 use Rattle.do_tree.specs.Lookup.{constructor_of, alarm_of as handler_of}
 use Rattle.storage_map.specs.declared.op.Op.{Op}
+use Rattle.write_batcher.specs.declared.batcher.Made.{Made}
 use Rattle.storage_map.specs.declared.op.Op.TheVariants as op
 use Rattle.script_mean.specs.Task as task
 use Rattle.script_mean.specs.Task.{Segment}
@@ -50,12 +51,12 @@ before_sound : (bodies : List Body) (s : Step) → AreSound bodies → IsSound s
 before_sound bodies s first second = (sound_both bodies s.says first second.0, second.1)
 
 -- Batches tell of none.
-batches_sound : (batches : List (List Op)) → AreSound (map batch batches)
+batches_sound : (batches : List Made) → AreSound (map batch batches)
 batches_sound [] = tt
-batches_sound (ops ∷ batches) = (refl, batches_sound batches)
+batches_sound (made ∷ batches) = (refl, batches_sound batches)
 
 -- So batches before a step.
-behind_batches : (batches : List (List Op)) (s : Step) → IsSound s → IsSound (before (map batch batches) s)
+behind_batches : (batches : List Made) (s : Step) → IsSound s → IsSound (before (map batch batches) s)
 behind_batches batches s sound = before_sound (map batch batches) s (batches_sound batches) sound
 
 -- One of two steps.
@@ -64,11 +65,11 @@ either_sound true s q one other = one
 either_sound false s q one other = other
 
 -- A write's completion is waited for.
-written_sound : (o : Object) (t : OpenTask) (tail : ℕ) (batches : List (List Op)) → IsSound (asks_written o t tail batches)
+written_sound : (o : Object) (t : OpenTask) (tail : ℕ) (batches : List Made) → IsSound (asks_written o t tail batches)
 written_sound o t tail [] = (tt, tt)
-written_sound o t tail (ops ∷ []) = (tt, refl)
-written_sound o t tail (ops ∷ next ∷ batches) =
-    before_sound (batch ops ∷ []) (asks_written o t tail (next ∷ batches)) (refl, tt) (written_sound o t tail (next ∷ batches))
+written_sound o t tail (made ∷ []) = (tt, refl)
+written_sound o t tail (made ∷ next ∷ batches) =
+    before_sound (batch made ∷ []) (asks_written o t tail (next ∷ batches)) (refl, tt) (written_sound o t tail (next ∷ batches))
 
 -- A call or a fetch leaves, or is refused.
 outside_sound : (again : OpenTask → Step) (o : Object) (t : OpenTask) (refused : Option Answer) (message : ℕ → Message)
@@ -78,9 +79,10 @@ outside_sound again o t (Some a) message sound none = sound (resumed o t a)
 outside_sound again o t None message sound none = ((none (o.made + 1), tt), tt)
 
 -- An ask,
-ask_sound : (again : OpenTask → Step) (l : Life) (o : Object) (t : OpenTask) (batches : List (List Op)) (a : Ask)
+ask_sound : (again : OpenTask → Step) (l : Life) (o : Object) (t : OpenTask) (batches : List Made) (a : Ask)
     → ((u : OpenTask) → IsSound (again u)) → IsSound (on_ask again l o t batches a)
 ask_sound again l o t batches (ask.Store a) sound = behind_batches batches (asks o t (body.Ask a)) (tt, refl)
+ask_sound again l o t batches (ask.Open a) sound = behind_batches batches (asks o t (body.Ask a)) (tt, refl)
 ask_sound again l o t batches (ask.Written tail) sound = written_sound o t tail batches
 ask_sound again l o t batches ask.Sync sound = behind_batches batches (asks o t body.Sync) (tt, refl)
 ask_sound again l o t batches (ask.Call to method args) sound =

@@ -6,6 +6,7 @@ use Rattle.std.specs.Prelude.{ℤ, Bool, true, false, ◌==◌, if◌then◌else
 use Rattle.do_value.specs.Tree.{Tree}
 use Rattle.do_tree.specs.Lookup.{constructor_of, alarm_of as handler_of}
 use Rattle.storage_map.specs.declared.op.Op.{Op}
+use Rattle.write_batcher.specs.declared.batcher.Made.{Made}
 use Rattle.storage_map.specs.declared.op.Op.TheVariants as op
 use Rattle.script_mean.specs.Task as task
 use Rattle.script_mean.specs.Task.{Segment}
@@ -50,11 +51,11 @@ more_wait l [] t all own = (own, tt)
 more_wait l (u ∷ tasks) t all own = (all.0, more_wait l tasks t all.1 own)
 
 -- A write's completion is waited for.
-written_waits : (l : Life) (o : Object) (t : OpenTask) (tail : ℕ) (batches : List (List Op)) → TasksWait l o.tasks
+written_waits : (l : Life) (o : Object) (t : OpenTask) (tail : ℕ) (batches : List Made) → TasksWait l o.tasks
     → StepWaits l (asks_written o t tail batches)
 written_waits l o t tail [] all = all
-written_waits l o t tail (ops ∷ []) all = all
-written_waits l o t tail (ops ∷ next ∷ batches) all = written_waits l o t tail (next ∷ batches) all
+written_waits l o t tail (made ∷ []) all = all
+written_waits l o t tail (made ∷ next ∷ batches) all = written_waits l o t tail (next ∷ batches) all
 
 -- A call or a fetch leaves and its task waits, or it is refused.
 outside_waits : (l : Life) (again : OpenTask → Step) (o : Object) (t : OpenTask) (refused : Option Answer) (message : ℕ → Message)
@@ -94,6 +95,7 @@ turn_waits : (l : Life) (again : Object → OpenTask → Step) → ((o : Object)
     → (o : Object) (t : OpenTask) (turn : Option Segment) → latest_turn l t ≡ turn → TasksWait l o.tasks → StepWaits l (on_turn again l o t turn)
 turn_waits l again waits o t None is all = all
 turn_waits l again waits o t (Some (task.asked batches fs (ask.Store a) block)) is all = all
+turn_waits l again waits o t (Some (task.asked batches fs (ask.Open a) block)) is all = all
 turn_waits l again waits o t (Some (task.asked batches fs (ask.Written tail) block)) is all =
     written_waits l (wrote batches (record o { fields = fs })) (record t { block = block }) tail batches all
 turn_waits l again waits o t (Some (task.asked batches fs ask.Sync block)) is all = all

@@ -6,6 +6,7 @@ use Rattle.std.specs.Prelude.{ℤ, Bool, true, false, ◌==◌, map, if◌then�
 use Rattle.do_value.specs.Tree.{Tree}
 use Rattle.do_tree.specs.Lookup.{constructor_of, alarm_of as handler_of}
 use Rattle.storage_map.specs.declared.op.Op.{Op}
+use Rattle.write_batcher.specs.declared.batcher.Made.{Made}
 use Rattle.storage_map.specs.declared.op.Op.TheVariants as op
 use Rattle.script_mean.specs.Task as task
 use Rattle.script_mean.specs.Task.{Segment}
@@ -67,11 +68,11 @@ module _ (P : Caller → Type 0) where
   before_names xs s first names = (all_both BodyNames xs s.says first names.0, names.1)
 
   -- Batches reply to nobody.
-  batches_name : (batches : List (List Op)) → BodiesName (map batch batches)
+  batches_name : (batches : List Made) → BodiesName (map batch batches)
   batches_name [] = tt
-  batches_name (ops ∷ batches) = (tt, batches_name batches)
+  batches_name (made ∷ batches) = (tt, batches_name batches)
 
-  behind_batches : (batches : List (List Op)) (s : Step) → StepNames s → StepNames (before (map batch batches) s)
+  behind_batches : (batches : List Made) (s : Step) → StepNames s → StepNames (before (map batch batches) s)
   behind_batches batches s names = before_names (map batch batches) s (batches_name batches) names
 
   -- One of two steps.
@@ -80,12 +81,12 @@ module _ (P : Caller → Type 0) where
   either_names false s q one other = other
 
   -- A write's completion is waited for.
-  written_names : (o : Object) (t : OpenTask) (tail : ℕ) (batches : List (List Op)) → ObjectNames o → PurposeNames t.purpose
+  written_names : (o : Object) (t : OpenTask) (tail : ℕ) (batches : List Made) → ObjectNames o → PurposeNames t.purpose
       → StepNames (asks_written o t tail batches)
   written_names o t tail [] all own = (tt, all)
-  written_names o t tail (ops ∷ []) all own = (tt, (tt, all, own))
-  written_names o t tail (ops ∷ next ∷ batches) all own =
-      before_names (batch ops ∷ []) (asks_written o t tail (next ∷ batches)) (tt, tt) (written_names o t tail (next ∷ batches) all own)
+  written_names o t tail (made ∷ []) all own = (tt, (tt, all, own))
+  written_names o t tail (made ∷ next ∷ batches) all own =
+      before_names (batch made ∷ []) (asks_written o t tail (next ∷ batches)) (tt, tt) (written_names o t tail (next ∷ batches) all own)
 
   -- A call or a fetch leaves and its task waits, or it is refused.
   outside_names : (again : OpenTask → Step) (o : Object) (t : OpenTask) (refused : Option Answer) (message : ℕ → Message)
@@ -97,9 +98,10 @@ module _ (P : Caller → Type 0) where
       ((silent, tt), (all_both (λ (u : OpenTask). PurposeNames u.purpose) o.tasks (later ∷ []) all.0 (own, tt), all.1))
 
   -- An ask,
-  ask_names : (again : OpenTask → Step) (l : Life) (o : Object) (t : OpenTask) (batches : List (List Op)) (a : Ask)
+  ask_names : (again : OpenTask → Step) (l : Life) (o : Object) (t : OpenTask) (batches : List Made) (a : Ask)
       → ((u : OpenTask) → PurposeNames u.purpose → StepNames (again u)) → ObjectNames o → PurposeNames t.purpose → StepNames (on_ask again l o t batches a)
   ask_names again l o t batches (ask.Store a) names all own = behind_batches batches (asks o t (body.Ask a)) (tt, (tt, all, own))
+  ask_names again l o t batches (ask.Open a) names all own = behind_batches batches (asks o t (body.Ask a)) (tt, (tt, all, own))
   ask_names again l o t batches (ask.Written tail) names all own = written_names o t tail batches all own
   ask_names again l o t batches ask.Sync names all own = behind_batches batches (asks o t body.Sync) (tt, (tt, all, own))
   ask_names again l o t batches (ask.Call to method args) names all own =

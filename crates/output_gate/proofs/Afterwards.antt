@@ -72,24 +72,24 @@ abbrev place_with : ℕ → List ℕ → History → Place
 place_with last flights older = record { ended = suc last; taken = []; flights = flights; older = older }
 
 module _ (back : Backed) (e : Entry) (last : ℕ) (logs : AreLogs back) (long : length back.stops ≡ suc last) (is : e.incarnation ≡ suc last) (none : own_entries back ≡ []) where
-  place_before : (front : Fronted) → place_of front back ≡ place_with last (own_flights back) (incarnation_at front back last ∷ incarnations front back last)
+  pub place_before : (front : Fronted) → place_of front back ≡ place_with last (own_flights back) (incarnation_at front back last ∷ incarnations front back last)
   place_before front =
       ap (λ (n : ℕ). record { ended = n; taken = own_entries back; flights = own_flights back; older = incarnations front back n }) long
       ∙ ap (λ (es : List Entry). record { ended = suc last; taken = es; flights = own_flights back; older = incarnations front back (suc last) }) none
 
-  place_behind : (front : Fronted) → place_of front (record back { taken = back.taken ++ e ∷ [] })
+  pub place_behind : (front : Fronted) → place_of front (record back { taken = back.taken ++ e ∷ [] })
       ≡ place_with last (own_flights back) (later (incarnation_at front back last) e ∷ incarnations front back last)
   place_behind front =
       place_late front back e last logs long is
       ∙ ap (λ (es : List Entry). record { ended = suc last; taken = es; flights = own_flights back; older = later (incarnation_at front back last) e ∷ incarnations front back last }) none
 
 -- what is known where it comes
-record Comes (back : Backed) (e : Entry) : Type 0 where
-  late : IsLate back.taken back.stops e
-  last : ℕ
-  long : length back.stops ≡ suc last
-  own : e.incarnation ≡ suc last
-  none : own_entries back ≡ []
+pub record Comes (back : Backed) (e : Entry) : Type 0 where
+  pub late : IsLate back.taken back.stops e
+  pub last : ℕ
+  pub long : length back.stops ≡ suc last
+  pub own : e.incarnation ≡ suc last
+  pub none : own_entries back ≡ []
 
 comes_so : (back : Backed) (e : Entry) → AreInOrder back.taken back.stops → IsLate back.taken back.stops e → (n : ℕ) → length back.stops ≡ n → Comes back e
 comes_so back e o late zero is = absurd (omega (arith, late.numbered, late.own, is))
@@ -101,13 +101,13 @@ comes_so back e o late (suc last) is = record {
   none = entries_none (suc (length back.stops)) back.taken (λ k d lt. omega (arith, o.sorted k d lt, late.newest, late.own));
 }
 
-comes : {D : Type 0} (back : Back D) (e : Entry) → LateFit back e → back.number ≡ suc (length back.log.stops.items) → AreInOrder back.log.taken.items back.log.stops.items → Comes (backed back.log) e
+pub comes : {D : Type 0} (back : Back D) (e : Entry) → LateFit back e → back.number ≡ suc (length back.log.stops.items) → AreInOrder back.log.taken.items back.log.stops.items → Comes (backed back.log) e
 comes back e fits number o =
     comes_so (backed back.log) e o (is_late back.log.taken.items back.log.stops.items e o fits.comes (omega (arith, fits.before, number))) (length back.log.stops.items) refl
 
 module _ (back : Backed) (e : Entry) (c : Comes back e) where
   -- the end of its incarnation is the newest, and discards
-  ended_at : (front : Fronted) (settled : ℕ) → HaveEnded settled (older_of front back) → HasEnded settled (incarnation_at front back c.last) (incarnations front back c.last)
+  pub ended_at : (front : Fronted) (settled : ℕ) → HaveEnded settled (older_of front back) → HasEnded settled (incarnation_at front back c.last) (incarnations front back c.last)
   ended_at front settled h = subst (HaveEnded settled) (ap (incarnations front back) c.long) h
 
   its_stop : (front : Fronted) (settled : ℕ) (h : HasEnded settled (incarnation_at front back c.last) (incarnations front back c.last)) → last_stop back.stops ≡ Some h.stop
@@ -145,7 +145,7 @@ module _ (back : Backed) (e : Entry) (c : Comes back e) where
         (keeps_older front settled (ended_at front settled (l.placed front).ended) (l.keep yes front));
   }
 
-  ending_at : (front : Fronted) (ending : Ending) (settled : ℕ) → AreEnding ending settled (older_of front back) → IsEnding ending settled (incarnation_at front back c.last) (incarnations front back c.last)
+  pub ending_at : (front : Fronted) (ending : Ending) (settled : ℕ) → AreEnding ending settled (older_of front back) → IsEnding ending settled (incarnation_at front back c.last) (incarnations front back c.last)
   ending_at front ending settled h = subst (AreEnding ending settled) (ap (incarnations front back) c.long) h
 
   logged_down_late : (tells : Type 0) (ending : Ending) (settled flown : ℕ) → AreLogs back → IsLoggedDown tells back ending settled flown

@@ -193,7 +193,7 @@ module _ {D : Type 0} (moment_of : D → ℕ) (left_since : D → ℕ → List �
       → new ≡ record old { cache = cache; store = new.store } → FailsOwn moment_of left_since told image faults_of old new
   failed_stage old new cache object ops e journal at stages same = record {
     same = as_before old new new.store cache old.held old.log same refl refl;
-    disk = let st = stages journal at in staged_disk old.store new.store journal st.new at st.is st.disk st.limit;
+    disk = let st = stages journal at in staged_disk old.store new.store journal st.new at st.is st.disk st.limit st.end;
     back = λ start opening m.
         let st = stages m.journal m.safe.store in
         subst (IsMounted moment_of left_since told image faults_of start opening false)
@@ -225,7 +225,7 @@ module _ {D : Type 0} (moment_of : D → ℕ) (left_since : D → ℕ → List �
         before = ap (λ (x : Back D). x.before + 1) same;
         durable = ap (λ (x : Back D). x.durable) same;
         limit = ap (λ (x : Back D). x.limit) same;
-        disk = let st = stages journal at in staged_disk old.store add.store journal st.new at (ap (λ (x : Back D). x.store) then ∙ st.is) st.disk st.limit;
+        disk = let st = stages journal at in staged_disk old.store add.store journal st.new at (ap (λ (x : Back D). x.store) then ∙ st.is) st.disk st.limit st.end;
         back = λ start opening m.
             let st = stages m.journal m.safe.store in
             subst (IsMounted moment_of left_since told image faults_of start opening true)

@@ -44,7 +44,7 @@ module _ (settled : ℕ) (i : Incarnation) (older : History) (e : Entry) (h : Ha
   same_kept = ap (λ bs. kept_before older ++ bs)
       (ap (kept_by i.kept) (batches_more i.taken e) ∙ kept_more i.kept (batches_in i.taken) (batches_of (said_by e.body)) h.kept)
 
-  same_own : own_batches (later i e) ≡ own_batches i
+  pub same_own : own_batches (later i e) ≡ own_batches i
   same_own =
       ap (λ bs. before_stop i.stop bs) (batches_more i.taken e)
       ∙ ap (λ (o : Option Stop). before_stop o (batches_in i.taken ++ batches_of (said_by e.body))) h.stopped

@@ -35,3 +35,7 @@ pub mod Telling
 pub mod Orderly
 pub mod Sent
 pub mod Unfit
+pub mod Frames
+pub mod Written
+pub mod Finding
+pub mod Unfilled

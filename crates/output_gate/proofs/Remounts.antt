@@ -40,7 +40,7 @@ abbrev is_down_now : Mode → Type 0
 is_down_now (Down ending) = Unit {0}
 is_down_now mode = ⊥
 
-same_ending : (one ending : Ending) (mode : Mode) → IsAtEnd one mode → mode ≡ Wanted ending → one ≡ ending
+pub same_ending : (one ending : Ending) (mode : Mode) → IsAtEnd one mode → mode ≡ Wanted ending → one ≡ ending
 same_ending one ending mode (inl wanted) is = ap (λ m. ending_in m one) (sym wanted ∙ is)
 same_ending one ending mode (inr down) is = absurd (subst is_down_now (sym down ∙ is) tt)
 

@@ -61,7 +61,7 @@ last_halt old held h c last halting =
     (all.0, all.1, sym (ap halts_well halting.body) ∙ all.2)
 
 -- where the log stands behind a halt
-restart_place : (front : Fronted) (back : Backed) (stop : Stop) (own : ℕ) → AreLogs back → stop.flights ≡ length back.flights → length back.ends ≡ length back.stops
+pub restart_place : (front : Fronted) (back : Backed) (stop : Stop) (own : ℕ) → AreLogs back → stop.flights ≡ length back.flights → length back.ends ≡ length back.stops
     → place_of front (record back { stops = back.stops ++ stop ∷ []; ends = back.ends ++ record { kept = own; cause = stop.cause } ∷ [] })
     ≡ record { ended = suc (length back.stops); taken = []; flights = []; older = record (going_on front (length back.stops) (own_entries back) (own_flights back)) { stop = Some stop; kept = Some own } ∷ older_of front back }
 restart_place front back stop own logs all followed =

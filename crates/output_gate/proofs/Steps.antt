@@ -5,7 +5,8 @@ use Rattle.std.proofs.lemmas.List.Elements.{All-push}
 use Rattle.std.specs.Prelude.{true, false, Bool, is_some}
 use Rattle.batch_journal.specs.Frames.{Frame, Name}
 use Rattle.batch_journal.specs.Moments.{TellsAsBefore, IsTold}
-use Rattle.batch_journal.specs.Rest.{IsAtRest, IsStaged, CanAppend, disk_in}
+use Rattle.batch_journal.proofs.Journals.{length-journal_push}
+use Rattle.batch_journal.specs.Rest.{IsAtRest, IsStaged, CanAppend, disk_in, end_of}
 use Rattle.batch_journal.specs.Staged.{frame_of}
 use Rattle.batch_journal.specs.declared.journal.Journal.{Journal}
 use Rattle.storage_map.specs.Limits.{Object}
@@ -20,6 +21,7 @@ use Rattle.timeline.specs.declared.caller.Cause.{Cause}
 use Rattle.timeline.specs.declared.caller.Cause.TheVariants as cause
 use Rattle.output_gate.specs.Counted.{stop_counts, AreCounted}
 use Rattle.output_gate.specs.Ended.{IsLogged, IsLoggedDown}
+use Rattle.output_gate.specs.Flushing.{GetsFrame}
 use Rattle.output_gate.specs.Held.{has_halt}
 use Rattle.output_gate.specs.Serving.{HasRoom, IsSafe, IsMounted, IsSafeEnded, IsUnmounted, IsBackAs, Lands, CanLand, Stops, CanStop, ending_of, stop_of}
 use Rattle.output_gate.specs.Standing.{AreLogs, own_entries}
@@ -36,6 +38,7 @@ use Rattle.output_gate.proofs.Endings.{logged_flew, logged_stopped}
 use Rattle.output_gate.proofs.Flushes.{front_none, name_all, lands, ends, stopped}
 use Rattle.output_gate.proofs.Helds.{true_false, none_stays}
 use Rattle.output_gate.proofs.Histories.{flies_fit, stops_fit, all_below}
+use Rattle.output_gate.proofs.Stored.{same_journal}
 
 -- a disk that tells its content now told it before
 abbrev given_bytes : Option (List ℕ) → List ℕ → List ℕ
@@ -49,7 +52,7 @@ told_if None is = absurd (true_false (sym is))
 pub told_before : (old new : Option (List ℕ)) → TellsAsBefore old new → IsTold new → IsTold old
 told_before old new same tells = told_if old (sym same ∙ ap is_some tells.1)
 
-longer : {X : Type 0} (durable before : ℕ) (xs : List X) → before ≡ durable + length xs → before ≢ durable → durable < before
+pub longer : {X : Type 0} (durable before : ℕ) (xs : List X) → before ≡ durable + length xs → before ≢ durable → durable < before
 longer durable before [] is other = absurd (other (omega (arith, is)))
 longer durable before (x ∷ xs) is other = omega (arith, is)
 
@@ -98,6 +101,18 @@ module _ {D : Type 0} (told : D → Option (List ℕ)) (image : D → List ℕ �
 
   pub safe_object : (journal : Journal D) (back : Back D) (s : IsSafe told image journal back) → back.before ≢ back.durable → (object : Object) × (back.identity ≡ Some object)
   safe_object journal back s more = object_if journal back s (safe_staged journal back s more) back.identity refl
+
+  -- the frame of a good append stands at the journal's end
+  pub gets_frame : (old new : Back D) (journal after : Journal D) → IsSafe told image journal old → new.store ≡ store.Journal after
+      → ((frames : List Frame) (object : Object) (batches : List (List Op)) → IsAtRest told image journal frames → IsStaged journal object batches → Name object frames
+      → IsAtRest told image after (frames ++ frame_of object batches ∷ []))
+      → GetsFrame old new
+  gets_frame old new journal after s into appended one later from is object batches named staged =
+      let first : one ≡ journal = same_journal one journal (sym from ∙ s.store) in
+      let last : later ≡ after = same_journal later after (sym is ∙ into) in
+      let rest = appended s.frames object batches s.at_rest (subst (λ (j : Journal D). IsStaged j object batches) first staged)
+      (name_all object s.frames old.identity named s.named) in
+      omega (arith, ap end_of last, ap end_of first, rest.end, s.at_rest.end, length-journal_push s.frames (frame_of object batches))
 
   -- something is staged for the journal
   pub can_append : (journal : Journal D) (back : Back D) → IsSafe told image journal back → back.before ≢ back.durable → CanAppend told image journal
@@ -208,7 +223,7 @@ module _ {D : Type 0} (moment_of : D → ℕ) (left_since : D → ℕ → List �
             (backed old.log) (backed new.log) (stop_of old fault.cause) m.counts ends_now.stops (ap (λ (log : BackLog). log.downs.items) ends_now.log) fault.cause refl a.ended.cause a.later;
       }
 
-abbrev ending_in : Mode → Ending → Ending
+abbrev pub ending_in : Mode → Ending → Ending
 ending_in (Wanted ending) other = ending
 ending_in mode other = other
 

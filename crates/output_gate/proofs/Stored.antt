@@ -2,9 +2,9 @@
 use Rattle.std.proofs.Common.{◌≡◌, ◌∙◌, ap, sym, refl, subst, ℕ, List, ◌∷◌, get_or, Option}
 use Rattle.std.specs.Prelude.{is_some}
 use Rattle.batch_journal.specs.Moments.{TellsAsBefore}
-use Rattle.batch_journal.specs.Rest.{disk_in, limit_of}
+use Rattle.batch_journal.specs.Rest.{disk_in, end_of, limit_of}
 use Rattle.batch_journal.specs.declared.journal.Journal.{Journal}
-use Rattle.output_gate.specs.Storing.{HasLimit, IsDiskOf, KeepsDisk, KeepsLimit, KeepsTelling}
+use Rattle.output_gate.specs.Storing.{HasLimit, IsDiskOf, KeepsDisk, KeepsEnd, KeepsLimit, KeepsTelling}
 use Rattle.output_gate.specs.declared.store.Store.{Store}
 use Rattle.output_gate.specs.declared.store.Store.TheVariants as store
 
@@ -49,19 +49,24 @@ keeps_limit old new journal later from into same limit has = limited_in new late
 pub still_limit : {D : Type 0} (old new : Store D) → new ≡ old → KeepsLimit old new
 still_limit old new same limit has = subst (HasLimit limit) (sym same) has
 
+-- the same store has the same journal
+pub still_end : {D : Type 0} (old new : Store D) → new ≡ old → KeepsEnd old new
+still_end old new same journal is = (journal, sym same ∙ is, refl)
+
 -- the same store has the same disk
 pub still_disk : {D : Type 0} (old new : Store D) → new ≡ old → KeepsDisk old new
-still_disk old new same = record { still = λ disk at. subst (λ (s : Store _). IsDiskOf s disk) (sym same) at; limit = still_limit old new same }
+still_disk old new same = record { still = λ disk at. subst (λ (s : Store _). IsDiskOf s disk) (sym same) at; limit = still_limit old new same; end = still_end old new same }
 
 -- something was staged in its journal
 pub staged_disk : {D : Type 0} (old new : Store D) (journal later : Journal D) → old ≡ store.Journal journal → new ≡ store.Journal later → disk_in later ≡ disk_in journal
-    → limit_of later ≡ limit_of journal → KeepsDisk old new
-staged_disk {D} old new journal later from into same limit = record {
+    → limit_of later ≡ limit_of journal → end_of later ≡ end_of journal → KeepsDisk old new
+staged_disk {D} old new journal later from into same limit end = record {
   still = λ disk at.
       let was : disk ≡ disk_in journal = subst (λ (s : Store D). IsDiskOf s disk) from at in
       let is : IsDiskOf (store.Journal later) disk = was ∙ sym same in
       subst (λ (s : Store D). IsDiskOf s disk) (sym into) is;
   limit = keeps_limit old new journal later from into limit;
+  end = λ other is. (journal, from, ap end_of (same_journal other later (sym is ∙ into)) ∙ end);
 }
 
 -- the same disk tells the same

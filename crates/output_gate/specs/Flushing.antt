@@ -1,8 +1,11 @@
 -- What a flush does, as its caller sees it.
-use Rattle.std.specs.Prelude.{◌≡◌, ◌⊎◌, ◌-◌, ◌∷◌, [], ◌++◌, ℕ}
+use Rattle.std.specs.Prelude.{◌≡◌, ◌⊎◌, ◌-◌, ◌∷◌, [], ◌++◌, ℕ, List, Some}
 use Rattle.std.specs.List.{flat_map}
-use Rattle.batch_journal.specs.Rest.{end_of}
+use Rattle.batch_journal.specs.Rest.{IsStaged, end_of, needed}
+use Rattle.batch_journal.specs.Staged.{frame_of}
 use Rattle.batch_journal.specs.declared.journal.Journal.{Journal}
+use Rattle.storage_map.specs.Limits.{Object}
+use Rattle.storage_map.specs.declared.op.Op.{Op}
 use Rattle.timeline.specs.Logs.{backed}
 use Rattle.timeline.specs.declared.caller.Cause.{Cause}
 use Rattle.output_gate.specs.Held.{stays}
@@ -12,6 +15,12 @@ use Rattle.output_gate.specs.declared.back.Back.{Back}
 use Rattle.output_gate.specs.declared.back.Ending.{Ending}
 use Rattle.output_gate.specs.declared.back.Mode.TheVariants.{Wanted}
 use Rattle.output_gate.specs.declared.store.Store.TheVariants as store
+
+-- The journal got one frame, of what was staged of the slot's object.
+abbrev pub GetsFrame : {D : Type 0} → (old new : Back D) → Type 0
+GetsFrame {D} old new = (journal after : Journal D) → old.store ≡ store.Journal journal → new.store ≡ store.Journal after
+    → (object : Object) (batches : List (List Op)) → old.identity ≡ Some object → IsStaged journal object batches
+    → end_of after ≡ needed journal (frame_of object batches)
 
 -- One flight of all batches that were taken and not durable; they are durable now.
 pub record FliesAll {D : Type 0} (old new : Back D) : Type 0 where
@@ -24,6 +33,7 @@ pub record FliesAll {D : Type 0} (old new : Back D) : Type 0 where
   pub limit : new.limit ≡ old.limit
   pub identity : new.identity ≡ old.identity
   pub stuck : new.stuck ≡ old.stuck
+  pub end : GetsFrame old new
 
 -- The incarnation ends, by a cause that the append had, and a mounting is wanted, for which the journal's end before the append is
 -- kept. The batches that weren't durable don't count, and of a reply that needs one of them the failure is held.

@@ -16,5 +16,6 @@ pub mod Logs
 pub mod Releasing
 pub mod Mending
 pub mod Laws
+pub mod Written
 pub mod Telling
 pub mod Examples

@@ -29,10 +29,16 @@ HasLimit {D} limit kept = (journal : Journal D) → kept ≡ store.Journal journ
 abbrev pub KeepsLimit : {D : Type 0} → (old new : Store D) → Type 0
 KeepsLimit old new = (limit : ℕ) → HasLimit limit old → HasLimit limit new
 
--- The disk that was in the store is in it still, and a journal has the limit that it had.
+-- A journal in the store ends where the one that was in it before does.
+abbrev pub KeepsEnd : {D : Type 0} → (old new : Store D) → Type 0
+KeepsEnd {D} old new = (journal : Journal D) → new ≡ store.Journal journal
+    → (before : Journal D) × (old ≡ store.Journal before) × (end_of journal ≡ end_of before)
+
+-- The disk that was in the store is in it still, and a journal has the limit that it had and ends where it did.
 pub record KeepsDisk {D : Type 0} (old new : Store D) : Type 0 where
   pub still : (disk : D) → IsDiskOf old disk → IsDiskOf new disk
   pub limit : KeepsLimit old new
+  pub end : KeepsEnd old new
 
 -- The store's disk tells its content exactly where the one before did.
 abbrev pub KeepsTelling : {D : Type 0} → (D → Option (List ℕ)) → (old new : Store D) → Type 0
@@ -48,6 +54,7 @@ pub record Stages {D : Type 0} (told : D → Option (List ℕ)) (image : D → L
   pub frames : (frames : List Frame) → IsAtRest told image old frames → IsAtRest told image new frames
   pub disk : disk_in new ≡ disk_in old
   pub limit : limit_of new ≡ limit_of old
+  pub end : end_of new ≡ end_of old
 
 -- A fault of an append: the disk's count of faults rose, or the journal would have passed its limit.
 abbrev pub IsCauseOf : {D : Type 0} → (D → ℕ) → (old new : Journal D) → Cause → Type 0

@@ -120,6 +120,7 @@ impl<D: Disk> Back<D> {
             journal,
             identity,
             map,
+            index: _,
         } = mounted;
         let limit = journal.limit();
         Back {

@@ -1,6 +1,7 @@
 //! Laws of backs, for whoever holds one. A call costs nothing and tells its caller the law.
-ghost use Rattle.output_gate.specs.Examples.{IsToldByNone, missed_ended, missed_unended};
+ghost use Rattle.output_gate.specs.Examples.{IsFilledByNone, IsToldByNone, full_early, missed_ended, missed_unended};
 ghost use Rattle.output_gate.specs.Laws.{HistorySteps};
+ghost use Rattle.output_gate.specs.Written.{FreshIsWritten};
 ghost use Rattle.output_gate.specs.Telling.{BackTells, BackIsOrdered, MapIsWritten, NoticesAnswer};
 
 use crate::back::Back;
@@ -42,6 +43,18 @@ pub fn map_is_written<D: Disk>(back: &Back<D>)
 {
     let _ = back;
 }
+
+/// The journal of a slot that was just mounted ends where it did, whatever its limit.
+pub fn fresh_is_written<D: Disk>(back: &Back<D>)
+    ensures { FreshIsWritten D.moment_of D.left_since D.told D.image D.faults_of back.now }
+{
+    let _ = back;
+}
+
+/// An end by a full journal is invented by nobody: a small write doesn't fill a journal of 4,096 bytes in which nothing stood.
+pub fn small_writes_fill_nothing()
+    ensures { IsFilledByNone full_early }
+{}
 
 fn is_sent<T: Send>() {}
 

@@ -7,6 +7,7 @@ ghost use Rattle.timeline.specs.declared.notice.Notice.TheVariants as notice;
 ghost use Rattle.output_gate.specs.Mending.{IsFound, CountsFound, IsLimited, is_own_object, Begins, Misses, CanBegin, CanMend, Remounts, may_mend, MendRoom, IsIdleMend, Mends, LosesMend, IsRefusedFor, FallsByFault};
 ghost use Rattle.output_gate.specs.Storing.{HasLimit, KeepsTelling};
 ghost use Rattle.output_gate.specs.Taking.{LogSame};
+ghost use Rattle.output_gate.specs.Written.{FindsEnd};
 ghost use Rattle.timeline.specs.declared.notice.Stepped.TheVariants.{Did, Nothing};
 ghost use Rattle.output_gate.specs.Serving.{IsUnmounted, IsBackAs, CanServe, CanServeAs, KeepsBack, KeepsBackAs, StopsBy, is_stopped, IsAsBefore};
 
@@ -43,6 +44,7 @@ impl<D: Disk> Back<D> {
         ensures nothing { result ≡ Ok Nothing → may_mend self.old ≡ false }
         ensures mended { result ≡ Ok Did → Mends D.faults_of self.old self.new (N.sent notices.old) (N.sent notices.new) }
         ensures falls { is_stopped self.old ≡ false → may_mend self.old ≡ true → FallsByFault D.faults_of D.told self.old self.new }
+        ensures finds { FindsEnd D.told self.old self.new }
         ensures tells { KeepsTelling D.told self.old.store self.new.store }
         ensures limit { HasLimit self.old.limit self.old.store → HasLimit self.old.limit self.new.store }
         ensures lost { OnErr result (LosesMend D.faults_of self.old self.new (N.sent notices.old) (N.sent notices.new)) }
@@ -65,6 +67,7 @@ impl<D: Disk> Back<D> {
         ensures nothing { result ≡ Ok Nothing → may_mend self.old ≡ false }
         ensures mended { result ≡ Ok Did → Mends D.faults_of self.old self.new (N.sent notices.old) (N.sent notices.new) }
         ensures falls { may_mend self.old ≡ true → FallsByFault D.faults_of D.told self.old self.new }
+        ensures finds { FindsEnd D.told self.old self.new }
         ensures tells { KeepsTelling D.told self.old.store self.new.store }
         ensures limit { HasLimit self.old.limit self.old.store → HasLimit self.old.limit self.new.store }
         ensures lost { OnErr result (LosesMend D.faults_of self.old self.new (N.sent notices.old) (N.sent notices.new)) }
@@ -89,6 +92,7 @@ impl<D: Disk> Back<D> {
         requires { CanMend D.moment_of D.left_since D.told D.image D.faults_of self.old ending }
         ensures remounts { IfOk result (λ notice. Remounts D.faults_of self.old self.new ending notice) }
         ensures falls { FallsByFault D.faults_of D.told self.old self.new }
+        ensures finds { FindsEnd D.told self.old self.new }
         ensures tells { KeepsTelling D.told self.old.store self.new.store }
         ensures limit { HasLimit self.old.limit self.old.store → HasLimit self.old.limit self.new.store }
         ensures kept { OnErr result (IsAsBefore self.old self.new) }
@@ -140,6 +144,7 @@ impl<D: Disk> Back<D> {
             journal,
             identity: _,
             map,
+            index: _,
         } = mounted;
         let alarm = map.alarm();
         let is_whole = journal.end() != ending.end;

@@ -36,7 +36,10 @@ impl<D: Disk> Store<D> {
         ensures { (journal : Journal D) → self.old ≡ Store.Journal journal → Stages D.told D.image journal self.new identity.now batch.now result }
     {
         match self {
-            Store::Journal(journal) => journal.stage(batch, identity),
+            Store::Journal(journal) => {
+                let _ = journal.stage(batch, identity)?;
+                Ok(())
+            }
             _ => unreachable!(),
         }
     }

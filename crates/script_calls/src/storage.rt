@@ -14,12 +14,12 @@ ghost use Rattle.script_steps.specs.Paths.{is_present};
 
 use crate::ending::{nowhere, thrown};
 use do_value::{Mem, Value};
-use script_asks::{Completed, Request, completed_by, request, storage_call};
-use script_mean::{Ask, StorageCall};
+use script_asks::{Completed, Request, allowed, completed_by, request, storage_call};
+use script_mean::{Allowed, Ask, StorageCall};
 use script_state::{Done, Gives, State, Waiting};
 use script_steps::{Await, Outcome};
 use std::alloc::Global;
-use storage_map::{Op, Reading};
+use storage_map::{Op, Reading, StoreAsk};
 
 /// A call of the method of the storage with this name, in a class with an alarm handler or without.
 pub fn call_storage(
@@ -40,7 +40,7 @@ pub fn call_storage(
     }
 }
 
-// A call of this method of the storage.
+// A call of this method of the storage, with what its options allow.
 fn store_call(
     alloc: Global,
     state: &mut State,
@@ -49,26 +49,45 @@ fn store_call(
     call: StorageCall,
     args: &[Value],
 ) -> Mem<Done>
-    ensures same { IfOk result (Does (calls.try_request (is_present awaited) (storing.request has_handler call (trees_in args.now))) state.old state.new) }
+    ensures same { IfOk result (Does (calls.try_request (storing.allowed call (trees_in args.now)) (is_present awaited)
+        (storing.request has_handler call (trees_in args.now))) state.old state.new) }
     ensures ready { IfOk result (IsReady state.new) }
 {
+    let may = allowed(call, args);
     match request(alloc, has_handler, call, args) {
-        Ok(request) => do_request(alloc, state, awaited, request),
+        Ok(request) => do_request(alloc, state, may, awaited, request),
         Err(fault) => Ok(Done::Ended(thrown(fault)?)),
     }
 }
 
 // What the request says is done.
-fn do_request(alloc: Global, state: &mut State, awaited: Await, request: Request) -> Mem<Done>
+fn do_request(
+    alloc: Global,
+    state: &mut State,
+    may: Allowed,
+    awaited: Await,
+    request: Request,
+) -> Mem<Done>
     requires within { AreWithin request }
     requires short { IsShort (request_of request) }
-    ensures same { IfOk result (Does (calls.do_request (is_present awaited) (request_of request)) state.old state.new) }
+    ensures same { IfOk result (Does (calls.do_request may (is_present awaited) (request_of request)) state.old state.new) }
     ensures ready { IfOk result (IsReady state.new) }
 {
     match request {
-        Request::Reads(ask) => state.ask_storage(Ask::Store(ask), Waiting::Reads),
+        Request::Reads(ask) => state.ask_storage(read_ask(may, ask), Waiting::Reads),
         Request::Syncs => state.ask_storage(Ask::Sync, Waiting::Syncs),
-        Request::Writes { ops, gives } => do_write(alloc, state, awaited, ops, gives),
+        Request::Writes { ops, gives } => do_write(alloc, state, may, awaited, ops, gives),
+    }
+}
+
+// A read, which is open where other events may be delivered meanwhile.
+fn read_ask(may: Allowed, ask: StoreAsk) -> Ask
+    ensures { result ≡ calls.read_ask may.concurrency ask }
+{
+    if may.concurrency {
+        Ask::Open(ask)
+    } else {
+        Ask::Store(ask)
     }
 }
 
@@ -76,30 +95,37 @@ fn do_request(alloc: Global, state: &mut State, awaited: Await, request: Request
 fn do_write(
     alloc: Global,
     state: &mut State,
+    may: Allowed,
     awaited: Await,
     ops: Vec<Op>,
     gives: Completed,
 ) -> Mem<Done>
     requires within { All IsOp ops.items }
     requires short { length ops.items ≤ 128 }
-    ensures same { IfOk result (Does (calls.do_request (is_present awaited) (storing.writes ops.items (completed_of gives))) state.old state.new) }
+    ensures same { IfOk result (Does (calls.do_request may (is_present awaited) (storing.writes ops.items (completed_of gives))) state.old state.new) }
     ensures ready { IfOk result (IsReady state.new) }
 {
     match awaited {
-        Await::Present => write_awaited(alloc, state, ops, gives),
-        Await::Absent => Ok(Done::Ended(state.join(alloc, ops)?)),
+        Await::Present => write_awaited(alloc, state, may, ops, gives),
+        Await::Absent => Ok(Done::Ended(state.join(alloc, ops, !may.unconfirmed)?)),
     }
 }
 
 // The same of an awaited write.
-fn write_awaited(alloc: Global, state: &mut State, ops: Vec<Op>, gives: Completed) -> Mem<Done>
+fn write_awaited(
+    alloc: Global,
+    state: &mut State,
+    may: Allowed,
+    ops: Vec<Op>,
+    gives: Completed,
+) -> Mem<Done>
     requires within { All IsOp ops.items }
     requires short { length ops.items ≤ 128 }
-    ensures same { IfOk result (Does (calls.do_request true (storing.writes ops.items (completed_of gives))) state.old state.new) }
+    ensures same { IfOk result (Does (calls.do_request may true (storing.writes ops.items (completed_of gives))) state.old state.new) }
     ensures ready { IfOk result (IsReady state.new) }
 {
     let tail = count_of(&ops);
-    let joined = state.join(alloc, ops)?;
+    let joined = state.join(alloc, ops, !may.unconfirmed)?;
     match joined {
         Outcome::Gave(_) => complete(state, tail, gives),
         _ => Ok(Done::Ended(joined)),
@@ -131,7 +157,7 @@ fn complete(state: &mut State, tail: u32, gives: Completed) -> Mem<Done>
 
 // Whether there are no operations, and no open batch.
 fn is_idle(state: &State, tail: u32) -> bool
-    ensures { result ≡ calls.is_idle tail state.now.pending }
+    ensures { result ≡ calls.is_idle tail state.now.pending.ops }
 {
     tail == 0 && state.pending.as_slice().is_empty()
 }

@@ -16,7 +16,8 @@ use Rattle.script_mean.specs.Meaning.{First, body, calls_of, class_task, finish,
 use Rattle.script_mean.specs.Task.{Fields, Resume, untouched}
 use Rattle.script_mean.specs.Turn.{State, begun}
 use Rattle.script_mean.specs.declared.limits.TheConstants.{MOST_STEPS}
-use Rattle.storage_map.specs.declared.op.Op.{Op}
+use Rattle.write_batcher.specs.Marked.{Open, nothing_open}
+use Rattle.write_batcher.specs.declared.batcher.Made.{Made}
 use Rattle.script_state.specs.Seen.{state_of, wait_of}
 use Rattle.script_steps.specs.Seen.{outcome_of}
 use Rattle.script_steps.specs.declared.focus.Focus.TheVariants as focus
@@ -62,11 +63,13 @@ resumed_turns script t r c m o is_class answer frames vars state rs =
     ∙ ap (λ x. next_in c t.starts x (outcome_of o) (env_of m.state.vars) (state_of m.state rs)) (sym frames)
 
 -- A state in which no step was taken.
-abbrev rested : Fields → List Resume → List (List Op) → List Op → ℤ → State
+abbrev rested : Fields → List Resume → List Made → Open → ℤ → State
 rested fields rs closed pending now = record { left = MOST_STEPS; closed = closed; pending = pending; held = untouched; fields = fields; now = now; resumes = rs }
 
 -- Such is the state at a task's start.
-pub first_state : (closed : List (List Op)) (pending : List Op) (moment now : ℤ) (fields : Fields) → closed ≡ [] → pending ≡ [] → moment ≡ now → (rs : List Resume)
+pub first_state : (closed : List Made) (pending : Open) (moment now : ℤ) (fields : Fields) → closed ≡ [] → pending ≡ nothing_open → moment ≡ now
+    → (rs : List Resume)
     → rested fields rs closed pending moment ≡ started (record { fields = fields; now = now }) rs
 first_state closed pending moment now fields is_closed is_pending is_now rs =
-    ap (λ bs. rested fields rs bs pending moment) is_closed ∙ ap (λ ops. rested fields rs [] ops moment) is_pending ∙ ap (rested fields rs [] []) is_now
+    ap (λ bs. rested fields rs bs pending moment) is_closed ∙ ap (λ ops. rested fields rs [] ops moment) is_pending
+    ∙ ap (rested fields rs [] nothing_open) is_now

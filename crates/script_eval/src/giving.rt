@@ -10,7 +10,7 @@ use do_value::{Fields, Mem, Value};
 use script_mean::Ask;
 use script_state::{State, Waiting};
 use script_steps::Outcome as Ended;
-use storage_map::Batch;
+use write_batcher::Made;
 
 /// The task where it waits for the answer to this ask.
 #[tactic(auto, using(crate::proofs::Stopped::paused_gives))]
@@ -79,7 +79,7 @@ fn over(machine: Machine, ended: Ended, class: u32, starts: bool) -> Mem<Outcome
 }
 
 /// The task is done, and gave nothing.
-fn done(batches: Vec<Batch>, fields: Fields) -> Outcome
+fn done(batches: Vec<Made>, fields: Fields) -> Outcome
     ensures { result ≡ Outcome.Done batches Value.Undefined fields }
 {
     Outcome::Done {

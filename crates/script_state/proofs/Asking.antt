@@ -1,8 +1,9 @@
 -- How turns end with asks.
-use Rattle.std.proofs.Common.{◌≡◌, ℕ, ◌+◌, ◌<◌, List, [], ◌∷◌, length, refl, sym, ap, subst, ◌∙◌, lt-ltb}
+use Rattle.std.proofs.Common.{◌≡◌, ℕ, true, ◌+◌, ◌<◌, List, [], ◌∷◌, length, refl, sym, ap, subst, ◌∙◌, lt-ltb}
 use Rattle.do_value.specs.Seen.{tree_of}
 use Rattle.do_value.specs.declared.value.Value.{Value}
 use Rattle.storage_map.specs.declared.op.Op.{Op}
+use Rattle.write_batcher.specs.declared.batcher.Made.{Made}
 use Rattle.script_mean.specs.Calls.{commit, committed}
 use Rattle.script_mean.specs.Task as task
 use Rattle.script_mean.specs.Task.{Env, Resume, Segment}
@@ -62,21 +63,25 @@ pub still_open : (w : Waiting) (old new : State) → Becomes cut old new → IsO
     → IsOpenFor (wait_of w new.transaction) new.transaction
 still_open w old new closed is = subst (λ m. IsOpenFor (wait_of w m) m) (sym (transaction_stays old new closed)) is
 
+-- The batch of a transaction's operations.
+abbrev pub confirmed_batch : List Op → Made
+confirmed_batch ops = record { batch = ops; confirmed = true }
+
 -- A transaction's operations are one batch, behind the open one.
 committed_asks : (ops : List Op) (v : Value) (old mid new : State) → (ops ≡ [] → ⊥) → old.awaits < MOST_STORAGE_AWAITS
-    → Becomes cut (awaiting old) mid → Becomes (closing ops) mid new
+    → Becomes cut (awaiting old) mid → Becomes (closing (confirmed_batch ops)) mid new
     → Does (commit ops (tree_of v)) old new (done.Asks (asked.Written (length ops)) (waiting.Completes (length ops) (gives.This v)))
 committed_asks [] v old mid new some few cuts closes next rs = absurd (some refl)
 committed_asks (op ∷ ops) v old mid new some few cuts closes next rs =
     let a : Ask = asked.Written (length (op ∷ ops)) in
     let w : Waiting = waiting.Completes (length (op ∷ ops)) (gives.This v) in
     ap (λ t. either t (committed (op ∷ ops) (tree_of v)) exceed (env_of old.vars) next (state_of old rs)) (lt-ltb old.awaits MOST_STORAGE_AWAITS few)
-    ∙ ap (λ vs. asking a w (closing (op ∷ ops) (cut (state_of (awaiting old) rs))) (env_of vs) next) (sym (closes.vars ∙ cuts.vars))
-    ∙ ap (λ st. asking a w st (env_of new.vars) next) (sym (closes.state rs ∙ ap (closing (op ∷ ops)) (cuts.state rs)))
+    ∙ ap (λ vs. asking a w (closing (confirmed_batch (op ∷ ops)) (cut (state_of (awaiting old) rs))) (env_of vs) next) (sym (closes.vars ∙ cuts.vars))
+    ∙ ap (λ st. asking a w st (env_of new.vars) next) (sym (closes.state rs ∙ ap (closing (confirmed_batch (op ∷ ops))) (cuts.state rs)))
 
 -- The same with the count of its operations.
 pub commit_asked : (ops : List Op) (count : ℕ) (v : Value) (old mid new : State) → count ≡ length ops → (ops ≡ [] → ⊥) → old.awaits < MOST_STORAGE_AWAITS
-    → Becomes cut (awaiting old) mid → Becomes (closing ops) mid new
+    → Becomes cut (awaiting old) mid → Becomes (closing (confirmed_batch ops)) mid new
     → Does (commit ops (tree_of v)) old new (done.Asks (asked.Written count) (waiting.Completes count (gives.This v)))
 commit_asked ops count v old mid new counted some few cuts closes =
     subst (λ n. Does (commit ops (tree_of v)) old new (done.Asks (asked.Written n) (waiting.Completes n (gives.This v)))) (sym counted)

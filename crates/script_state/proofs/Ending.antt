@@ -8,6 +8,7 @@ use Rattle.do_value.specs.declared.value.Value.TheVariants.{Undefined}
 use Rattle.storage_map.specs.Limits.{most_batch_bytes}
 use Rattle.storage_map.specs.Ops.{batch_bytes}
 use Rattle.storage_map.specs.declared.op.Op.{Op}
+use Rattle.write_batcher.specs.Marked.{Open, more}
 use Rattle.script_mean.specs.Answers.{gave, returned, threw}
 use Rattle.script_mean.specs.Calls.{transacting}
 use Rattle.script_mean.specs.Errors.{batch_full}
@@ -29,18 +30,19 @@ use Rattle.script_state.specs.declared.done.Done.TheVariants as done
 use Rattle.script_state.specs.declared.state.State.{State}
 
 -- Operations that fit join the open batch.
-pub joined : (ops pending : List Op) (old : State) → length (batch_bytes (old.pending ++ ops)) ≤ most_batch_bytes → pending ≡ old.pending ++ ops
-    → Goes (join ops) old (record old { pending = pending }) (ending.Gave Undefined)
-joined ops pending old small more = λ next rs.
-    ap (λ t. join_where t ops (env_of old.vars) next (state_of old rs)) (le-leb (length (batch_bytes (old.pending ++ ops))) most_batch_bytes small)
-    ∙ ap (λ ps. next (gave undefined) (env_of old.vars) (state_of (record old { pending = ps }) rs)) (sym more)
+pub joined : (ops : List Op) (confirmed : Bool) (pending : Open) (old : State) → length (batch_bytes (old.pending.ops ++ ops)) ≤ most_batch_bytes
+    → pending ≡ more old.pending confirmed ops → Goes (join confirmed ops) old (record old { pending = pending }) (ending.Gave Undefined)
+joined ops confirmed pending old small is_more = λ next rs.
+    ap (λ t. join_where t confirmed ops (env_of old.vars) next (state_of old rs)) (le-leb (length (batch_bytes (old.pending.ops ++ ops))) most_batch_bytes small)
+    ∙ ap (λ ps. next (gave undefined) (env_of old.vars) (state_of (record old { pending = ps }) rs)) (sym is_more)
 
 -- Operations that don't fit throw.
-pub full : {E : Type 0} (ops pending : List Op) (old : State) (r : Result Outcome E) → most_batch_bytes < length (batch_bytes (old.pending ++ ops)) → pending ≡ old.pending
-    → IfOk r (λ o. outcome_of o ≡ threw batch_full) → IfOk r (Goes (join ops) old (record old { pending = pending }))
-full ops pending old r large same end = if_ok r
+pub full : {E : Type 0} (ops : List Op) (confirmed : Bool) (pending : Open) (old : State) (r : Result Outcome E)
+    → most_batch_bytes < length (batch_bytes (old.pending.ops ++ ops)) → pending ≡ old.pending
+    → IfOk r (λ o. outcome_of o ≡ threw batch_full) → IfOk r (Goes (join confirmed ops) old (record old { pending = pending }))
+full ops confirmed pending old r large same end = if_ok r
     (λ o throws. λ next rs.
-    ap (λ t. join_where t ops (env_of old.vars) next (state_of old rs)) (lt-leb (length (batch_bytes (old.pending ++ ops))) most_batch_bytes large)
+    ap (λ t. join_where t confirmed ops (env_of old.vars) next (state_of old rs)) (lt-leb (length (batch_bytes (old.pending.ops ++ ops))) most_batch_bytes large)
     ∙ ap (λ x. next x (env_of old.vars) (state_of old rs)) (sym throws)
     ∙ ap (λ ps. next (outcome_of o) (env_of old.vars) (state_of (record old { pending = ps }) rs)) (sym same))
     end

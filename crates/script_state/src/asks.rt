@@ -15,8 +15,8 @@ use do_value::{Mem, NoMemory, Value};
 use script_mean::{Ask, MOST_OUTSIDE_CALLS, MOST_STORAGE_AWAITS};
 use script_steps::{Await, Outcome};
 use std::alloc::Global;
-use storage_map::{Batch, Op};
-use write_batcher::AddFault;
+use storage_map::Op;
+use write_batcher::{AddFault, Made};
 
 impl State {
     /// The open batch is closed. One without operations isn't made.
@@ -24,16 +24,16 @@ impl State {
         ensures { OnOk result (Becomes turn.cut self.old self.new) }
     {
         match self.pending.close() {
-            Some(batch) => self.close(batch),
+            Some(made) => self.close(made),
             None => Ok(()),
         }
     }
 
     /// The batch is closed behind the others of the turn.
-    pub(crate) fn close(&mut self, batch: Batch) -> Mem<()>
-        ensures { OnOk result (Becomes (λ st. record st { closed = st.closed ++ batch ∷ [] }) self.old self.new) }
+    pub(crate) fn close(&mut self, made: Made) -> Mem<()>
+        ensures { OnOk result (Becomes (λ st. record st { closed = st.closed ++ made ∷ [] }) self.old self.new) }
     {
-        if self.closed.push(batch).is_err() {
+        if self.closed.push(made).is_err() {
             return Err(NoMemory);
         }
         Ok(())
@@ -49,14 +49,15 @@ impl State {
         }
     }
 
-    /// The operations join the open batch, all of them or, where it would be too large, none.
+    /// The operations of one call join the open batch, all of them or, where it would be too large, none. `confirmed` tells that
+    /// the call is without `allowUnconfirmed`.
     #[tactic(auto, using(crate::proofs::Ending::joined, crate::proofs::Ending::full))]
-    pub fn join(&mut self, alloc: Global, ops: Vec<Op>) -> Mem<Outcome>
+    pub fn join(&mut self, alloc: Global, ops: Vec<Op>, confirmed: bool) -> Mem<Outcome>
         requires within { All IsOp ops.items }
         requires few { length ops.items ≤ 4294967295 }
-        ensures { IfOk result (Goes (turn.join ops.items) self.old self.new) }
+        ensures { IfOk result (Goes (turn.join confirmed ops.items) self.old self.new) }
     {
-        match self.pending.extend(ops) {
+        match self.pending.extend(ops, confirmed) {
             Ok(()) => Ok(Outcome::Gave(Value::Undefined)),
             Err(AddFault::BatchFull { .. }) => thrown(alloc, "RangeError", "batch"),
             Err(AddFault::NoMemory) => Err(NoMemory),

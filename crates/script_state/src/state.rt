@@ -3,9 +3,8 @@ ghost use Rattle.std.specs.Prelude.{◌≡◌, ◌≤◌, ◌<◌, ◌-◌, true
 
 use do_value::{Fields, Num, Value};
 use script_vars::Vars;
-use storage_map::Batch;
 use storage_txn::Txn;
-use write_batcher::Batcher;
+use write_batcher::{Batcher, Made};
 
 /// What a task has while it runs.
 #[derive(Drop)]
@@ -14,9 +13,9 @@ pub struct State {
     pub vars: Vars,
     /// The fields of its object.
     pub fields: Fields,
-    /// The batches that this turn closed, in order.
-    pub closed: Vec<Batch>,
-    /// The operations of the open batch.
+    /// The batches that this turn closed, in order and with their marks.
+    pub closed: Vec<Made>,
+    /// The open batch.
     pub pending: Batcher,
     /// The steps that this turn may still take.
     pub left: u32,

@@ -15,6 +15,7 @@ use script_steps::Outcome;
 use std::alloc::Global;
 use storage_map::Batch;
 use storage_txn::Txn;
+use write_batcher::Made;
 
 impl State {
     /// A transaction begins: the open batch is closed.
@@ -26,8 +27,8 @@ impl State {
         Ok(())
     }
 
-    /// A transaction's body ended so: where it returned, its operations are one batch, if it has any, whose completion is
-    /// waited for; where it threw, they are dropped.
+    /// A transaction's body ended so: where it returned, its operations are one confirmed batch, if it has any, whose
+    /// completion is waited for; where it threw, they are dropped.
     pub fn end_transaction(&mut self, ended: Outcome) -> Mem<Done>
         ensures same { IfOk result (Does (committing (outcome_of ended)) self.old self.new) }
         ensures ready { IfOk result (IsReady self.new) }
@@ -53,7 +54,7 @@ impl State {
         }
     }
 
-    // The batch is closed behind the open one, and its completion gives this value.
+    // The batch is closed behind the open one, confirmed, and its completion gives this value.
     fn write(&mut self, batch: Batch, value: Value) -> Mem<Done>
         ensures same { IfOk result (Does (calls.commit batch (tree_of value)) self.old self.new) }
         ensures ready { IfOk result (IsReady self.new) }
@@ -64,7 +65,10 @@ impl State {
         self.awaits += 1;
         self.cut()?;
         let tail = batch.as_slice().len() as u32;
-        self.close(batch)?;
+        self.close(Made {
+            batch,
+            confirmed: true,
+        })?;
         Ok(Done::Asks(
             Ask::Written { tail },
             Waiting::Completes(tail, Gives::This(value)),

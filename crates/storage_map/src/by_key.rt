@@ -1,10 +1,11 @@
 //! What stands at keys, in their order.
-ghost use Rattle.std.specs.Prelude.{◌≡◌, OnOk, OnErr, option_map};
-ghost use Rattle.std.specs.List.{AllByRecursion};
+ghost use Rattle.std.specs.Prelude.{◌≡◌, ◌≤◌, OnOk, OnErr, length, option_map};
+ghost use Rattle.std.specs.List.{AllByRecursion, filter};
 ghost use Rattle.std.specs.FinMap.{empty, get, insert, remove, contains_key, entries};
-ghost use Rattle.storage_map.specs.Kept.{HasShortKey};
+ghost use Rattle.storage_map.specs.Limits.{most_key_bytes};
+ghost use Rattle.storage_map.specs.Kept.{with_bytes, HasShortKey};
 ghost use Rattle.storage_map.specs.Orders.{IsOrderly};
-ghost use Rattle.storage_map.specs.Readings.{listed};
+ghost use Rattle.storage_map.specs.Readings.{keeps, turned, listed};
 ghost use Rattle.storage_map.specs.Span.{text_of, IsBehind};
 
 use crate::key::Key;
@@ -13,7 +14,7 @@ use crate::past::first_past;
 use crate::range::Range;
 use do_value::{Mem, NoMemory};
 use std::alloc::Global;
-use std::collections::BTreeMap;
+use std::collections::{BTreeMap, btree_map};
 use std::marker::Model;
 
 /// What stands at each of some keys, in the order of the keys' UTF-8 bytes. Contracts see a finite map.
@@ -54,7 +55,16 @@ impl<V: Drop> ByKey<V> {
         ensures set { OnOk result (self.new ≡ insert self.old key.now value) }
         ensures same { OnErr result (self.new ≡ self.old) }
     {
-        let Ok(text) = String::from_str(self.alloc, key.as_str()) else {
+        self.put(key.as_str(), value)
+    }
+
+    /// The same for a key that is lent.
+    pub fn put(&mut self, key: &str, value: V) -> Mem<()>
+        requires { length key.now ≤ most_key_bytes }
+        ensures set { OnOk result (self.new ≡ insert self.old key.now value) }
+        ensures same { OnErr result (self.new ≡ self.old) }
+    {
+        let Ok(text) = String::from_str(self.alloc, key) else {
             return Err(NoMemory);
         };
         match self.entries.insert(text, value) {
@@ -68,7 +78,15 @@ impl<V: Drop> ByKey<V> {
         ensures out { self.new ≡ remove self.old key.now }
         ensures there { result ≡ contains_key self.old key.now }
     {
-        self.entries.remove(key.as_str()).is_some()
+        self.remove(key.as_str())
+    }
+
+    /// The same for a key that is lent.
+    pub fn remove(&mut self, key: &str) -> bool
+        ensures out { self.new ≡ remove self.old key.now }
+        ensures there { result ≡ contains_key self.old key.now }
+    {
+        self.entries.remove(key).is_some()
     }
 
     /// Takes out all.
@@ -83,6 +101,13 @@ impl<V: Drop> ByKey<V> {
         ensures { option_map (λ value. value.now) result ≡ get self.now key.now }
     {
         self.entries.get(key)
+    }
+
+    /// All keys with what stands there, in order.
+    pub(crate) fn pairs(&self) -> btree_map::Iter<'_, String, V>
+        ensures { with_bytes result ≡ entries self.now }
+    {
+        self.entries.iter()
     }
 
     /// What the options list, in order, lent one after the other. It takes no memory. No key before the first or behind the
@@ -108,5 +133,13 @@ impl<V: Drop> ByKey<V> {
         ensures order { IsOrderly result }
     {
         Range::new(&self.entries, options, text)
+    }
+
+    /// All that the options keep, in their direction, without their limit.
+    pub fn within<'a>(&'a self, options: &'a Options) -> Range<'a, V>
+        ensures { result ≡ turned options.now.reverse (filter (λ p. keeps options.now p.0) (entries self.now)) }
+    {
+        let past = first_past(&self.entries, options);
+        Range::unlimited(&self.entries, options, past)
     }
 }

@@ -3,6 +3,7 @@ mod appends;
 mod given;
 mod mounts;
 mod payloads;
+mod places;
 mod wire;
 
 use serde_json::Value as Json;
@@ -19,6 +20,7 @@ pub(crate) fn answer(alloc: Global, row: &Json) -> Result<String, Fail> {
         "large" => payloads::answer_large(alloc, row, &mut line),
         "encode" => payloads::answer_encode(alloc, &mut line),
         "mount" => mounts::answer(alloc, row, &mut line),
+        "place" => places::answer(alloc, row, &mut line),
         "append" => appends::answer(alloc, row, &mut line),
         _ => appends::answer_both(alloc, &mut line),
     };

@@ -7,9 +7,9 @@ use do_value::Value;
 use serde_json::Value as Json;
 use std::alloc::Global;
 use std::test::Fail;
-use storage_map::{Key, Op, ValueLong};
+use storage_map::{Batch, Key, Op, ValueLong};
 use test_rows::{Telling, count, word};
-use write_batcher::Batcher;
+use write_batcher::{Batcher, Made};
 
 // A put of a text of so many letters, whose encoding has 5 bytes more.
 fn put_letters(alloc: Global, key: &str, letters: u64) -> Result<Result<Op, ValueLong>, Fail>
@@ -33,6 +33,14 @@ pub(crate) fn answer(alloc: Global, row: &Json, line: &mut Telling) -> Result<()
     Ok(())
 }
 
+// The batch that was cut, without its mark.
+fn batch_in(made: Option<Made>) -> Option<Batch> {
+    match made {
+        Some(made) => Some(made.into_batch()),
+        None => None,
+    }
+}
+
 pub(crate) fn answer_batch(
     alloc: Global,
     batcher: &mut Batcher,
@@ -40,11 +48,13 @@ pub(crate) fn answer_batch(
     line: &mut Telling,
 ) -> Result<(), Fail> {
     if word(row, 1) == "close" {
-        tell_batch(line, batcher.close());
+        tell_batch(line, batch_in(batcher.close()));
     } else {
         let put = put_letters(alloc, word(row, 1), count(row, 2))??;
-        let added = batcher.add(put);
-        line.tell(format!(in alloc; "{:?}", added.err()));
+        match batcher.add(put, true) {
+            Ok(()) => line.say("added"),
+            Err(fault) => line.tell(format!(in alloc; "{fault}")),
+        }
     }
     line.tell(format!(in alloc; ", {} bytes", batcher.size()));
     Ok(())

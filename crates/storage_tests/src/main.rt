@@ -2,6 +2,7 @@
 #![tactic(auto)]
 
 mod journals;
+mod kept;
 mod limits;
 mod stores;
 mod tell;
@@ -11,6 +12,8 @@ use do_value::Value;
 use serde_json::Value as Json;
 use std::alloc::Global;
 use std::test::Fail;
+use storage_cache::kept::Cache;
+use storage_map::Index;
 use test_rows::{Telling, row_of, word};
 use write_batcher::Batcher;
 
@@ -26,6 +29,7 @@ struct State {
     part: Part,
     values: Vec<Value>,
     stores: stores::Stores,
+    cache: Cache,
     batcher: Batcher,
 }
 
@@ -36,10 +40,12 @@ impl Drop for State {
             part: _,
             values,
             stores,
+            cache,
             batcher,
         } = self;
         drop(values);
         drop(stores);
+        drop(cache);
         drop(batcher);
     }
 }
@@ -59,6 +65,7 @@ fn answer_storage(alloc: Global, state: &mut State, row: &Json) -> Result<String
     let answered = match word(row, 0) {
         "value" => values::answer(alloc, &mut state.values, row, &mut line),
         "store" => stores::answer(alloc, &mut state.stores, row, &mut line),
+        "kept" => kept::answer(alloc, &mut state.cache, row, &mut line),
         "batch" => limits::answer_batch(alloc, &mut state.batcher, row, &mut line),
         _ => limits::answer(alloc, row, &mut line),
     };
@@ -90,6 +97,7 @@ fn main(rt: HostRuntime) -> Result<(), Fail> {
         part: Part::Storage,
         values: Vec::new(alloc),
         stores: stores::Stores::new(alloc),
+        cache: Cache::new(alloc, Index::new(alloc))?,
         batcher: Batcher::new(alloc),
     };
     for line in rt.lines(alloc) {

@@ -1,6 +1,7 @@
 //! A map, a cache over a copy of it, and a transaction with the same writes over an empty map. Each answers each ask.
 ghost use Rattle.std.specs.Prelude.{IfOk};
 ghost use Rattle.storage_map.specs.Ops.{IsOp};
+ghost use Rattle.storage_txn.specs.Writes.{IsOpen};
 
 use crate::tell::{tell_pair, tell_reading};
 use do_value::{Num, Text, Value};
@@ -9,7 +10,7 @@ use std::alloc::Global;
 use std::mem;
 use std::test::Fail;
 use storage_cache::Cache;
-use storage_map::{Batch, Identity, Key, Keys, Map, Op, Options, Reading, StoreAsk, laws};
+use storage_map::{Batch, Identity, Key, Keys, Map, Op, Options, Pairs, Reading, StoreAsk, laws};
 use storage_txn::{Txn, TxnFault, laws as txn_laws};
 use test_rows::{Telling, count, tell_number, word};
 
@@ -65,6 +66,7 @@ pub(crate) fn answer(
         "wipe" => wipe(alloc, &mut stores.map),
         "delete" => delete(alloc, &mut stores.cache, row, line),
         "copies" => tell_copies(alloc, &stores.map, line),
+        "merged" => merged(alloc, stores, row, line),
         _ => write(alloc, &mut stores.txn, row, line),
     }
 }
@@ -139,7 +141,8 @@ fn bound(alloc: Global, options: &Json, name: &str) -> Result<Option<Text>, Fail
     }
 }
 
-fn options_of(alloc: Global, named: &Json) -> Result<Options, Fail> {
+/// The options that are named.
+pub(crate) fn options_of(alloc: Global, named: &Json) -> Result<Options, Fail> {
     let mut options = Options {
         start: None,
         after: None,
@@ -206,6 +209,35 @@ fn tell_range(cache: &Cache, options: &Options, line: &mut Telling) {
     }
 }
 
+// The pairs that the transaction lends over the map.
+fn merged(alloc: Global, stores: &Stores, row: &Json, line: &mut Telling) -> Result<(), Fail> {
+    let Some(named) = row.get(2) else {
+        return Err("no options")?;
+    };
+    let options = options_of(alloc, named)?;
+    if stores.txn.is_rolled_back() {
+        return Err("a rollback")?;
+    }
+    let Reading::Pairs(below) = stores.map.reading(&StoreAsk::List(Options::every()))? else {
+        return Err("no pairs")?;
+    };
+    line.say("merged");
+    tell_merged(&stores.txn, &below, &options, line);
+    Ok(())
+}
+
+fn tell_merged(txn: &Txn, below: &Pairs, options: &Options, line: &mut Telling)
+    requires { IsOpen txn.now }
+{
+    let mut merged = txn.merged(below, options);
+    for _ in 0..100 {
+        let Some((key, value)) = merged.next() else {
+            break;
+        };
+        tell_pair(line, key, value);
+    }
+}
+
 // The map has an alarm, and then loses all its keys.
 fn wipe(alloc: Global, map: &mut Map) -> Result<(), Fail> {
     map.apply(&one(alloc, Op::SetAlarm { time: 7, retry: 2 })?)?;
@@ -248,10 +280,12 @@ fn copied_ops(alloc: Global) -> Result<usize, Fail> {
     Ok(again.as_slice().len())
 }
 
-// A write of the transaction, under the key a.
+// A write of the transaction, under the key a where the row names none.
 fn write(alloc: Global, txn: &mut Txn, row: &Json, line: &mut Telling) -> Result<(), Fail> {
     match word(row, 1) {
-        "erase" => tell_done(line, erase(alloc, txn)?),
+        "writes" => *txn = txn_of(alloc, row)?,
+        "erase" => tell_done(line, erase(alloc, txn, "a")?),
+        "without" => tell_done(line, erase(alloc, txn, word(row, 2))?),
         "write" => tell_done(line, put_letters(alloc, txn, count(row, 2))?),
         "rollback" => tell_done(line, txn.rollback()),
         _ => commit(alloc, txn, line),
@@ -259,8 +293,8 @@ fn write(alloc: Global, txn: &mut Txn, row: &Json, line: &mut Telling) -> Result
     Ok(())
 }
 
-fn erase(alloc: Global, txn: &mut Txn) -> Result<Result<(), TxnFault>, Fail> {
-    let key = Key::new(alloc, "a")?;
+fn erase(alloc: Global, txn: &mut Txn, key: &str) -> Result<Result<(), TxnFault>, Fail> {
+    let key = Key::new(alloc, key)?;
     Ok(txn.delete(key))
 }
 
@@ -273,7 +307,7 @@ fn put_letters(alloc: Global, txn: &mut Txn, letters: u64) -> Result<Result<(), 
 fn tell_done(line: &mut Telling, done: Result<(), TxnFault>) {
     match done {
         Ok(()) => line.say("done"),
-        Err(fault) => line.tell(format!(in line.alloc(); "{fault:?}")),
+        Err(fault) => line.tell(format!(in line.alloc(); "{fault}")),
     }
 }
 

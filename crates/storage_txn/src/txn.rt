@@ -8,19 +8,20 @@ ghost use Rattle.storage_txn.specs.Writes.{ops_of, added, extended, IsOnKey, IsO
 ghost use Rattle.storage_txn.specs.Faults.{IsWriteFault, IsExtendFault, IsReadFault};
 
 use crate::fault::TxnFault;
+use crate::merged::Merged;
 use crate::overlay::{asked_below, seen};
 use crate::places::Places;
 use do_value::Value;
 use std::alloc::Global;
 use std::marker::Model;
-use storage_map::{Batch, Key, Op, Reading, StoreAsk};
-use write_batcher::{Batcher, EMPTY_BATCH_BYTES};
+use storage_map::{Batch, Key, Op, Options, Pairs, Reading, StoreAsk};
+use write_batcher::{EMPTY_BATCH_BYTES, Writes};
 
 /// The writes of a transaction and whether it was rolled back, after the storage documentation's `transaction`.
 /// Contracts see the list of its operations, or none once it was rolled back.
 pub struct Txn {
     alloc: Global,
-    batcher: Option<Batcher>,
+    batcher: Option<Writes>,
     places: Places,
 }
 
@@ -60,7 +61,7 @@ impl Txn {
     {
         Txn {
             alloc,
-            batcher: Some(Batcher::new(alloc)),
+            batcher: Some(Writes::new(alloc)),
             places: Places::new(alloc),
         }
     }
@@ -161,6 +162,15 @@ impl Txn {
             return Err(TxnFault::RolledBack);
         };
         Ok(seen(self.alloc, &self.places, batcher.as_slice(), ask, below)?)
+    }
+
+    /// The pairs that the options list through the transaction's writes, in order, lent one after the other: each from the
+    /// writes, or from the pairs that the store answers to `below` of the listing, which may stand in either order.
+    pub fn merged<'a>(&'a self, below: &'a Pairs, options: &'a Options) -> Merged<'a>
+        requires { IsOpen self.now }
+        ensures { Reading.Pairs result ≡ view (ops_of self.now) (StoreAsk.List options.now) (Reading.Pairs below.now) }
+    {
+        Merged::new(self.ops(), &self.places, options, below)
     }
 
     /// Drops the writes, and refuses every further call but [`commit`](Txn::commit) and [`size`](Txn::size).

@@ -9,8 +9,8 @@ mod telling;
 
 pub use row::{count, flag, number, row_of, value, word};
 pub use scripts::{
-    BLOCKS, CABINET, COMPUTED, COUNTER, LIMITS, PATHS, PUT_AND_READ, REARMING, RECURSION, ROOM,
-    SOFT_READS, STORING, TIMER, TWO_CLASSES, named,
+    BLOCKS, CABINET, COMPUTED, COUNTER, LIMITS, OPTIONS, PATHS, PUT_AND_READ, REARMING, RECURSION,
+    ROOM, SOFT_READS, STORING, TIMER, TWO_CLASSES, named,
 };
 pub use tell::{tell_number, tell_record, tell_text, tell_value};
 pub use telling::Telling;

@@ -1,7 +1,7 @@
 //! Scripts that tests share, each with the forms that its name tells.
 mod forms;
 
-pub use crate::scripts::forms::{COMPUTED, LIMITS, PATHS, STORING};
+pub use crate::scripts::forms::{COMPUTED, LIMITS, OPTIONS, PATHS, STORING};
 
 pub const PUT_AND_READ: &str = r#"export class C extends DurableObject {
   async set(k, v) { this.ctx.storage.put(k, v); return v; }
@@ -105,6 +105,7 @@ pub fn named(name: &str) -> Option<&'static str> {
         "computed" => Some(COMPUTED),
         "counter" => Some(COUNTER),
         "limits" => Some(LIMITS),
+        "options" => Some(OPTIONS),
         "paths" => Some(PATHS),
         "put and read" => Some(PUT_AND_READ),
         "rearming" => Some(REARMING),

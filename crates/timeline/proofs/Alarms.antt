@@ -7,6 +7,7 @@ use Rattle.do_value.specs.Tree.{Tree}
 use Rattle.storage_map.specs.Contents.{Contents, apply, apply_op}
 use Rattle.storage_map.specs.Stored.{alarm_after, alarm_step}
 use Rattle.storage_map.specs.declared.op.Op.{Op}
+use Rattle.write_batcher.specs.declared.batcher.Made.{Made}
 use Rattle.storage_map.specs.declared.op.Op.TheVariants as op
 use Rattle.script_mean.specs.Task as task
 use Rattle.script_mean.specs.Task.{Segment}
@@ -42,15 +43,15 @@ after_both : (alarm : Option (ℤ × ℕ)) (xs ys : List Op) → alarm_after ala
 after_both alarm [] ys = refl
 after_both alarm (x ∷ xs) ys = after_both (alarm_step alarm x) xs ys
 
-abbrev all : List (List Op) → List Op
-all batches = flat_map (λ ops. ops) batches
+abbrev all : List Made → List Op
+all batches = flat_map (λ made. made.batch) batches
 
-batches_alarm : (m : Contents) (batches : List (List Op)) → (written m (map batch batches)).alarm ≡ alarm_after m.alarm (all batches)
+batches_alarm : (m : Contents) (batches : List Made) → (written m (map batch batches)).alarm ≡ alarm_after m.alarm (all batches)
 batches_alarm m [] = refl
-batches_alarm m (ops ∷ batches) =
-    batches_alarm (apply m ops) batches
-    ∙ ap (λ (alarm : Option (ℤ × ℕ)). alarm_after alarm (all batches)) (apply_alarm m ops)
-    ∙ sym (after_both m.alarm ops (all batches))
+batches_alarm m (made ∷ batches) =
+    batches_alarm (apply m made.batch) batches
+    ∙ ap (λ (alarm : Option (ℤ × ℕ)). alarm_after alarm (all batches)) (apply_alarm m made.batch)
+    ∙ sym (after_both m.alarm made.batch (all batches))
 
 written_both : (m : Contents) (xs ys : List Body) → written m (xs ++ ys) ≡ written (written m xs) ys
 written_both m [] ys = refl
@@ -68,26 +69,28 @@ either_keeps true m s q one other = one
 either_keeps false m s q one other = other
 
 -- The alarm of an object after batches.
-wrote_alarm : (m : Contents) (o : Object) (batches : List (List Op)) → o.alarm ≡ m.alarm → (wrote batches o).alarm ≡ alarm_after m.alarm (all batches)
+wrote_alarm : (m : Contents) (o : Object) (batches : List Made) → o.alarm ≡ m.alarm → (wrote batches o).alarm ≡ alarm_after m.alarm (all batches)
 wrote_alarm m o batches same = ap (λ (alarm : Option (ℤ × ℕ)). alarm_after alarm (all batches)) same
 
-written_keeps : (m : Contents) (o : Object) (t : OpenTask) (tail : ℕ) (batches : List (List Op)) → o.alarm ≡ alarm_after m.alarm (all batches)
+written_keeps : (m : Contents) (o : Object) (t : OpenTask) (tail : ℕ) (batches : List Made) → o.alarm ≡ alarm_after m.alarm (all batches)
     → Keeps m (asks_written o t tail batches)
 written_keeps m o t tail [] same = same
-written_keeps m o t tail (ops ∷ []) same = same ∙ ap (λ (xs : List Op). alarm_after m.alarm xs) (append-nil ops) ∙ sym (apply_alarm m ops)
-written_keeps m o t tail (ops ∷ next ∷ batches) same =
-    before_keeps m (batch ops ∷ []) (asks_written o t tail (next ∷ batches)) (written_keeps (apply m ops) o t tail (next ∷ batches)
-    (same ∙ after_both m.alarm ops (all (next ∷ batches)) ∙ ap (λ (alarm : Option (ℤ × ℕ)). alarm_after alarm (all (next ∷ batches))) (sym (apply_alarm m ops))))
+written_keeps m o t tail (made ∷ []) same = same ∙ ap (λ (xs : List Op). alarm_after m.alarm xs) (append-nil made.batch) ∙ sym (apply_alarm m made.batch)
+written_keeps m o t tail (made ∷ next ∷ batches) same =
+    before_keeps m (batch made ∷ []) (asks_written o t tail (next ∷ batches)) (written_keeps (apply m made.batch) o t tail (next ∷ batches)
+    (same ∙ after_both m.alarm made.batch (all (next ∷ batches))
+    ∙ ap (λ (alarm : Option (ℤ × ℕ)). alarm_after alarm (all (next ∷ batches))) (sym (apply_alarm m made.batch))))
 
 outside_keeps : (m : Contents) (again : OpenTask → Step) → ((t : OpenTask) → Keeps m (again t)) → (o : Object) (t : OpenTask)
     (refused : Option Answer) (message : ℕ → Message) → o.alarm ≡ m.alarm → Keeps m (outside again o t refused message)
 outside_keeps m again kept o t None message same = same
 outside_keeps m again kept o t (Some a) message same = kept (resumed o t a)
 
-ask_keeps : (m : Contents) (again : OpenTask → Step) (l : Life) (o : Object) (t : OpenTask) (batches : List (List Op)) (a : Ask)
+ask_keeps : (m : Contents) (again : OpenTask → Step) (l : Life) (o : Object) (t : OpenTask) (batches : List Made) (a : Ask)
     → o.alarm ≡ alarm_after m.alarm (all batches) → ((u : OpenTask) → Keeps (written m (map batch batches)) (again u))
     → Keeps m (on_ask again l o t batches a)
 ask_keeps m again l o t batches (ask.Store a) same kept = before_keeps m (map batch batches) (asks o t (body.Ask a)) (same ∙ sym (batches_alarm m batches))
+ask_keeps m again l o t batches (ask.Open a) same kept = before_keeps m (map batch batches) (asks o t (body.Ask a)) (same ∙ sym (batches_alarm m batches))
 ask_keeps m again l o t batches (ask.Written tail) same kept = written_keeps m o t tail batches same
 ask_keeps m again l o t batches ask.Sync same kept = before_keeps m (map batch batches) (asks o t body.Sync) (same ∙ sym (batches_alarm m batches))
 ask_keeps m again l o t batches (ask.Call to method args) same kept =

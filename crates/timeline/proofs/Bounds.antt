@@ -7,6 +7,7 @@ use Rattle.do_value.specs.Tree.{Tree}
 use Rattle.alarm_core.specs.AlarmRule.{is_due, after_success, after_failure}
 use Rattle.storage_map.specs.Contents.{Contents}
 use Rattle.storage_map.specs.declared.op.Op.{Op}
+use Rattle.write_batcher.specs.declared.batcher.Made.{Made}
 use Rattle.storage_map.specs.declared.op.Op.TheVariants as op
 use Rattle.script_mean.specs.Limits.{most_storage_awaits}
 use Rattle.script_mean.specs.Task as task
@@ -51,7 +52,7 @@ Within n l (ended c) = Unit {0}
 Within n l (waiting o t b) = suc most_storage_awaits + behind t.purpose ≤ n + awaited l t
 
 -- A write's completion is waited for.
-written_within : (n : ℕ) (l : Life) (o : Object) (t : OpenTask) (tail : ℕ) (batches : List (List Op))
+written_within : (n : ℕ) (l : Life) (o : Object) (t : OpenTask) (tail : ℕ) (batches : List Made)
     → suc most_storage_awaits + behind t.purpose ≤ n + awaited l t → Within n l (asks_written o t tail batches).state
 written_within n l o t tail [] le = tt
 written_within n l o t tail (ops ∷ []) le = le
@@ -64,10 +65,11 @@ outside_within n l again o t None message kept = tt
 outside_within n l again o t (Some a) message kept = kept a
 
 -- An ask,
-ask_within : (n : ℕ) (l : Life) (again : OpenTask → Step) (o : Object) (t : OpenTask) (batches : List (List Op)) (a : Ask)
+ask_within : (n : ℕ) (l : Life) (again : OpenTask → Step) (o : Object) (t : OpenTask) (batches : List Made) (a : Ask)
     → (asks_storage (task.asked batches o.fields a t.block) ≡ true → suc most_storage_awaits + behind t.purpose ≤ n + awaited l t)
     → ((x : Answer) → Within n l (again (resumed o t x)).state) → Within n l (on_ask again l o t batches a).state
 ask_within n l again o t batches (ask.Store a) le kept = le refl
+ask_within n l again o t batches (ask.Open a) le kept = le refl
 ask_within n l again o t batches (ask.Written tail) le kept = written_within n l o t tail batches (le refl)
 ask_within n l again o t batches ask.Sync le kept = le refl
 ask_within n l again o t batches (ask.Call to method args) le kept = outside_within n l again o t (refusal (t.depth + 1) t.made) _ kept

@@ -145,6 +145,7 @@ AlarmIsTheMaps = (l : Life) (m : Contents) (o : Object) (events : List Event) â†
 -- Whether an ask is one of the storage: a read, or a wait for what was written. The others are calls and fetches.
 abbrev pub is_of_storage : Ask â†’ Bool
 is_of_storage (ask.Store a) = true
+is_of_storage (ask.Open a) = true
 is_of_storage (ask.Written tail) = true
 is_of_storage ask.Sync = true
 is_of_storage (ask.Call to method args) = false

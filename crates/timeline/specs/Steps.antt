@@ -13,6 +13,7 @@ use Rattle.storage_map.specs.Stored.{alarm_after}
 use Rattle.storage_map.specs.declared.answer.Reading.TheVariants as reading
 use Rattle.storage_map.specs.declared.op.Op.{Op}
 use Rattle.storage_map.specs.declared.op.Op.TheVariants.{ClearAlarm}
+use Rattle.write_batcher.specs.declared.batcher.Made.{Made}
 use Rattle.script_mean.specs.Limits.{most_outside_calls}
 use Rattle.script_mean.specs.Meaning.{meaning}
 use Rattle.script_mean.specs.Storing.{value_of}
@@ -44,12 +45,17 @@ rests o = record { says = []; state = idle o }
 abbrev pub before : List Body → Step → Step
 before bodies s = record { says = bodies ++ s.says; state = s.state }
 
-abbrev pub batch : List Op → Body
-batch ops = body.Batch ops None
+-- A batch is told without its mark: what the options of reads and writes allow is part of the script's meaning, and the halves don't
+-- use it yet.
+abbrev pub batch : Made → Body
+batch made = body.Batch made.batch None
+
+abbrev pub confirmed : List Op → Made
+confirmed ops = record { batch = ops; confirmed = true }
 
 -- What batches make of the alarm.
-abbrev pub wrote : List (List Op) → Object → Object
-wrote batches o = let ops = flat_map (λ ops. ops) batches in
+abbrev pub wrote : List Made → Object → Object
+wrote batches o = let ops = flat_map (λ made. made.batch) batches in
     record o { alarm = alarm_after o.alarm ops; touched = o.touched || list_any touches ops }
 
 -- A task of this purpose that begins now, and one that goes on with an answer.
@@ -95,14 +101,15 @@ abbrev pub asks : Object → OpenTask → Body → Step
 asks o t b = record { says = []; state = waiting o t b }
 
 -- The last batch is the one whose completion is awaited.
-abbrev pub asks_written : Object → OpenTask → ℕ → List (List Op) → Step
+abbrev pub asks_written : Object → OpenTask → ℕ → List Made → Step
 asks_written o t tail [] = rests o
-asks_written o t tail (ops ∷ []) = asks o t (body.Batch ops (Some tail))
-asks_written o t tail (ops ∷ next ∷ batches) = before (batch ops ∷ []) (asks_written o t tail (next ∷ batches))
+asks_written o t tail (made ∷ []) = asks o t (body.Batch made.batch (Some tail))
+asks_written o t tail (made ∷ next ∷ batches) = before (batch made ∷ []) (asks_written o t tail (next ∷ batches))
 
--- A turn ended with an ask, after these batches.
-abbrev pub on_ask : (OpenTask → Step) → Life → Object → OpenTask → List (List Op) → Ask → Step
+-- A turn ended with an ask, after these batches. An open ask is asked as another read.
+abbrev pub on_ask : (OpenTask → Step) → Life → Object → OpenTask → List Made → Ask → Step
 on_ask again l o t batches (ask.Store a) = before (map batch batches) (asks o t (body.Ask a))
+on_ask again l o t batches (ask.Open a) = before (map batch batches) (asks o t (body.Ask a))
 on_ask again l o t batches (ask.Written tail) = asks_written o t tail batches
 on_ask again l o t batches ask.Sync = before (map batch batches) (asks o t body.Sync)
 on_ask again l o t batches (ask.Call to method args) = before (map batch batches) (outside again o t (refusal (t.depth + 1) t.made)
@@ -113,10 +120,10 @@ on_ask again l o t batches (ask.Fetch value) = before (map batch batches) (outsi
 abbrev pub replies : Caller → Result Value Failure → List Body
 replies to result = body.Message (message.Reply to result) ∷ []
 
--- A handler has ended: what is written of the alarm is a batch of its own.
+-- A handler has ended: what is written of the alarm is a confirmed batch of its own.
 abbrev pub handled : Option Op → Object → Step
 handled None o = rests (record o { handler = None })
-handled (Some op) o = record { says = batch (op ∷ []) ∷ []; state = idle (wrote ((op ∷ []) ∷ []) (record o { handler = None })) }
+handled (Some op) o = record { says = batch (confirmed (op ∷ [])) ∷ []; state = idle (wrote (confirmed (op ∷ []) ∷ []) (record o { handler = None })) }
 
 -- The task is done; it threw; it was stopped at a limit. The last, and a throw of a constructor or out of a block, end the
 -- incarnation.

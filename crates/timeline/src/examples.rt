@@ -3,7 +3,7 @@
 ghost use Rattle.std.specs.Prelude.{◌≡◌, pos, false, true, [], ◌∷◌, codes, Some, None, Err};
 ghost use Rattle.do_value.specs.Tree as tree;
 ghost use Rattle.do_value.specs.declared.value.Value.TheVariants as value;
-ghost use Rattle.script_mean.specs.Examples.{puts, own_write, slow, undo, over, alarm, arm, counter, counts, sets};
+ghost use Rattle.script_mean.specs.Examples.{puts, own_write, slow, undo, over, alarm, arm, counter, counts, sets, soft, quick};
 ghost use Rattle.script_ops.specs.Errors.{fetch_failed, no_number};
 ghost use Rattle.script_mean.specs.Storing.{value_of};
 ghost use Rattle.storage_map.specs.declared.ask.StoreAsk.TheVariants.{Get, Alarm};
@@ -107,4 +107,12 @@ pub fn alarm_is_cleared()
 pub fn failed_fetch_is_thrown()
     ensures { says (slow ∷ []) [] (calls 1 0 [] ∷ event.Answer 1 1 (Err failure.NoFetch) (pos 0) ∷ [])
         ≡ fetches 1 ∷ fails 1 (failure.Thrown (value_of fetch_failed)) ∷ [] }
+{}
+
+/// An open read is asked as another, so that no update is lost, and an unconfirmed batch is told as another.
+#[tactic(auto, unfolding(script_mean::specs::Examples::soft, script_mean::specs::Examples::quick, script_ops::specs::Binary::binary, script_mean::specs::Limits::most_helpers, crate::specs::Steps::most_refused, crate::specs::Told::most_waits))]
+pub fn options_are_not_used_yet()
+    ensures soft { says (soft ∷ []) [] (calls 1 0 [] ∷ calls 2 0 [] ∷ [])
+        ≡ writes "n" 1 ∷ replies 1 (number 1) ∷ writes "n" 2 ∷ replies 2 (number 2) ∷ [] }
+    ensures quick { says (quick ∷ []) [] (calls 1 0 (number 5 ∷ []) ∷ []) ≡ writes "n" 5 ∷ replies 1 (number 5) ∷ [] }
 {}

@@ -10,6 +10,7 @@ use Rattle.line_server.specs.declared.lines.Lines.{Lines}
 use Rattle.mailbox.specs.Posting.{at_slot}
 use Rattle.mailbox.specs.Runs.{out_of, state_of}
 use Rattle.mailbox.specs.declared.switch.Switch.{Switch}
+use Rattle.object_core.specs.Limited.{Extent, extent_of}
 use Rattle.object_core.specs.One.{class_in}
 use Rattle.output_gate.specs.declared.back.Back.{Back}
 use Rattle.output_gate.specs.Serving.{IsBack}
@@ -22,7 +23,7 @@ use Rattle.host_workers.specs.Backs.{IsCellAlone}
 use Rattle.host_workers.specs.Board.{AreCells, AreNamed, IsBackOf, IsFrontOf, IsLinesOf, IsSwitchOf, empties, empty_places, places_of}
 use Rattle.host_workers.specs.Fronts.{IsFrontCell}
 use Rattle.host_workers.specs.Lines.{HasCounted, IsLinesCell, IsNumbered}
-use Rattle.host_workers.specs.Names.{Run}
+use Rattle.host_workers.specs.Names.{Run, no_extent}
 use Rattle.host_workers.specs.Switches.{HasPrinted, IsSwitchCell, got_of, script_of as script_of_switch, sent_on}
 use Rattle.host_workers.specs.declared.back_cell.BackCell.{BackCell}
 use Rattle.host_workers.specs.declared.cells.Cells.{Cells}
@@ -56,7 +57,7 @@ pub record BeginsWith {D R W : Type 0} (moment_of : D → ℕ) (left_since : D �
   pub objects : (slot : ℕ) (halves : Halves D) → slice_get all slot ≡ Some halves
       → (run.objects slot ≡ halves.back.identity) × (run.classes slot ≡ class_in script halves.back.identity)
   pub backs : (slot : ℕ) (halves : Halves D) → slice_get all slot ≡ Some halves
-      → (run.alarms slot ≡ halves.back.cache.alarm) × (run.limits slot ≡ halves.back.limit)
+      → (run.alarms slot ≡ halves.back.cache.alarm) × (run.extents slot ≡ extent_of halves.back)
   pub begun : (slot : ℕ) (halves : Halves D) → slice_get all slot ≡ Some halves → (start : List (List Op)) (opening : ℕ)
       → IsBack moment_of left_since told image faults_of start opening halves.back → run.begun slot start opening
   pub switch_is : run.switch ≡ state_of switch
@@ -123,11 +124,11 @@ module _ {D R W T : Type 0} (moment_of : D → ℕ) (left_since : D → ℕ → 
       ap (λ (p : Option (Option (BackCell D T))). of_place None (λ (cell : BackCell D T). cell.back.cache.alarm) p) (back_at slot s at)
       ∙ ap (λ (b : Back D). b.cache.alarm) (made.each slot s at).same
 
-  -- so is the limit of its journal
-  limit_is : (slot : ℕ) (s : Row D T) → slice_get made.slots slot ≡ Some s → run.limits slot ≡ s.0.back.limit
-  limit_is slot s at =
-      ap (λ (p : Option (Option (BackCell D T))). of_place 0 (λ (cell : BackCell D T). cell.back.limit) p) (back_at slot s at)
-      ∙ ap (λ (b : Back D). b.limit) (made.each slot s at).same
+  -- so is the extent of its journal
+  extent_is : (slot : ℕ) (s : Row D T) → slice_get made.slots slot ≡ Some s → run.extents slot ≡ extent_of s.0.back
+  extent_is slot s at =
+      ap (λ (p : Option (Option (BackCell D T))). of_place no_extent (λ (cell : BackCell D T). extent_of cell.back) p) (back_at slot s at)
+      ∙ ap (λ (b : Back D). extent_of b) (made.each slot s at).same
 
   -- its back was mounted so
   begun_so : (slot : ℕ) (s : Row D T) → slice_get made.slots slot ≡ Some s → (start : List (List Op)) (opening : ℕ)
@@ -181,7 +182,7 @@ module _ {D R W T : Type 0} (moment_of : D → ℕ) (left_since : D → ℕ → 
         let h = made.each slot s at in
         let begun = (fresh slot s.0 (half_at slot s at)).some in
         let object = object_is slot s at in
-        let limit = limit_is slot s at in
+        let extent = extent_is slot s at in
         let alarm = alarm_is slot s at in
         record {
           line = h.line ∙ sym (ap (λ (p : Option (Option (FrontCell T))). of_place nowhere (λ (cell : FrontCell T). cell.line.lane) p) (front_at slot s at));
@@ -189,8 +190,8 @@ module _ {D R W T : Type 0} (moment_of : D → ℕ) (left_since : D → ℕ → 
           out = sym (ap (λ (p : Option (Option (BackCell D T))). of_place nowhere (λ (cell : BackCell D T). cell.out.lane) p) (back_at slot s at));
           some = (begun.0, begun.1, begun_so slot s at begun.0 begun.1 begun.2);
           back = λ start opening so. h.back start opening (so_begun slot s at start opening so);
-          alone = λ start opening so. subst (λ (x : Option Object × ℕ × Option (ℤ × ℕ)). IsCellAlone moment_of left_since told image faults_of start opening x.0 x.1 x.2 s.1.back)
-              (λ i. (sym object i, sym limit i, sym alarm i)) (h.alone start opening (so_begun slot s at start opening so));
+          alone = λ start opening so. subst (λ (x : Option Object × Extent × Option (ℤ × ℕ)). IsCellAlone moment_of left_since told image faults_of start opening x.0 x.1 x.2 s.1.back)
+              (λ i. (sym object i, sym extent i, sym alarm i)) (h.alone start opening (so_begun slot s at start opening so));
         }
 
     -- so is each back that is there
@@ -286,7 +287,7 @@ module _ {D R W T : Type 0} (moment_of : D → ℕ) (left_since : D → ℕ → 
     backs = λ slot halves at.
         let found = of_map (λ (s : Row D T). s.0) made.slots slot halves (ap (λ (l : List (Halves D)). slice_get l slot) (sym made.halves) ∙ at) in (
           alarm_is slot found.0 found.1 ∙ ap (λ (h : Halves D). h.back.cache.alarm) found.2,
-          limit_is slot found.0 found.1 ∙ ap (λ (h : Halves D). h.back.limit) found.2,
+          extent_is slot found.0 found.1 ∙ ap (λ (h : Halves D). extent_of h.back) found.2,
         );
     begun = λ slot halves at start opening known.
         let found = of_map (λ (s : Row D T). s.0) made.slots slot halves (ap (λ (l : List (Halves D)). slice_get l slot) (sym made.halves) ∙ at) in

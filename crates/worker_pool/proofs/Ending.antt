@@ -5,6 +5,7 @@ use Rattle.do_tree.specs.Tree.{Script}
 use Rattle.lane.specs.Lanes.{Sending, Taking}
 use Rattle.line_server.specs.declared.lines.Lines.{Lines}
 use Rattle.mailbox.specs.declared.switch.Switch.{Switch}
+use Rattle.object_core.specs.Limited.{Extent}
 use Rattle.storage_map.specs.Limits.{Object}
 use Rattle.timeline.specs.Switch as timeline
 use Rattle.timeline.specs.declared.event.Event.{Event}
@@ -60,7 +61,7 @@ module _ {D R W T : Type 0} (moment_of : D → ℕ) (left_since : D → ℕ → 
         record {
           script_is = f.script ∙ begins.script_is;
           is_front = subst (λ (x : Option ℕ × Option (ℤ × ℕ)). IsFrontCell x.0 x.1 front) (λ i. (known.1 i, mounted.0 i)) f.front;
-          is_back = λ start opening is. subst (λ (x : Option Object × ℕ × Option (ℤ × ℕ)). IsCellAlone moment_of left_since told image faults_of start opening x.0 x.1 x.2 back)
+          is_back = λ start opening is. subst (λ (x : Option Object × Extent × Option (ℤ × ℕ)). IsCellAlone moment_of left_since told image faults_of start opening x.0 x.1 x.2 back)
               (λ i. (known.0 i, mounted.1 i, mounted.0 i)) (b.alone start opening (begins.begun slot begun begun_at start opening is));
           inbox = s.inboxes slot inbox.lane (to_map (λ (end : Sending Event). end.lane) sc.inboxes.items slot inbox inbox_at) ∙ sym f.inbox;
           line = f.line ∙ sym b.line;

@@ -3,10 +3,11 @@ use Rattle.std.specs.Prelude.{ℕ, List, [], length, slice_get, Option, Some, No
 use Rattle.lane.specs.Lanes.{nowhere}
 use Rattle.line_server.specs.Lines.{IsReading, source_of}
 use Rattle.mailbox.specs.Runs.{out_of, state_of}
+use Rattle.object_core.specs.Limited.{extent_of}
 use Rattle.object_core.specs.One.{class_in}
 use Rattle.output_gate.specs.Serving.{IsBack}
 use Rattle.timeline.specs.Switch.{opened}
-use Rattle.host_workers.specs.Names.{Run, nobody}
+use Rattle.host_workers.specs.Names.{Run, no_extent, nobody}
 use Rattle.host_workers.specs.Switches.{script_of as script_of_switch}
 use Rattle.host_workers.specs.declared.back_cell.BackCell.{BackCell}
 use Rattle.host_workers.specs.declared.cells.Cells.{Cells}
@@ -53,7 +54,7 @@ run_of {D} {R} {W} {T} moment_of left_since told image faults_of left read_fault
   begun = λ slot start opening. said_of_place
       (λ (cell : BackCell D T). IsBack moment_of left_since told image faults_of start opening cell.back) (slice_get cells.backs.items slot);
   objects = λ slot. of_place None (λ (cell : BackCell D T). cell.back.identity) (slice_get cells.backs.items slot);
-  limits = λ slot. of_place 0 (λ (cell : BackCell D T). cell.back.limit) (slice_get cells.backs.items slot);
+  extents = λ slot. of_place no_extent (λ (cell : BackCell D T). extent_of cell.back) (slice_get cells.backs.items slot);
   lines = of_some nowhere (λ (cell : LinesCell R T). cell.send.lane) cells.lines;
   switch = of_some (opened []) (λ (cell : SwitchCell W T). state_of cell.switch) cells.switch;
   input = λ whole. said_of_some (λ (cell : LinesCell R T). IsReading left whole [] cell.lines) cells.lines;

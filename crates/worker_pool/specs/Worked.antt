@@ -6,6 +6,7 @@ use Rattle.line_server.specs.Lines.{IsReading, source_of}
 use Rattle.line_server.specs.declared.lines.Lines.{Lines}
 use Rattle.mailbox.specs.Runs.{out_of, state_of}
 use Rattle.mailbox.specs.declared.switch.Switch.{Switch}
+use Rattle.object_core.specs.Limited.{extent_of}
 use Rattle.object_core.specs.One.{class_in}
 use Rattle.output_gate.specs.Serving.{IsBack}
 use Rattle.storage_map.specs.declared.op.Op.{Op}
@@ -29,7 +30,7 @@ module _ {D T : Type 0} (moment_of : D → ℕ) (left_since : D → ℕ → List
     pub script_is : script_of_front front ≡ script
     pub is_front : IsFrontCell (class_in script begun.back.identity) begun.back.cache.alarm front
     pub is_back : (start : List (List Op)) (opening : ℕ) → IsBack moment_of left_since told image faults_of start opening begun.back
-        → IsCellAlone moment_of left_since told image faults_of start opening begun.back.identity begun.back.limit begun.back.cache.alarm back
+        → IsCellAlone moment_of left_since told image faults_of start opening begun.back.identity (extent_of begun.back) begun.back.cache.alarm back
     pub inbox : posts.lane ≡ front.inbox.lane
     pub line : front.line.lane ≡ back.line.lane
     pub notices : back.notices.lane ≡ front.notices.lane

@@ -3,8 +3,9 @@ use do_value::{Fields, Text, Value};
 use script_eval::{Ask, Outcome};
 use std::alloc::Global;
 use std::test::Fail;
-use storage_map::{Batch, Op, Options, StoreAsk};
+use storage_map::{Op, Options, StoreAsk};
 use test_rows::{Telling, tell_number, tell_record, tell_text, tell_value};
+use write_batcher::Made;
 
 /// A turn as it is told.
 pub(crate) fn told(alloc: Global, outcome: &Outcome) -> Result<String, Fail> {
@@ -46,19 +47,19 @@ pub(crate) fn told(alloc: Global, outcome: &Outcome) -> Result<String, Fail> {
 }
 
 // The end of a task.
-fn tell_end(line: &mut Telling, batches: &[Batch], word: &str, value: &Value, fields: &Fields) {
+fn tell_end(line: &mut Telling, batches: &[Made], word: &str, value: &Value, fields: &Fields) {
     tell_batches(line, batches);
     line.say(word);
     tell_value(line, value);
     tell_fields(line, fields)
 }
 
-// `[put 'k' 1, delete 'j'] `
-fn tell_batches(line: &mut Telling, batches: &[Batch]) {
-    for batch in batches {
-        line.say("[");
+// `[put 'k' 1, delete 'j'] `, and `unconfirmed [put 'k' 1] `.
+fn tell_batches(line: &mut Telling, batches: &[Made]) {
+    for made in batches {
+        line.say(if made.confirmed { "[" } else { "unconfirmed [" });
         let mut first = true;
-        for op in batch.as_slice() {
+        for op in made.batch.as_slice() {
             if !first {
                 line.say(", ");
             }
@@ -96,6 +97,10 @@ fn tell_ask(line: &mut Telling, ask: &Ask) {
     line.say("asks ");
     match ask {
         Ask::Store(ask) => tell_read(line, ask),
+        Ask::Open(ask) => {
+            line.say("open ");
+            tell_read(line, ask);
+        }
         Ask::Written { tail } => {
             line.say("written ");
             tell_number(line, i64::from(*tail));

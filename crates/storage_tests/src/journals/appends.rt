@@ -11,7 +11,7 @@ use do_disk::{Disk, Fails, MemDisk, Pick};
 use serde_json::Value as Json;
 use std::alloc::Global;
 use std::test::Fail;
-use storage_map::{Batch, Identity};
+use storage_map::{Batch, Identity, Place};
 use test_rows::{Telling, count, word};
 
 // Tries to append a frame of the batch, as the first. There is nothing where the disk has frames, or memory is wanting.
@@ -30,7 +30,7 @@ fn append_first<D: Disk + Drop>(
         return None;
     }
     let mut journal = mounted.journal;
-    let Ok(()) = journal.stage(batch, identity) else {
+    let Ok(_places) = journal.stage(batch, identity) else {
         return None;
     };
     let outcome = journal.append();
@@ -61,14 +61,14 @@ pub(crate) fn answer(alloc: Global, row: &Json, line: &mut Telling) -> Result<()
     Ok(())
 }
 
-// Appends both batches as the first frame, and gives the disk. There is nothing where the disk has frames, memory is wanting
-// or the append fails.
+// Appends both batches as the first frame, and gives the disk, with the places of the values that each puts. There is nothing
+// where the disk has frames, memory is wanting or the append fails.
 fn append_both<D: Disk + Drop>(
     mounted: Mounted<D>,
     first: &Batch,
     second: &Batch,
     identity: &Identity,
-) -> Option<D>
+) -> Option<(D, Vec<Place>, Vec<Place>)>
     requires mounted { (disk : D) × IsMountOf D.told D.image D.moment_of D.left_since disk mounted }
     requires nothing_staged { (object : Object) → IsStaged mounted.journal object [] }
 {
@@ -79,19 +79,25 @@ fn append_both<D: Disk + Drop>(
         return None;
     }
     let mut journal = mounted.journal;
-    let Ok(()) = journal.stage(first, identity) else {
+    let Ok(places) = journal.stage(first, identity) else {
         return None;
     };
-    let Ok(()) = journal.stage(second, identity) else {
+    let Ok(behind) = journal.stage(second, identity) else {
         return None;
     };
     match journal.append() {
-        Ok(()) => Some(journal.into_disk()),
+        Ok(()) => Some((journal.into_disk(), places, behind)),
         Err(_) => None,
     }
 }
 
-/// `both`: the file of a put and a delete as two batches of one frame.
+fn tell_places(alloc: Global, line: &mut Telling, places: &[Place]) {
+    for place in places {
+        line.tell(format!(in alloc; "{} bytes at {}, ", place.size, place.at));
+    }
+}
+
+/// `both`: a put and a delete as two batches of one frame, the places of the values that each puts, and the file.
 pub(crate) fn answer_both(alloc: Global, line: &mut Telling) -> Result<(), Fail> {
     let put = one(alloc, put(alloc, 0)?)?;
     let delete = one(alloc, delete(alloc)?)?;
@@ -99,7 +105,11 @@ pub(crate) fn answer_both(alloc: Global, line: &mut Telling) -> Result<(), Fail>
     let Ok(mounted) = Journal::mount(alloc, disk, LIMIT) else {
         return Err("not mounted")?;
     };
-    let disk = append_both(mounted, &put, &delete, &object(alloc)?);
-    tell_bytes(alloc, line, disk.ok_or("not appended")?.content());
+    let appended = append_both(mounted, &put, &delete, &object(alloc)?);
+    let (disk, places, behind) = appended.ok_or("not appended")?;
+    tell_places(alloc, line, &places);
+    line.say("then ");
+    tell_places(alloc, line, &behind);
+    tell_bytes(alloc, line, disk.content());
     Ok(())
 }

@@ -72,6 +72,31 @@ pub const PATHS: &str = r#"export class P extends DurableObject {
 }
 "#;
 
+pub const OPTIONS: &str = r#"export class O extends DurableObject {
+  async got(k, o) { return await this.ctx.storage.get(k, o); }
+  async listed(o, p) { return await this.ctx.storage.list(o, p); }
+  async armed(o) { return await this.ctx.storage.getAlarm(o); }
+  async stored(k, v, o) { this.ctx.storage.put(k, v, o); await this.ctx.storage.sync(); return v; }
+  async entries(r, o) { this.ctx.storage.put(r, o); }
+  async gone(k, o) { return await this.ctx.storage.delete(k, o); }
+  async arm(t, o) { this.ctx.storage.setAlarm(t, o); }
+  async disarm(o) { this.ctx.storage.deleteAlarm(o); }
+  async wiped(o) { await this.ctx.storage.deleteAll(o); }
+  async idle(o) { this.ctx.storage.put("a", 1, o); this.ctx.storage.put({}); this.ctx.storage.delete([]); }
+  async mixed(o) { this.ctx.storage.put("a", 1, o); this.ctx.storage.delete("b"); this.ctx.storage.put("c", 3, o); }
+  async apart(o) {
+    this.ctx.storage.put("a", 1, o);
+    await this.ctx.storage.transaction(async (txn) => { txn.put("b", 2, o); await txn.get("c", o); });
+    this.ctx.storage.put("d", 4, o);
+  }
+  note(o) { this.ctx.storage.put("n", 1, o); }
+  async inside(o) {
+    return await this.ctx.storage.transaction(async (txn) => { this.note(o); txn.put("b", 2, o); return 1; });
+  }
+  async alarm(info) {}
+}
+"#;
+
 pub const STORING: &str = r#"export class S extends DurableObject {
   async swap() {
     this.ctx.storage.put("a", 0);

@@ -6,6 +6,9 @@ use Rattle.front_turns.proofs.asks.on_ask.Goals as goal
 pub returns-in_ok-state-in-Store : goal.returns-in_ok-state-in-Store
 returns-in_ok-state-in-Store g c = λ l ts t again same held paused asked. rw c.in-Store.is (c.in_ok-state-in-Store.ensures l ts t again held paused)
 
+pub returns-in_ok-state-in-Open : goal.returns-in_ok-state-in-Open
+returns-in_ok-state-in-Open g c = λ l ts t again same held paused asked. rw c.in-Open.is (c.in_ok-state-in-Open.ensures l ts t again held paused)
+
 pub returns-in_ok-state-in-Sync : goal.returns-in_ok-state-in-Sync
 returns-in_ok-state-in-Sync g c = λ l ts t again same held paused asked. rw c.in-Sync.is (c.in_ok-state-in-Sync.ensures l ts t again held paused)
 

@@ -11,12 +11,12 @@ returns-clause-cell g c start opening one =
     let e = c.mend.ensures in
     mend_keeps g.D.Disk.moment_of g.D.Disk.left_since g.D.Disk.told g.D.Disk.image g.D.Disk.faults_of start opening c.args.self.now.back c.mend.new.self
     c.args.self.now.line.got c.args.self.now.line.got c.args.self.now.notices.sent c.mend.new.notices.sent c.args.self.now.out.sent c.args.self.now.out.sent one c.mend.result
-    (record { stopped = e.stopped; barred = e.barred; nothing = e.nothing; mended = e.mended; lost = e.lost; stops = e.stops; tells = e.tells; back = e.back; line = refl; same_out = refl })
+    (record { stopped = e.stopped; barred = e.barred; nothing = e.nothing; mended = e.mended; lost = e.lost; stops = e.stops; finds = e.finds; tells = e.tells; back = e.back; line = refl; same_out = refl })
 
 pub returns-clause-alone : goal.returns-clause-alone
 returns-clause-alone g c start opening object limit alarm one =
     let e = c.mend.ensures in
     mend_alone g.D.Disk.moment_of g.D.Disk.left_since g.D.Disk.told g.D.Disk.image g.D.Disk.faults_of start opening object limit alarm c.args.self.now.back c.mend.new.self
     c.args.self.now.line.got c.args.self.now.line.got c.args.self.now.notices.sent c.mend.new.notices.sent c.args.self.now.out.sent c.args.self.now.out.sent one c.mend.result
-    (record { stopped = e.stopped; barred = e.barred; nothing = e.nothing; mended = e.mended; lost = e.lost; stops = e.stops; tells = e.tells; back = e.back; line = refl; same_out = refl })
+    (record { stopped = e.stopped; barred = e.barred; nothing = e.nothing; mended = e.mended; lost = e.lost; stops = e.stops; finds = e.finds; tells = e.tells; back = e.back; line = refl; same_out = refl })
     e.limit

@@ -14,7 +14,7 @@ pub returns-clause-steps : goal.returns-clause-steps
 returns-clause-steps g c script =
     let e = c.mend-stepped.ensures in
     let by : MendsBy g.D.Disk.moment_of g.D.Disk.left_since g.D.Disk.told g.D.Disk.image g.D.Disk.faults_of c.args.self.now.back c.mend-stepped.new.self c.args.self.now.notices c.mend-stepped.new.notices c.mend-stepped.result =
-    record { stopped = e.stopped; barred = e.barred; nothing = e.nothing; mended = e.mended; lost = e.lost; stops = e.stops; outlet = e.outlet.1; tells = e.tells; limit = e.limit; back = e.back } in
+    record { stopped = e.stopped; barred = e.barred; nothing = e.nothing; mended = e.mended; lost = e.lost; stops = e.stops; outlet = e.outlet.1; finds = e.finds; tells = e.tells; limit = e.limit; back = e.back } in
     subst (λ (r : Result Bool NoMemory). Steps g.D.Disk.moment_of g.D.Disk.faults_of script c.args.self.now (record c.args.self.now { back = c.mend-stepped.new.self; notices = c.mend-stepped.new.notices }) Mend r)
     (sym c.stepped_so.ensures)
     (mend_steps g.D.Disk.moment_of g.D.Disk.left_since g.D.Disk.told g.D.Disk.image g.D.Disk.faults_of script c.args.self.now c.mend-stepped.new.self c.mend-stepped.new.notices c.mend-stepped.result by)
@@ -24,4 +24,4 @@ returns-clause-one g c script origin one =
     let e = c.mend-stepped.ensures in
     mend_keeps g.D.Disk.moment_of g.D.Disk.left_since g.D.Disk.told g.D.Disk.image g.D.Disk.faults_of c.back_steps.ensures script origin c.args.self.now.front.half c.args.self.now.inbox c.args.self.now.back c.mend-stepped.new.self
     c.args.self.now.line c.args.self.now.notices c.mend-stepped.new.notices c.args.self.now.out one c.mend-stepped.result
-    (record { stopped = e.stopped; barred = e.barred; nothing = e.nothing; mended = e.mended; lost = e.lost; stops = e.stops; outlet = e.outlet.1; tells = e.tells; limit = e.limit; back = e.back })
+    (record { stopped = e.stopped; barred = e.barred; nothing = e.nothing; mended = e.mended; lost = e.lost; stops = e.stops; outlet = e.outlet.1; finds = e.finds; tells = e.tells; limit = e.limit; back = e.back })

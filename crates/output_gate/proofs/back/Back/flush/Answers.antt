@@ -5,7 +5,7 @@ use Rattle.timeline.specs.declared.back_log.Stop.{Stop}
 use Rattle.output_gate.specs.declared.back.Back.{Back}
 use Rattle.output_gate.specs.Serving.{is_stopped, ending_of}
 use Rattle.output_gate.proofs.Noted.{keeps_note}
-use Rattle.output_gate.proofs.Steps.{flushed_back, can_append, can_land, can_stop, mounted_lands, mounted_ends, end_kept}
+use Rattle.output_gate.proofs.Steps.{flushed_back, can_append, can_land, can_stop, mounted_lands, mounted_ends, end_kept, gets_frame}
 use Rattle.output_gate.proofs.Stored.{in_it, keeps_limit, still_disk, still_limit, still_tells, tells_in}
 use Rattle.output_gate.proofs.back.Back.flush.Goals as goal
 
@@ -42,6 +42,11 @@ returns-in-Ok g c = record {
       identity = ap (λ (b : Back g.row.D.Denot). b.identity) c.land.ensures.same;
       stuck = ap (λ (b : Back g.row.D.Denot). b.stuck) c.land.ensures.same;
       cache = ap (λ (b : Back g.row.D.Denot). b.cache) c.land.ensures.same;
+      end =
+          let r = c.requires in
+          let m = flushed_back g.D.Disk.moment_of g.D.Disk.left_since g.D.Disk.told g.D.Disk.image g.D.Disk.faults_of r.0 r.1 (not (is_stopped c.args.self.now)) c.args.self.now c.if-self.false r.2 in
+          let a = c.in-Ok.ensures m.journal m.safe.store in
+          gets_frame g.D.Disk.told g.D.Disk.image c.args.self.now c.land.new.self m.journal a.new m.safe (ap (λ (b : Back g.row.D.Denot). b.store) c.land.ensures.same ∙ a.is) a.appended;
     }),
   );
   tells =

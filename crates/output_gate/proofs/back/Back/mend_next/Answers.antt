@@ -5,6 +5,7 @@ use Rattle.output_gate.specs.Serving.{IsBackAs, is_stopped}
 use Rattle.output_gate.proofs.Enter.{before_room, room_only}
 use Rattle.output_gate.proofs.Entered.{on_err}
 use Rattle.output_gate.proofs.Falls.{wanted_falls}
+use Rattle.output_gate.proofs.Finding.{room_finds, still_finds}
 use Rattle.output_gate.proofs.Noted.{remounts_noted}
 use Rattle.output_gate.proofs.Gone.{back_room, back_stopped}
 use Rattle.output_gate.proofs.Remounts.{remounts_from, unmounted_room, mend_can}
@@ -79,3 +80,15 @@ returns-in_err-notice-clause-lost g c =
 
 pub returns-in_err-mend_room-clause-tells : goal.returns-in_err-mend_room-clause-tells
 returns-in_err-mend_room-clause-tells g c = still_tells g.D.Disk.told c.args.self.now.store c.args.self.now.store (still_disk c.args.self.now.store c.args.self.now.store refl)
+
+pub returns-in_err-mend_room-clause-finds : goal.returns-in_err-mend_room-clause-finds
+returns-in_err-mend_room-clause-finds g c = still_finds g.D.Disk.told c.args.self.now (record c.args.self.now { log = c.mend_room.new.log }) refl
+
+pub returns-in_err-notice-clause-finds : goal.returns-in_err-notice-clause-finds
+returns-in_err-notice-clause-finds g c = room_finds g.D.Disk.told c.args.self.now c.remount.new.self c.mend_room.new.log c.mend_room.ensures.same c.remount.ensures.finds
+
+pub returns-in_err-send-clause-finds : goal.returns-in_err-send-clause-finds
+returns-in_err-send-clause-finds g c = room_finds g.D.Disk.told c.args.self.now c.remount.new.self c.mend_room.new.log c.mend_room.ensures.same c.remount.ensures.finds
+
+pub returns-clause-finds : goal.returns-clause-finds
+returns-clause-finds g c = room_finds g.D.Disk.told c.args.self.now c.remount.new.self c.mend_room.new.log c.mend_room.ensures.same c.remount.ensures.finds

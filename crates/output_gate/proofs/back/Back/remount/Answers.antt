@@ -3,7 +3,9 @@ use Rattle.batch_journal.specs.Moments.{LeavesOnly, TellsAsBefore}
 use Rattle.batch_journal.specs.Mounting.{ImageOrHeader}
 use Rattle.timeline.specs.declared.notice.Notice.TheVariants as notice
 use Rattle.output_gate.specs.Mending.{Misses}
+use Rattle.output_gate.specs.Taking.{is_mounted_mode}
 use Rattle.output_gate.proofs.Entered.{as_before}
+use Rattle.output_gate.proofs.Finding.{begun_finds, missed_finds, still_finds}
 use Rattle.output_gate.proofs.Remounts.{remount_begins, remount_misses, remount_fails}
 use Rattle.output_gate.proofs.Stored.{limited_in, limited_bare, tells_in, tells_bare}
 use Rattle.output_gate.specs.declared.back.Back.{Back}
@@ -113,3 +115,21 @@ returns-in-Refused-clause-limit g c had =
 
 pub returns-in-NoMemory-clause-limit : goal.returns-in-NoMemory-clause-limit
 returns-in-NoMemory-clause-limit g c had = limited_bare c.fill.new.self c.in-NoMemory.disk c.args.self.now.limit c.fill.ensures
+
+pub returns-then-may_be-clause-finds : goal.returns-then-may_be-clause-finds
+returns-then-may_be-clause-finds g c =
+    let b = c.begin.ensures.begins in
+    begun_finds g.D.Disk.moment_of g.D.Disk.left_since g.D.Disk.told g.D.Disk.image g.D.Disk.faults_of g.met.D.Disk.reads_an_image g.met.D.Disk.counts_now c.requires.start c.requires.opening
+    c.args.self.now c.begin.new.self c.leave-disk.result c.args.ending c.in-Mounted.mounted c.in-Mounted.mounted.map c.requires.wanted c.leave-disk.ensures.disk
+    c.in-Mounted.ensures.found.0 c.in-Mounted.ensures.found.3 (record { log = b.log; same = b.same }) c.requires.back
+
+pub returns-else-may_be-clause-finds : goal.returns-else-may_be-clause-finds
+returns-else-may_be-clause-finds g c =
+    missed_finds g.D.Disk.told c.args.self.now c.miss.new.self (ap (λ (b : Back g.row.D.Denot). is_mounted_mode b.mode) c.miss.ensures.misses.same)
+
+pub returns-in-Refused-clause-finds : goal.returns-in-Refused-clause-finds
+returns-in-Refused-clause-finds g c =
+    missed_finds g.D.Disk.told c.args.self.now c.miss-in-Refused.new.self (ap (λ (b : Back g.row.D.Denot). is_mounted_mode b.mode) c.miss-in-Refused.ensures.misses.same)
+
+pub returns-in-NoMemory-clause-finds : goal.returns-in-NoMemory-clause-finds
+returns-in-NoMemory-clause-finds g c = still_finds g.D.Disk.told c.args.self.now (record c.args.self.now { store = c.fill.new.self }) refl

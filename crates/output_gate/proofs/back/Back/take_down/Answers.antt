@@ -1,8 +1,12 @@
-use Rattle.std.proofs.Common.{sym, subst}
+use Rattle.std.proofs.Common.{refl, sym, subst}
 use Rattle.timeline.specs.declared.entry.Body.{Body}
 use Rattle.output_gate.specs.Entering.{TakesDown}
 use Rattle.output_gate.proofs.Entered.{on_err, failed_down, took_mend, took_down}
 use Rattle.output_gate.proofs.back.Back.take_down.Goals as goal
+
+pub returns-in_err-copy-in-Message-clause-failed : goal.returns-in_err-copy-in-Message-clause-failed
+returns-in_err-copy-in-Message-clause-failed g c =
+    on_err c.from_residual.result _ (failed_down g.D.Disk.moment_of g.D.Disk.left_since g.D.Disk.told g.D.Disk.image g.D.Disk.faults_of c.args.self.now c.args.self.now refl refl)
 
 pub returns-in_err-hold-in-Message-clause-failed : goal.returns-in_err-hold-in-Message-clause-failed
 returns-in_err-hold-in-Message-clause-failed g c =
