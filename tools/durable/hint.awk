@@ -105,6 +105,15 @@ function before_open(i,    open) {
     return ""
 }
 
+# the token behind the innermost parenthesis that is open before token i
+function behind_open(i,    open) {
+    for (; i <= tokens; i++) {
+        if (token[i] ~ /^[({[]$/) open++
+        if (token[i] ~ /^[])}]$/ && open-- == 0) return token[i] == ")" ? token[i + 1] : ""
+    }
+    return ""
+}
+
 # the word that the statement of token i begins with
 function head_of(i) {
     while (i > 1 && !(token[i - 1] ~ /^[;{}]$/) && !(token[i - 1] == "(" && token[i - 2] == "for")) i--
@@ -128,7 +137,7 @@ function of_marks() {
     if (p == "+" && !ends_value(f - 1) && is_glued(f + 1)) return "write Number(text)"
     if (p == "/" && !ends_value(f - 1)) return "there are no regular expressions: texts have startsWith, endsWith, includes and split"
     if (b == "=>" && p != "{") return "the body of an arrow stands in braces: async () => { .. }"
-    if (p == "=>" || a == "=>" || p == "async" && a == "(" || p == "," && before_open(f) == "async") return of_arrow()
+    if (p == "=>" || a == "=>" || p == "async" && a == "(" || p == "," && (before_open(f) == "async" || behind_open(f) == "=>")) return of_arrow()
     return ""
 }
 
@@ -157,13 +166,23 @@ function of_types() {
 
 function of_arrow(    call) {
     if (p == "," && before_open(f) == "async") return no_functions
-    call = before_open(parameters_of(f) - (token[f - 2] == "async"))
+    call = p == "," ? before_open(opened_by(f)) : before_open(parameters_of(f) - (token[f - 2] == "async"))
     if (call == "async") return ""
     if (call == "then") return "write await in place of .then(..)"
+    if (call ~ /^(catch|finally|sort|toSorted)$/) return of_methods[call]
     if (call ~ /^set(Timeout|Interval)$/) return of_names["setTimeout"]
     if (call == "transactionSync") return of_storage[call]
     if (call ~ /^(transaction|blockConcurrencyWhile)$/) return "write async (txn) => { .. }, with its parentheses and its braces"
     return no_functions
+}
+
+# the innermost parenthesis that is open before token i
+function opened_by(i,    open) {
+    for (i--; i > 0; i--) {
+        if (token[i] ~ /^[])}]$/) open++
+        if (token[i] ~ /^[({[]$/ && open-- == 0) return i
+    }
+    return 0
 }
 
 # where the parameters of the arrow at or behind token i begin
@@ -189,6 +208,7 @@ function of_classes() {
     if (b ~ /^(get|set)$/ && is_word(p)) return "there are no getters and setters: write a method"
     if (p == "*") return "there are no generators: return a list"
     if (p == ";" && b ~ /^[;{}]$/) return "take this ; away: nothing stands between methods"
+    if (p == "=" && (token[f + 2] == "=>" || a == "(" && behind_group(f + 1) == "=>" || a == "async" && behind_group(f + 2) == "=>")) return "functions are no values: write a method, async " b "(..) { .. }"
     if (is_word(b) && (p ~ /^[=;]$/ || is_word(p) && line[f] > line[f - 1])) return "there are no class fields: set this." b " in the constructor, behind super(ctx, env);"
     return ""
 }
@@ -196,7 +216,7 @@ function of_classes() {
 function of_statements() {
     if (b == "var") return "write let or const"
     if (b ~ /^(let|const)$/ && p ~ /^[{[]$/) return "there is no destructuring: write const x = r.x; and const first = list[0];"
-    if (p == "," && head_of(f - 1) ~ /^(let|const)$/ && top ~ /^[{(]$/) return "a " head_of(f - 1) " declares one name: write two"
+    if (p == "," && head_of(f - 1) ~ /^(let|const)$/ && (top == "{" || top == "(" && before_open(f) == "for")) return "a " head_of(f - 1) " declares one name: write two"
     if (p == "in" && token[f - 2] ~ /^(let|const)$/) return "write for (const " b " of Object.keys(r))"
     if (p == "{" && b == "do") return "there is no do: write while"
     if (p == "{" && b == ")" && before_group(f - 1) == "switch") return "there is no switch: write if (..) { .. } else if (..) { .. }"
@@ -271,7 +291,10 @@ function of_characters() {
 }
 
 function of_name(name, member) {
-    if (name == "Math" && member ~ /^(floor|trunc|round|ceil)$/) return "numbers are whole: (a - a % b) / b divides without a rest"
+    if (name == "Math" && member == "ceil") return "numbers are whole: (a + b - 1 - (a + b - 1) % b) / b divides and rounds up"
+    if (name == "Math" && member ~ /^(floor|trunc|round)$/) return "numbers are whole: (a - a % b) / b divides without a rest"
+    if (name == "Math" && member == "random") return of_names["crypto"]
+    if (name == "Math" && member == "pow") return "there is no power: multiply in a loop"
     if (name == "Math" && member ~ /^(max|min)$/) return "write a " (member == "max" ? ">" : "<") " b ? a : b"
     if (name == "Math" && member == "abs") return "write a < 0 ? -a : a"
     if (name == "Object" && member == "fromEntries") return "write let r = {}; for (const pair of pairs) { r[pair[0]] = pair[1]; }"
@@ -316,14 +339,15 @@ function of_unawaited() {
 # of what the environment has
 function of_env(class, member, argument) {
     if (member == "getByName") return whole(class)
-    if (member ~ /^(idFromName|newUniqueId|idFromString)$/ || member == "get" && is_word(argument)) return "an id or a stub is no value. " whole(class)
+    if (member ~ /^(idFromName|newUniqueId|idFromString)$/ || member == "get" && is_word(argument)) return "an id or a stub is no value: " whole(class)
     return "env has the classes of the script alone: hand in what else is needed as an argument"
 }
 
-function whole(class) { return "Write the call whole: await this.env." class ".get(this.env." class ".idFromName(name)).m(..)" }
+function whole(class) { return "write the call whole, await this.env." class ".get(this.env." class ".idFromName(name)).m(..)" }
 
 # the first method that is called on the path
 function method_of(i,    open) {
+    open = token[i] ~ /^[([]$/
     for (i++; i <= tokens; i++) {
         if (token[i] ~ /^[])]$/ && open-- == 0) return ""
         if (!open && token[i] ~ /^[;,{}]$/) return ""

@@ -13,6 +13,7 @@ read_words() {
         check) places=script ;;
         dump) places=folder options=slots ;;
         '') fault='no command is given'; return ;;
+        --build) if [ "$aim" = run ]; then fault='--build stands alone'; fi; return ;;
         -*) fault="$command stands before the command: serve, check or dump comes first"; return ;;
         *) fault="there is no command $command"; return ;;
     esac
