@@ -15,6 +15,12 @@ export class Bench extends DurableObject {
     return null;
   }
 
+  // Writes and answers without waiting for the disk.
+  async loose(key, value) {
+    await this.ctx.storage.put(key, value, { allowUnconfirmed: true });
+    return null;
+  }
+
   // As many batches, of one small write each.
   async fill(from, count) {
     for (let i = from; i < from + count; i++) { await this.ctx.storage.put("k" + i % 1000, i); }

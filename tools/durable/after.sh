@@ -1,17 +1,26 @@
 # shellcheck shell=bash
 # What is told behind a run.
 
+# what of the answers stands behind a run; a script may allow its last writes to be lost
+what_stands() {
+    if [ -n "$script" ] && grep -q allowUnconfirmed -- "$script" 2>/dev/null; then
+        printf '%s, but for the last writes with allowUnconfirmed.' "$1"
+    else
+        printf '%s.' "$1"
+    fi
+}
+
 tell() {
     case "$1" in
         0) ;;
         1) tell_words ;;
         2) tell_refusal "$script" ;;
         3) tell_opening "$script" "$folder" ;;
-        4) say "memory was refused: run again where there is more, and keep a window of calls under way. What was answered is there." ;;
+        4) say "memory was refused: run again where there is more, and keep a window of calls under way. $(what_stands 'What was answered is there')" ;;
         5) say "standard input couldn't be read further: each whole line before that was answered. See what stands at its other end." ;;
-        6) say "standard output couldn't be written: see what stands at its other end, or whether its disk is full. What was printed is durable." ;;
+        6) say "standard output couldn't be written: see what stands at its other end, or whether its disk is full. $(what_stands 'What was printed is durable')" ;;
         7) tell_bad_slot "$folder" "$slots" ;;
-        *) say "the program was ended by signal $(($1 - 128)): run it again. What was answered is there." ;;
+        *) say "the program was ended by signal $(($1 - 128)): run it again. $(what_stands 'What was answered is there')" ;;
     esac
     if [ "$command" = serve ] && [ -z "$fault" ]; then tell_served "$1"; fi
 }
@@ -86,7 +95,7 @@ tell_opening() {
     for ((number = 0; number < slots; number++)); do
         if tell_journal "$(file_of "$folder" "$number")" "$folder"; then return; fi
     done
-    say "a call of the disk failed in $folder: see that its disk has room and is healthy, and run again. What was answered is there."
+    say "a call of the disk failed in $folder: see that its disk has room and is healthy, and run again. $(what_stands 'What was answered is there')"
 }
 
 file_of() { printf '%s/slot-%03d.journal' "$1" "$2"; }

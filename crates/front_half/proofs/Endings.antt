@@ -42,16 +42,16 @@ next_so f c mode = record { incarnation = suc f.incarnation; events = []; said =
 fresh_fits : (said : List Body) (st : State) (i : ℕ) (alarm : Option (ℤ × ℕ)) (c : Cause) → intake.FitsNotice said st (notice.Fresh i alarm c)
 fresh_fits said (idle o) i alarm c = tt
 fresh_fits said (ended e) i alarm c = tt
-fresh_fits said (waiting o t (body.Ask a)) i alarm c = tt
-fresh_fits said (waiting o t (body.Batch ops tail)) i alarm c = tt
+fresh_fits said (waiting o t (body.Ask a free)) i alarm c = tt
+fresh_fits said (waiting o t (body.Batch ops tail confirmed)) i alarm c = tt
 fresh_fits said (waiting o t body.Sync) i alarm c = tt
 fresh_fits said (waiting o t b) i alarm c = tt
 
 down_fits : (said : List Body) (st : State) (c : Cause) (before after : ℕ) → intake.FitsNotice said st (notice.Down c before after)
 down_fits said (idle o) c before after = tt
 down_fits said (ended e) c before after = tt
-down_fits said (waiting o t (body.Ask a)) c before after = tt
-down_fits said (waiting o t (body.Batch ops tail)) c before after = tt
+down_fits said (waiting o t (body.Ask a free)) c before after = tt
+down_fits said (waiting o t (body.Batch ops tail confirmed)) c before after = tt
 down_fits said (waiting o t body.Sync) c before after = tt
 down_fits said (waiting o t b) c before after = tt
 

@@ -28,13 +28,13 @@ not_if false x is = refl
 
 fits_in : (count : ℕ) (n : Notice) (given : Answer) (b : Body) (o : Object) (t : OpenTask) (said : List Body)
     → answered count (asked_in b) n ≡ Some given → count ≡ length said → FitsNotice said (waiting o t b) n
-fits_in count (notice.Read number r) given (body.Ask a) o t said is counts =
+fits_in count (notice.Read number r) given (body.Ask a free) o t said is counts =
     let both = and_parts (number == count) (is_answer a r) (cond_some ((number == count) && is_answer a r) _ _ is).0 in
     (eqb-true number count both.0 ∙ counts, both.1)
-fits_in count (notice.Taken number m) given (body.Batch ops (Some tail)) o t said is counts = eqb-true number count (cond_some (number == count) _ _ is).0 ∙ counts
+fits_in count (notice.Taken number m) given (body.Batch ops (Some tail) confirmed) o t said is counts = eqb-true number count (cond_some (number == count) _ _ is).0 ∙ counts
 fits_in count (notice.Synced number) given body.Sync o t said is counts = eqb-true number count (cond_some (number == count) _ _ is).0 ∙ counts
-fits_in count n given (body.Batch ops (Some tail)) o t said is counts = absurd (none-some given is)
-fits_in count n given (body.Batch ops None) o t said is counts = absurd (none-some given is)
+fits_in count n given (body.Batch ops (Some tail) confirmed) o t said is counts = absurd (none-some given is)
+fits_in count n given (body.Batch ops None confirmed) o t said is counts = absurd (none-some given is)
 fits_in count n given b o t said is counts = absurd (none-some given is)
 
 -- A notice that answers is the one that is waited for.
@@ -47,11 +47,11 @@ differs count number said other counts is = true≢false (sym (eq-eqb number cou
 
 unfit_in : (count : ℕ) (n : Notice) (b : Body) (a : Asked) (o : Object) (t : OpenTask) (said : List Body)
     → answered count (asked_in b) n ≡ None → asked_in b ≡ Some a → is_end n ≡ false → count ≡ length said → FitsNotice said (waiting o t b) n → ⊥
-unfit_in count (notice.Read number r) (body.Ask ask) a o t said is asks stored counts fits =
+unfit_in count (notice.Read number r) (body.Ask ask free) a o t said is asks stored counts fits =
     true≢false (sym (and_from (number == count) (is_answer ask r) (eq-eqb number count (fits.0 ∙ sym counts)) fits.1)
     ∙ not_if ((number == count) && is_answer ask r) _ is)
-unfit_in count (notice.Taken number m) (body.Batch ops (Some tail)) a o t said is asks stored counts fits = differs count number said (not_if (number == count) _ is) counts fits
-unfit_in count (notice.Taken number m) (body.Batch ops None) a o t said is asks stored counts fits = none-some a asks
+unfit_in count (notice.Taken number m) (body.Batch ops (Some tail) confirmed) a o t said is asks stored counts fits = differs count number said (not_if (number == count) _ is) counts fits
+unfit_in count (notice.Taken number m) (body.Batch ops None confirmed) a o t said is asks stored counts fits = none-some a asks
 unfit_in count (notice.Synced number) body.Sync a o t said is asks stored counts fits = differs count number said (not_if (number == count) _ is) counts fits
 unfit_in count (notice.Fresh i al c) b a o t said is asks stored counts fits = true≢false stored
 unfit_in count (notice.Down c before after) b a o t said is asks stored counts fits = true≢false stored

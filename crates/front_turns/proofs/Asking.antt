@@ -1,6 +1,6 @@
 -- Where an ask leads.
 use Rattle.std.proofs.Common.{◌≡◌, ◌∙◌, sym, refl, ap, subst, ℕ, List, [], ◌∷◌, ◌++◌, map, append_assoc}
-use Rattle.std.specs.Prelude.{Some}
+use Rattle.std.specs.Prelude.{Bool, Some}
 use Rattle.do_value.specs.declared.value.Value.{Value}
 use Rattle.script_mean.specs.declared.ask.Ask.TheVariants as ask
 use Rattle.timeline.specs.Left.{wait_of}
@@ -24,20 +24,20 @@ use Rattle.front_turns.specs.declared.asks.Went.TheVariants as went
 use Rattle.front_turns.proofs.Saying.{says_more}
 
 written_last : (o : seen.Object) (t : OpenTask) (tail : ℕ) (first : List Made) (last : Made)
-    → asks_written o t tail (first ++ last ∷ []) ≡ before (map batch first) (asks o t (body.Batch last.batch (Some tail)))
+    → asks_written o t tail (first ++ last ∷ []) ≡ before (map batch first) (asks o t (body.Batch last.batch (Some tail) last.confirmed))
 written_last o t tail [] last = refl
 written_last o t tail (a ∷ []) last = refl
 written_last o t tail (a ∷ b ∷ first) last = ap (before (batch a ∷ [])) (written_last o t tail (b ∷ first) last)
 
 -- All batches but the last are said, and then the last one is asked.
 pub written_by_last : (o : seen.Object) (t : OpenTask) (tail : ℕ) (all first : List Made) (last : Made) → all ≡ first ++ last ∷ []
-    → asks_written o t tail all ≡ before (map batch first) (asks o t (body.Batch last.batch (Some tail)))
+    → asks_written o t tail all ≡ before (map batch first) (asks o t (body.Batch last.batch (Some tail) last.confirmed))
 written_by_last o t tail all first last e = ap (asks_written o t tail) e ∙ written_last o t tail first last
 
 -- The last one is asked with the operations that it has.
 pub asked_with : {T : Type 0} (see : T → Paused) (l : Life) (old new : List Body) (s : State T) (o : seen.Object) (t : OpenTask) (tail : ℕ) (ops same : List Op)
-    → ops ≡ same → Says see l old new s (asks o t (body.Batch ops (Some tail))) → Says see l old new s (asks o t (body.Batch same (Some tail)))
-asked_with see l old new s o t tail ops same e says = subst (λ (xs : List Op). Says see l old new s (asks o t (body.Batch xs (Some tail)))) e says
+    (mark : Bool) → ops ≡ same → Says see l old new s (asks o t (body.Batch ops (Some tail) mark)) → Says see l old new s (asks o t (body.Batch same (Some tail) mark))
+asked_with see l old new s o t tail ops same mark e says = subst (λ (xs : List Op). Says see l old new s (asks o t (body.Batch xs (Some tail) mark))) e says
 
 before_both : (xs ys : List Body) (s : Step) → before xs (before ys s) ≡ before (xs ++ ys) s
 before_both xs ys s = ap (λ (says : List Body). record { says = says; state = s.state }) (sym (append_assoc xs ys s.says))

@@ -140,8 +140,8 @@ IsObject see l o ob = (ts : List OpenTask) × (ob ≡ object_of o ts) × Holds s
 
 -- What the front keeps of the entry that is waited for.
 abbrev pub asked_in : Body → Option Asked
-asked_in (body.Ask ask) = Some (asked.Read ask)
-asked_in (body.Batch ops (Some tail)) = Some asked.Taken
+asked_in (body.Ask ask free) = Some (asked.Read ask)
+asked_in (body.Batch ops (Some tail) confirmed) = Some asked.Taken
 asked_in body.Sync = Some asked.Synced
 asked_in _ = None
 

@@ -220,7 +220,7 @@ fn deeper(depth: u32) -> u32
     depth + 1
 }
 
-// The last batch is the one whose completion is awaited.
+// The last batch is the one whose completion is awaited. Each is said with its mark.
 fn asks_written<T: Task + Drop>(
     says: &mut Vec<Said>,
     object: Object<T>,
@@ -239,9 +239,11 @@ fn asks_written<T: Task + Drop>(
         }
         Some((batches, made)) => {
             say_batches(says, batches)?;
+            let confirmed = made.confirmed;
             let last = Said::Batch {
                 batch: made.into_batch(),
                 tail: Some(tail),
+                confirmed,
             };
             let state = asks(says, object, running, task, last, Asked::Taken)?;
             Ok(state)
@@ -270,7 +272,7 @@ fn asks_store<T: Task + Drop>(
         object,
         running,
         task,
-        Said::Ask(ask),
+        Said::Ask { ask, free: false },
         Asked::Read(kept),
     )?;
     Ok(state)

@@ -77,7 +77,7 @@ fn idles<T: Task + Drop>(object: Object<T>) -> State<T>
     State::Idle { object }
 }
 
-// A handler has ended: what is written of the alarm is a batch of its own.
+// A handler has ended: what is written of the alarm is a confirmed batch of its own.
 pub(crate) fn handled<T: Task + Drop>(
     alloc: Global,
     says: &mut Vec<Said>,
@@ -93,7 +93,14 @@ pub(crate) fn handled<T: Task + Drop>(
         Some(op) => {
             let batch = batch_of(alloc, op)?;
             let object = unhandled(object, &batch);
-            say(says, Said::Batch { batch, tail: None })?;
+            say(
+                says,
+                Said::Batch {
+                    batch,
+                    tail: None,
+                    confirmed: true,
+                },
+            )?;
             Ok(State::Idle { object })
         }
     }

@@ -1,5 +1,5 @@
 -- Rows that no report has, for the examples.
-use Rattle.std.specs.Prelude.{◌≡◌, ℕ, List, [], ◌∷◌, Option, Some, None, Err}
+use Rattle.std.specs.Prelude.{◌≡◌, ℕ, true, List, [], ◌∷◌, Option, Some, None, Err}
 use Rattle.batch_journal.specs.Moments.{IsTold}
 use Rattle.do_tree.specs.Tree.{Script}
 use Rattle.front_half.specs.Standing.{nothing_logged}
@@ -31,7 +31,7 @@ IsNoRow {S} moment_of left_since told faults_of log = (limit : ℕ) (script : Sc
 
 -- A batch was taken that deletes all keys.
 abbrev pub wiped : Backed
-wiped = record no_log { taken = entry 1 1 (body.Batch (DeleteAll ∷ []) None) ∷ [] }
+wiped = record no_log { taken = entry 1 1 (body.Batch (DeleteAll ∷ []) None true) ∷ [] }
 
 -- No slot rests as it was at the opening whose back shows this.
 abbrev pub IsTouchedBy : (S : Type 0) → Backed → Type 0

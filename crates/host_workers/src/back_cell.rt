@@ -127,6 +127,11 @@ impl<D: Disk, T: Wait + Copy> BackCell<D, T> {
         self.back.mend(alloc, &mut self.notices)
     }
 
+    // Whether batches wait for a flush.
+    pub(crate) fn has_unflushed(&self) -> bool {
+        self.back.has_unflushed()
+    }
+
     // How many entries it has taken.
     pub(crate) fn count_taken(&self) -> usize {
         self.back.log().taken.len()
@@ -175,8 +180,8 @@ impl<D: Disk, T: Wait + Copy> BackCell<D, T> {
 // Whether a back answers this as soon as it takes it: a read, or a write that is awaited.
 fn is_answered(body: &Body) -> bool {
     match body {
-        Body::Ask(_) => true,
-        Body::Batch { batch: _, tail } => tail.is_some(),
+        Body::Ask { .. } => true,
+        Body::Batch { tail, .. } => tail.is_some(),
         _ => false,
     }
 }

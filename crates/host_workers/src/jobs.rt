@@ -164,6 +164,11 @@ impl Found {
         }
     }
 
+    // The flight is for the next look: what was let go before it doesn't wait for the disk.
+    fn leaving_flight(self) -> Found {
+        Found { more: true, ..self }
+    }
+
     // What was found in two things that a back did.
     fn and(self, other: Found) -> Found {
         Found {
@@ -247,7 +252,7 @@ fn make_turns<'s, T: Wait + Copy>(alloc: Global, cell: &mut FrontCell<'s, T>) ->
     Found::more()
 }
 
-// Takes all that has come, appends it as one flight, and lets go what may go. What that makes room for is taken by the next worker. Where
+// Takes all that has come, lets go what follows unconfirmed batches alone, appends all as one flight, and lets go what may go. What that makes room for is taken by the next worker. Where
 // its front waits for what it was answered now, the flight may be left to the next look: so what the front writes next goes along.
 //
 // The front was told something where an entry was answered that a front waits for, where what was let go isn't a message, and by a mounting.
@@ -263,14 +268,32 @@ fn step_back<D: Disk, T: Wait + Copy>(alloc: Global, cell: &mut BackCell<D, T>, 
     if waits < MOST_WAITS && answered && took.is_whole() {
         return Found::waits(waits + 1);
     }
+    let taken = took.told_where(answered);
+    let early = release_early(cell);
+    if early.freed {
+        return taken.and(early).leaving_flight();
+    }
     cell.flush();
     let released = release_all(cell);
     let mended = mend(alloc, cell);
     let behind = cell.count_taken();
     let again = take_all(cell);
-    let taken = took.told_where(answered);
     let behind = again.behind_flight(cell.has_answered(behind));
-    taken.and(released).and(mended).and(behind)
+    taken.and(early).and(released).and(mended).and(behind)
+}
+
+// Where a flight is due, lets go first what waits for none of its batches: what follows unconfirmed writes alone.
+fn release_early<D: Disk, T: Wait + Copy>(cell: &mut BackCell<D, T>) -> Found
+    requires { CanStep D.moment_of D.left_since D.told D.image D.faults_of cell.old }
+    ensures lanes { SameBackLanes cell.old cell.new }
+    ensures cell { KeepsBackCell D.moment_of D.left_since D.told D.image D.faults_of cell.old cell.new }
+    ensures alone { KeepsCellAlone D.moment_of D.left_since D.told D.image D.faults_of cell.old cell.new }
+{
+    if cell.has_unflushed() {
+        release_all(cell)
+    } else {
+        Found::nothing()
+    }
 }
 
 fn take_all<D: Disk, T: Wait + Copy>(cell: &mut BackCell<D, T>) -> Found

@@ -43,7 +43,7 @@ none_passes front back (suc n) none =
     let older : History = incarnations front back n in
     let i : Incarnation = incarnation_at front back n in
     ap (λ (ps : List Passed). ps ++ passed_in older i) (none_passes front back n none)
-    ∙ ap (λ (entries : List Entry). flat_map (passes older i.number (bound_by i.stop i.flights)) (held_in 0 (said_in (entries_of (suc n) entries)))) none
+    ∙ ap (λ (entries : List Entry). flat_map (passes older i.number (bound_by i.stop i.flights)) (held_in 0 0 (said_in (entries_of (suc n) entries)))) none
 
 -- What begins with nothing behind it is nothing.
 none_begins : {X Y : Type 0} (f : X → Y) (xs : List X) (ys : List Y) → IsPrefix (map f xs) ys → ys ≡ [] → xs ≡ []

@@ -10,10 +10,11 @@ use Rattle.batch_journal.specs.Rest.{disk_in}
 use Rattle.storage_map.specs.Limits.{Object}
 use Rattle.storage_map.specs.Ops.{batch_bytes}
 use Rattle.storage_map.specs.declared.op.Op.{Op}
+use Rattle.timeline.proofs.Needs.{reach_within}
 use Rattle.timeline.specs.Headline.{AreDurable, release_of, pass_of}
 use Rattle.timeline.specs.History.{History, batches_in, durable, history, kept_before, said_in}
 use Rattle.timeline.specs.Logs.{Fronted, Backed, backed}
-use Rattle.timeline.specs.Passed.{Passed, Held as Message, held_in, passed, passed_in, passes, passes_if, is_mend, is_mounted, is_followed, durable_at}
+use Rattle.timeline.specs.Passed.{Passed, Held as Message, follows, held_in, passed, passed_in, passes, passes_if, is_mend, is_mounted, is_followed, durable_at}
 use Rattle.timeline.specs.Told.{said_by, spoken, batches_of}
 use Rattle.timeline.specs.declared.back_log.Release.{Release}
 use Rattle.timeline.specs.declared.entry.Body.{Body}
@@ -45,28 +46,30 @@ pub all_behind : {X : Type 0} (P : X → Type 0) (xs ys : List X) → All P (xs 
 all_behind P [] ys all = all
 all_behind P (x ∷ xs) ys all = all_behind P xs ys (All-tail P x (xs ++ ys) all)
 
--- As many batches stand before a message as were said, at most.
+-- A message follows as many batches as were said, at most.
 abbrev IsWithin : ℕ → Message → Type 0
 IsWithin most m = m.behind ≤ most
 
 abbrev AreWithin : List Entry → Type 0
-AreWithin entries = (count : ℕ) → All (IsWithin (count + length (batches_in entries))) (held_in count (said_in entries))
+AreWithin entries = (count behind : ℕ) → behind ≤ count → All (IsWithin (count + length (batches_in entries))) (held_in count behind (said_in entries))
 
-within_by : (b : Body) (entries : List Entry) → AreWithin entries → (count : ℕ)
-    → All (IsWithin (count + length (batches_of (said_by b ++ spoken entries)))) (held_in count (b ∷ said_in entries))
-within_by (body.Batch ops tail) entries within count = λ i d less. omega (arith, within (count + 1) i d less)
-within_by (body.Message sent) entries within count =
-    All-cons (IsWithin (count + length (batches_in entries))) (record { message = sent; behind = count; mended = list_any is_mend (said_in entries) })
-    (held_in count (said_in entries)) (omega arith) (within count)
-within_by (body.Bind identity) entries within count = within count
-within_by (body.Ask ask) entries within count = within count
-within_by body.Sync entries within count = within count
-within_by (body.Halt cause) entries within count = within count
-within_by body.Mend entries within count = within count
+within_by : (b : Body) (entries : List Entry) → AreWithin entries → (count behind : ℕ) → behind ≤ count
+    → All (IsWithin (count + length (batches_of (said_by b ++ spoken entries)))) (held_in count behind (b ∷ said_in entries))
+within_by (body.Batch ops tail confirmed) entries within count behind le =
+    let follows_within : follows count behind confirmed ≤ count + 1 = reach_within (body.Batch ops tail confirmed ∷ []) count behind le in
+    λ i d less. omega (arith, within (count + 1) (follows count behind confirmed) follows_within i d less)
+within_by (body.Message sent) entries within count behind le =
+    All-cons (IsWithin (count + length (batches_in entries))) (record { message = sent; behind = behind; mended = list_any is_mend (said_in entries) })
+    (held_in count behind (said_in entries)) (omega (arith, le)) (within count behind le)
+within_by (body.Bind identity) entries within count behind le = within count behind le
+within_by (body.Ask ask free) entries within count behind le = within count behind le
+within_by body.Sync entries within count behind le = within count behind le
+within_by (body.Halt cause) entries within count behind le = within count behind le
+within_by body.Mend entries within count behind le = within count behind le
 
 are_within : (entries : List Entry) → AreWithin entries
-are_within [] count = All-nil (IsWithin (count + 0))
-are_within (e ∷ entries) count = within_by e.body entries (are_within entries) count
+are_within [] count behind le = All-nil (IsWithin (count + 0))
+are_within (e ∷ entries) count behind le = within_by e.body entries (are_within entries) count behind le
 
 abbrev Needs : ℕ → Passed → Type 0
 Needs most p = p.needs ≤ most
@@ -88,10 +91,10 @@ module _ (front : Fronted) (ended : ℕ) (taken : List Entry) (flights : List �
       let most : ℕ = length (batches_in taken) in
       All-append (Needs (length (kept_before older) + most)) (passed older) (passed_in older (going_on front ended taken flights))
       (λ i d less. omega (arith, settled i d less, known))
-      (all_flat (Needs (length (kept_before older) + most)) (passes older (suc ended) None) (held_in 0 (said_in taken))
+      (all_flat (Needs (length (kept_before older) + most)) (passes older (suc ended) None) (held_in 0 0 (said_in taken))
       (All-weaker (IsWithin most) (λ (h : Message). All (Needs (length (kept_before older) + most)) (passes older (suc ended) None h))
       (λ h within. one_needs h (not (is_mounted older) || h.mended) most known within)
-      (held_in 0 (said_in taken)) (λ i d less. omega (arith, are_within taken 0 i d less))))
+      (held_in 0 0 (said_in taken)) (λ i d less. omega (arith, are_within taken 0 0 (omega arith) i d less))))
 
   down_one : (mounted : Bool) → is_mounted older ≡ mounted → mounted ≡ false → (h : Message)
       → All (Needs (durable_at older)) (passes_if older (suc ended) None h (not mounted || h.mended))
@@ -103,7 +106,7 @@ module _ (front : Fronted) (ended : ℕ) (taken : List Entry) (flights : List �
       → All (Needs (durable_at older)) (passed (going_on front ended taken flights ∷ older))
   down_needs down settled =
       All-append (Needs (durable_at older)) (passed older) (passed_in older (going_on front ended taken flights)) settled
-      (all_flat (Needs (durable_at older)) (passes older (suc ended) None) (held_in 0 (said_in taken))
+      (all_flat (Needs (durable_at older)) (passes older (suc ended) None) (held_in 0 0 (said_in taken))
       (λ i d less. down_one (is_mounted older) refl down _))
 
 -- The first of what is held has all that it needs, where what is held for the front needs all that was taken.

@@ -52,9 +52,9 @@ wanted_news opened last _ _ _ _ (steps count rear next got more told after known
 -- Behind an entry nothing is told at once that answers a sync.
 no_sync : (number : ℕ) (m : Contents) (b : Body) (k : ℕ) (after rest : List Notice) → option_to_list (notice_of number m b) ++ after ≡ notice.Synced k ∷ rest
     → option_to_list (notice_of number m b) ≡ []
-no_sync number m (body.Ask ask) k after rest is = absurd cc
-no_sync number m (body.Batch ops (Some tail)) k after rest is = absurd cc
-no_sync number m (body.Batch ops None) k after rest is = refl
+no_sync number m (body.Ask ask free) k after rest is = absurd cc
+no_sync number m (body.Batch ops (Some tail) confirmed) k after rest is = absurd cc
+no_sync number m (body.Batch ops None confirmed) k after rest is = refl
 no_sync number m body.Sync k after rest is = refl
 no_sync number m (body.Message sent) k after rest is = refl
 no_sync number m (body.Bind identity) k after rest is = refl
@@ -71,8 +71,8 @@ NeedMore needs held = All (λ h. needs ≤ h.needs) held
 
 -- So it is of what is held of an entry.
 holds_more : (needs number before : ℕ) (b : Body) → needs ≤ before → NeedMore needs (holds number before b)
-holds_more needs number before (body.Ask ask) less = All-nil (λ h. needs ≤ h.needs)
-holds_more needs number before (body.Batch ops tail) less = All-nil (λ h. needs ≤ h.needs)
+holds_more needs number before (body.Ask ask free) less = All-nil (λ h. needs ≤ h.needs)
+holds_more needs number before (body.Batch ops tail confirmed) less = All-nil (λ h. needs ≤ h.needs)
 holds_more needs number before body.Sync less =
     All-cons (λ h. needs ≤ h.needs) (record { hold = sync number; needs = before }) [] less (All-nil (λ h. needs ≤ h.needs))
 holds_more needs number before (body.Message sent) less = All-nil (λ h. needs ≤ h.needs)
@@ -83,8 +83,8 @@ holds_more needs number before body.Mend less = All-nil (λ h. needs ≤ h.needs
 
 -- As many batches are taken before the next entry, or more.
 before_more : (needs before : ℕ) (b : Body) → needs ≤ before → needs ≤ before_next before b
-before_more needs before (body.Ask ask) less = less
-before_more needs before (body.Batch ops tail) less = omega (arith, less)
+before_more needs before (body.Ask ask free) less = less
+before_more needs before (body.Batch ops tail confirmed) less = omega (arith, less)
 before_more needs before body.Sync less = less
 before_more needs before (body.Message sent) less = less
 before_more needs before (body.Bind identity) less = less

@@ -82,9 +82,9 @@ other_first i e line differs = ap (λ (b : Bool). cond b (e ∷ entries_of i lin
 -- What a back answers to an entry that it was asked by: at once, or it holds the answer.
 gives : (number : ℕ) (m : Contents) (before : ℕ) (b : Body) → is_asked b ≡ true
     → (option_to_list (notice_of number m b) ≢ []) ⊎ (holds number before b ≢ [])
-gives number m before (body.Ask ask) is = inl (not_none _ [])
-gives number m before (body.Batch ops (Some tail)) is = inl (not_none _ [])
-gives number m before (body.Batch ops None) is = absurd cc
+gives number m before (body.Ask ask free) is = inl (not_none _ [])
+gives number m before (body.Batch ops (Some tail) confirmed) is = inl (not_none _ [])
+gives number m before (body.Batch ops None confirmed) is = absurd cc
 gives number m before body.Sync is = inr (not_none _ [])
 gives number m before (body.Message sent) is = absurd cc
 gives number m before (body.Bind identity) is = absurd cc

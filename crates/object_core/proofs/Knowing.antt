@@ -14,7 +14,7 @@ use Rattle.output_gate.proofs.Unfit.{fit_taken}
 use Rattle.output_gate.specs.Ended.{newest_as, newest_of}
 use Rattle.output_gate.specs.Entering.{Enters, is_unfit, identity_by, identity_after}
 use Rattle.output_gate.specs.Fits.{comes_behind, is_halt, last_of}
-use Rattle.output_gate.specs.Serving.{IsBackAs}
+use Rattle.output_gate.specs.Serving.{IsBackAs, marks_of}
 use Rattle.output_gate.specs.Taking.{fit_as, fits_so, fit_of, is_mounted_mode}
 use Rattle.output_gate.specs.declared.back.Back.{Back}
 use Rattle.object_core.proofs.KnownObject.{in_order, has_ended, number_is, never_late}
@@ -51,8 +51,8 @@ module _ (identity : Option Object) where
   -- Behind an entry the object is known where it was, or is bound by it.
   own_knows : (b : Body) → is_some (identity_by b identity) ≡ known_by b (is_some identity)
   own_knows (body.Bind bound) = refl
-  own_knows (body.Batch ops tail) = refl
-  own_knows (body.Ask ask) = refl
+  own_knows (body.Batch ops tail confirmed) = refl
+  own_knows (body.Ask ask free) = refl
   own_knows body.Sync = refl
   own_knows (body.Message sent) = refl
   own_knows (body.Halt c) = refl
@@ -60,8 +60,8 @@ module _ (identity : Option Object) where
 
   other_knows : (b : Body) → ((bound : Object) → b ≡ body.Bind bound → ⊥) → is_some identity ≡ known_by b (is_some identity)
   other_knows (body.Bind bound) binds_not = absurd (binds_not bound refl)
-  other_knows (body.Batch ops tail) binds_not = refl
-  other_knows (body.Ask ask) binds_not = refl
+  other_knows (body.Batch ops tail confirmed) binds_not = refl
+  other_knows (body.Ask ask free) binds_not = refl
   other_knows body.Sync binds_not = refl
   other_knows (body.Message sent) binds_not = refl
   other_knows (body.Halt c) binds_not = refl
@@ -124,7 +124,7 @@ module _ {D : Type 0} (moment_of : D → ℕ) (left_since : D → ℕ → List �
   never_before : (bound : Object) → e.body ≡ body.Bind bound → (e.incarnation ≡ back.number → ⊥) → ⊥
   never_before bound is differs =
       never_late (backed back.log) e first here.first comes (subst (λ (b : Body). FitsKnown (known_over first taken) b) is here.knows)
-      (in_order moment_of left_since told image faults_of start opening sound nothing_logged back known) back.settled nothing_logged
+      (in_order moment_of left_since told image faults_of start opening sound nothing_logged back known) (marks_of back) nothing_logged
       (has_ended moment_of left_since told image faults_of start opening sound nothing_logged back known)
       (between (length back.log.stops.items) e.incarnation back.number (newest_of taken) number (ltb-false back.number e.incarnation (not_less _ parts.is_within)) differs
       (in_order moment_of left_since told image faults_of start opening sound nothing_logged back known).newest (comes_least (last_of taken) e comes))

@@ -10,17 +10,17 @@ use Rattle.timeline.specs.Told.{Said, said_by, spoken, batches_of}
 use Rattle.timeline.specs.declared.entry.Body.{Body}
 use Rattle.timeline.specs.declared.entry.Body.TheVariants as body
 use Rattle.timeline.specs.declared.entry.Entry.{Entry}
-use Rattle.output_gate.specs.Ended.{AreInOrder, HasEnded, HaveEnded, IsEnding, AreEnding, halts_as, newest_as}
+use Rattle.output_gate.specs.Ended.{AreInOrder, Marks, HasEnded, HaveEnded, IsEnding, AreEnding, halts_as, newest_as}
 use Rattle.output_gate.specs.Fits.{comes_behind, is_halt, last_of}
-use Rattle.output_gate.specs.Serving.{IsBackAs}
+use Rattle.output_gate.specs.Serving.{IsBackAs, marks_of}
 use Rattle.output_gate.specs.declared.back.Back.{Back}
 use Rattle.object_core.specs.Fitting.{known_by, known_over, FitsKnown, AreFit}
 
 -- What is known stays known.
 known_still : (b : Body) → known_by b true ≡ true
 known_still (body.Bind identity) = refl
-known_still (body.Batch ops tail) = refl
-known_still (body.Ask ask) = refl
+known_still (body.Batch ops tail confirmed) = refl
+known_still (body.Ask ask free) = refl
 known_still body.Sync = refl
 known_still (body.Message sent) = refl
 known_still (body.Halt c) = refl
@@ -41,9 +41,9 @@ Writes known i last entries = AreFit known last entries → known_over known ent
 
 one_unwritten : (i : ℕ) (b : Body) (e : Entry) (entries : List Entry) → e.body ≡ b → FitsKnown false b → known_over (known_by b false) entries ≡ false
     → (known_by b false ≡ false → batches_in (entries_of i entries) ≡ []) → batches_in (entries_of i (e ∷ entries)) ≡ []
-one_unwritten i (body.Batch ops tail) e entries is fits unknown rest = absurd (true≢false (sym fits))
+one_unwritten i (body.Batch ops tail confirmed) e entries is fits unknown rest = absurd (true≢false (sym fits))
 one_unwritten i (body.Bind identity) e entries is fits unknown rest = absurd (true≢false (sym (known_on entries) ∙ unknown))
-one_unwritten i (body.Ask ask) e entries is fits unknown rest =
+one_unwritten i (body.Ask ask free) e entries is fits unknown rest =
     says_no_batch (e.incarnation == i) e (entries_of i entries) (ap (λ (x : Body). batches_of (said_by x)) is) (λ xs. ap (λ (x : Body). batches_of (said_by x ++ xs)) is) (rest refl)
 one_unwritten i body.Sync e entries is fits unknown rest =
     says_no_batch (e.incarnation == i) e (entries_of i entries) (ap (λ (x : Body). batches_of (said_by x)) is) (λ xs. ap (λ (x : Body). batches_of (said_by x ++ xs)) is) (rest refl)
@@ -75,8 +75,8 @@ behind_same true x e is comes no_less = (eqb-true x.incarnation e.incarnation is
 behind_same false x e is comes no_less = absurd (no_less (ltb-true x.incarnation e.incarnation comes))
 
 module _ (log : Backed) (e : Entry) (first : Bool) (fit : AreFit first None log.taken) (comes : comes_behind (last_of log.taken) e ≡ true)
-    (unknown : known_over first log.taken ≡ false) (ordered : AreInOrder log.taken log.stops) (settled : ℕ) (front : Fronted)
-    (ended : (m : ℕ) → length log.stops ≡ suc m → HasEnded settled (incarnation_at front log m) (incarnations front log m)) where
+    (unknown : known_over first log.taken ≡ false) (ordered : AreInOrder log.taken log.stops) (marks : Marks) (front : Fronted)
+    (ended : (m : ℕ) → length log.stops ≡ suc m → HasEnded marks (incarnation_at front log m) (incarnations front log m)) where
   -- The incarnation before the newest isn't that of an entry behind which nothing is known: it ended by a halt, or wrote.
   end_is : (m : ℕ) (x : Entry) → length log.stops ≡ suc m → last_of log.taken ≡ Some x → x.incarnation ≡ suc m → not (is_halt x.body) ≡ true → ⊥
   end_is m x stops last own goes = by_stop (discards (ended m stops).stop.cause (ended m stops).stop.read) refl
@@ -118,12 +118,12 @@ module _ {D : Type 0} (moment_of : D → ℕ) (left_since : D → ℕ → List �
   in_order (inr u) = u.logged.ordered
 
   pub has_ended : IsBackAs moment_of left_since told image faults_of start opening sound back → (m : ℕ) → length log.stops ≡ suc m
-      → HasEnded back.settled (incarnation_at front log m) (incarnations front log m)
+      → HasEnded (marks_of back) (incarnation_at front log m) (incarnations front log m)
   has_ended (inl mounted) m stops =
-      subst (λ (n : ℕ). HaveEnded back.settled (incarnations front log n)) stops (mounted.logged.placed front).ended
+      subst (λ (n : ℕ). HaveEnded (marks_of back) (incarnations front log n)) stops (mounted.logged.placed front).ended
   has_ended (inr u) m stops =
-      let ending : IsEnding u.ending back.settled (incarnation_at front log m) (incarnations front log m) =
-      subst (λ (n : ℕ). AreEnding u.ending back.settled (incarnations front log n)) stops (u.logged.ended front) in
+      let ending : IsEnding u.ending (marks_of back) (incarnation_at front log m) (incarnations front log m) =
+      subst (λ (n : ℕ). AreEnding u.ending (marks_of back) (incarnations front log n)) stops (u.logged.ended front) in
       ending.ended
 
   pub number_is : IsBackAs moment_of left_since told image faults_of start opening sound back → back.number ≡ suc (length log.stops)

@@ -44,8 +44,8 @@ known_stays behind within true true object (body.Bind bound) =
     ap (λ (ok : Bool). identity_after (fit_as ok true true) (Some object) (body.Bind bound)) (none_fits behind within)
 known_stays behind within true false object (body.Bind bound) = down_stays (behind && within && false) (Some object) (body.Bind bound)
 known_stays behind within false mounted object (body.Bind bound) = late_stays (behind && within && false) mounted (Some object) (body.Bind bound)
-known_stays behind within own mounted object (body.Batch ops tail) = some_stays _ own mounted object (body.Batch ops tail) refl
-known_stays behind within own mounted object (body.Ask ask) = some_stays _ own mounted object (body.Ask ask) refl
+known_stays behind within own mounted object (body.Batch ops tail confirmed) = some_stays _ own mounted object (body.Batch ops tail confirmed) refl
+known_stays behind within own mounted object (body.Ask ask free) = some_stays _ own mounted object (body.Ask ask free) refl
 known_stays behind within own mounted object body.Sync = some_stays _ own mounted object body.Sync refl
 known_stays behind within own mounted object (body.Message sent) = some_stays _ own mounted object (body.Message sent) refl
 known_stays behind within own mounted object (body.Halt cause) = some_stays _ own mounted object (body.Halt cause) refl

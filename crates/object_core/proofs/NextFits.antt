@@ -18,7 +18,7 @@ use Rattle.timeline.specs.declared.event.Event.{Event}
 use Rattle.timeline.specs.declared.notice.Notice.{Notice}
 use Rattle.output_gate.specs.Entering.{is_unfit, identity_by, identity_after}
 use Rattle.output_gate.specs.Fits.{comes_behind, fits_mounted, fits_down, last_of}
-use Rattle.output_gate.specs.Serving.{IsBackAs}
+use Rattle.output_gate.specs.Serving.{IsBackAs, marks_of}
 use Rattle.output_gate.specs.Taking.{fit_as, fits_so, fit_of, is_mounted_mode, is_wanted}
 use Rattle.output_gate.specs.declared.back.Back.{Back}
 use Rattle.output_gate.specs.declared.back.Mode.{Mode as BackMode}
@@ -41,8 +41,8 @@ use Rattle.object_core.specs.Seen.{seen_of}
 -- What fits the object, and asks for no mounting, is taken of an incarnation that is or was mounted.
 known_fits : (known : Bool) (b : Body) → FitsKnown known b → is_mend b ≡ false → fits_mounted b known ≡ true
 known_fits known (body.Bind identity) fits other = ap not fits
-known_fits known (body.Batch ops tail) fits other = fits
-known_fits known (body.Ask ask) fits other = refl
+known_fits known (body.Batch ops tail confirmed) fits other = fits
+known_fits known (body.Ask ask free) fits other = refl
 known_fits known body.Sync fits other = refl
 known_fits known (body.Message sent) fits other = refl
 known_fits known (body.Halt c) fits other = fits
@@ -182,7 +182,7 @@ module _ {D : Type 0} (moment_of : D → ℕ) (left_since : D → ℕ → List �
   bound_own bound is (own same fits) = (same, bound_on bound is back.mode fits no_mounting)
   bound_own bound is (late before fits) =
       absurd (never_late (backed back.log) e first here.first comes (subst (λ (b : Body). FitsKnown (known_over first taken) b) is here.knows)
-      (in_order moment_of left_since told image faults_of start opening sound front back known) back.settled front
+      (in_order moment_of left_since told image faults_of start opening sound front back known) (marks_of back) front
       (has_ended moment_of left_since told image faults_of start opening sound front back known) (omega (arith, before, number)))
 
   pub known_behind : is_some (identity_after (fit_of back e) back.identity e.body) ≡ known_by e.body (known_over first taken)

@@ -93,19 +93,19 @@ easy_runs i n known last (b ∷ bodies) follows easy =
     }
 
 inner_easy : (b : Body) → is_inner b ≡ true → Easy true b
-inner_easy (body.Batch ops None) is = record { fits = refl; same = refl; goes = refl }
-inner_easy (body.Batch ops (Some tail)) is = absurd (true≢false (sym is))
+inner_easy (body.Batch ops None confirmed) is = record { fits = refl; same = refl; goes = refl }
+inner_easy (body.Batch ops (Some tail) confirmed) is = absurd (true≢false (sym is))
 inner_easy (body.Message sent) is = record { fits = tt; same = refl; goes = refl }
 inner_easy (body.Bind identity) is = absurd (true≢false (sym is))
-inner_easy (body.Ask ask) is = absurd (true≢false (sym is))
+inner_easy (body.Ask ask free) is = absurd (true≢false (sym is))
 inner_easy body.Sync is = absurd (true≢false (sym is))
 inner_easy (body.Halt c) is = absurd (true≢false (sym is))
 inner_easy body.Mend is = absurd (true≢false (sym is))
 
 asked_easy : (b : Body) → is_asked b ≡ true → Easy true b
-asked_easy (body.Batch ops (Some tail)) is = record { fits = refl; same = refl; goes = refl }
-asked_easy (body.Batch ops None) is = absurd (true≢false (sym is))
-asked_easy (body.Ask ask) is = record { fits = tt; same = refl; goes = refl }
+asked_easy (body.Batch ops (Some tail) confirmed) is = record { fits = refl; same = refl; goes = refl }
+asked_easy (body.Batch ops None confirmed) is = absurd (true≢false (sym is))
+asked_easy (body.Ask ask free) is = record { fits = tt; same = refl; goes = refl }
 asked_easy body.Sync is = record { fits = tt; same = refl; goes = refl }
 asked_easy (body.Message sent) is = absurd (true≢false (sym is))
 asked_easy (body.Bind identity) is = absurd (true≢false (sym is))

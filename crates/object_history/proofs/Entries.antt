@@ -94,7 +94,7 @@ entries_same i entries e other =
 -- the batches of one entry more come behind the others, and those that were kept stay
 pub batches_append : (first second : List Said) → batches_of (first ++ second) ≡ batches_of first ++ batches_of second
 batches_append [] second = refl
-batches_append (batch ops ∷ first) second = ap (λ (rest : List (List Op)). ops ∷ rest) (batches_append first second)
+batches_append (batch ops confirmed ∷ first) second = ap (λ (rest : List (List Op)). ops ∷ rest) (batches_append first second)
 batches_append (message sent ∷ first) second = batches_append first second
 
 pub batches_more : (entries : List Entry) (e : Entry) → batches_in (entries ++ e ∷ []) ≡ batches_in entries ++ batches_in (e ∷ [])

@@ -19,8 +19,8 @@ use Rattle.object_history.specs.Pair.{Held, Stand, Rear, IsAnswer, Together, unr
 end_fits : (said : List Body) (state : State) (n : Notice) → IsEnd n → FitsNotice said state n
 end_fits said (idle o) (notice.Fresh incarnation alarm cause) is_end = tt
 end_fits said (ended c) (notice.Fresh incarnation alarm cause) is_end = tt
-end_fits said (waiting o t (body.Ask ask)) (notice.Fresh incarnation alarm cause) is_end = tt
-end_fits said (waiting o t (body.Batch ops tail)) (notice.Fresh incarnation alarm cause) is_end = tt
+end_fits said (waiting o t (body.Ask ask free)) (notice.Fresh incarnation alarm cause) is_end = tt
+end_fits said (waiting o t (body.Batch ops tail confirmed)) (notice.Fresh incarnation alarm cause) is_end = tt
 end_fits said (waiting o t body.Sync) (notice.Fresh incarnation alarm cause) is_end = tt
 end_fits said (waiting o t (body.Message sent)) (notice.Fresh incarnation alarm cause) is_end = tt
 end_fits said (waiting o t (body.Bind identity)) (notice.Fresh incarnation alarm cause) is_end = tt
@@ -28,8 +28,8 @@ end_fits said (waiting o t (body.Halt cause_of)) (notice.Fresh incarnation alarm
 end_fits said (waiting o t body.Mend) (notice.Fresh incarnation alarm cause) is_end = tt
 end_fits said (idle o) (notice.Down cause before after) is_end = tt
 end_fits said (ended c) (notice.Down cause before after) is_end = tt
-end_fits said (waiting o t (body.Ask ask)) (notice.Down cause before after) is_end = tt
-end_fits said (waiting o t (body.Batch ops tail)) (notice.Down cause before after) is_end = tt
+end_fits said (waiting o t (body.Ask ask free)) (notice.Down cause before after) is_end = tt
+end_fits said (waiting o t (body.Batch ops tail confirmed)) (notice.Down cause before after) is_end = tt
 end_fits said (waiting o t body.Sync) (notice.Down cause before after) is_end = tt
 end_fits said (waiting o t (body.Message sent)) (notice.Down cause before after) is_end = tt
 end_fits said (waiting o t (body.Bind identity)) (notice.Down cause before after) is_end = tt

@@ -43,40 +43,48 @@ never_between : (a c : Bool) → (a && false && c) ≡ true → ⊥
 never_between true c is = true≢false (sym is)
 never_between false c is = true≢false (sym is)
 
--- what is held of an entry, as the front's side sees it
-own_seen : (needs since number : ℕ) (b : Body) → flat_map held_of (held_by needs since number b) ≡ holds number needs b
-own_seen needs since number (body.Batch ops tail) = refl
-own_seen needs since number (body.Ask ask) = refl
-own_seen needs since number (body.Bind identity) = refl
-own_seen needs since number body.Sync = refl
-own_seen needs since number (body.Message sent) = refl
-own_seen needs since number (body.Halt cause) = refl
-own_seen needs since number body.Mend = refl
+-- what is held of an entry, as the front's side sees it: a sync or a halt, which need all batches before them
+own_seen : (before needs since number : ℕ) (b : Body) → flat_map held_of (held_by before needs since number b) ≡ holds number before b
+own_seen before needs since number (body.Batch ops tail confirmed) = refl
+own_seen before needs since number (body.Ask ask free) = refl
+own_seen before needs since number (body.Bind identity) = refl
+own_seen before needs since number body.Sync = refl
+own_seen before needs since number (body.Message sent) = refl
+own_seen before needs since number (body.Halt cause) = refl
+own_seen before needs since number body.Mend = refl
 
-down_seen : (needs since number : ℕ) (b : Body) → fits_down b ≡ true → flat_map held_of (held_by needs since number b) ≡ []
-down_seen needs since number (body.Batch ops tail) is = refl
-down_seen needs since number (body.Ask ask) is = refl
-down_seen needs since number (body.Bind identity) is = refl
-down_seen needs since number body.Sync is = absurd (true≢false (sym is))
-down_seen needs since number (body.Message sent) is = refl
-down_seen needs since number (body.Halt cause) is = absurd (true≢false (sym is))
-down_seen needs since number body.Mend is = refl
+down_seen : (before needs since number : ℕ) (b : Body) → fits_down b ≡ true → flat_map held_of (held_by before needs since number b) ≡ []
+down_seen before needs since number (body.Batch ops tail confirmed) is = refl
+down_seen before needs since number (body.Ask ask free) is = refl
+down_seen before needs since number (body.Bind identity) is = refl
+down_seen before needs since number body.Sync is = absurd (true≢false (sym is))
+down_seen before needs since number (body.Message sent) is = refl
+down_seen before needs since number (body.Halt cause) is = absurd (true≢false (sym is))
+down_seen before needs since number body.Mend is = refl
 
-late_seen : (stop : Option Stop) (settled incarnation : ℕ) (b : Body) → flat_map held_of (late_by stop settled incarnation b) ≡ []
-late_seen None settled incarnation b = refl
-late_seen (Some stop) settled incarnation (body.Message (message.Reply to result)) = refl
-late_seen (Some stop) settled incarnation (body.Message (message.Call i n to method args depth)) = refl
-late_seen (Some stop) settled incarnation (body.Message (message.Fetch i n value)) = refl
-late_seen (Some stop) settled incarnation (body.Batch ops tail) = refl
-late_seen (Some stop) settled incarnation (body.Ask ask) = refl
-late_seen (Some stop) settled incarnation (body.Bind identity) = refl
-late_seen (Some stop) settled incarnation body.Sync = refl
-late_seen (Some stop) settled incarnation (body.Halt cause) = refl
-late_seen (Some stop) settled incarnation body.Mend = refl
+-- Of an entry that comes late messages alone are held, whether one passes as it is or a reply's failure does.
+late_seen : (stop : Option Stop) (late : Option ℕ) (settled incarnation : ℕ) (b : Body) → flat_map held_of (late_by stop late settled incarnation b) ≡ []
+late_seen None late settled incarnation b = refl
+late_seen (Some stop) (Some needs) settled incarnation (body.Message sent) = refl
+late_seen (Some stop) None settled incarnation (body.Message (message.Reply to result)) = refl
+late_seen (Some stop) None settled incarnation (body.Message (message.Call i n to method args depth)) = refl
+late_seen (Some stop) None settled incarnation (body.Message (message.Fetch i n value)) = refl
+late_seen (Some stop) (Some needs) settled incarnation (body.Batch ops tail confirmed) = refl
+late_seen (Some stop) (Some needs) settled incarnation (body.Ask ask free) = refl
+late_seen (Some stop) (Some needs) settled incarnation (body.Bind identity) = refl
+late_seen (Some stop) (Some needs) settled incarnation body.Sync = refl
+late_seen (Some stop) (Some needs) settled incarnation (body.Halt cause) = refl
+late_seen (Some stop) (Some needs) settled incarnation body.Mend = refl
+late_seen (Some stop) None settled incarnation (body.Batch ops tail confirmed) = refl
+late_seen (Some stop) None settled incarnation (body.Ask ask free) = refl
+late_seen (Some stop) None settled incarnation (body.Bind identity) = refl
+late_seen (Some stop) None settled incarnation body.Sync = refl
+late_seen (Some stop) None settled incarnation (body.Halt cause) = refl
+late_seen (Some stop) None settled incarnation body.Mend = refl
 
 before_seen : (n : ℕ) (b : Body) → before_by b n ≡ before_next n b
-before_seen n (body.Batch ops tail) = omega (arith)
-before_seen n (body.Ask ask) = refl
+before_seen n (body.Batch ops tail confirmed) = omega (arith)
+before_seen n (body.Ask ask free) = refl
 before_seen n (body.Bind identity) = refl
 before_seen n body.Sync = refl
 before_seen n (body.Message sent) = refl
@@ -84,8 +92,8 @@ before_seen n (body.Halt cause) = refl
 before_seen n body.Mend = refl
 
 stand_seen : (ending : Ending) (b : Body) → stand_of (mode_by b (Down ending)) ≡ stands_after ending.cause b
-stand_seen ending (body.Batch ops tail) = refl
-stand_seen ending (body.Ask ask) = refl
+stand_seen ending (body.Batch ops tail confirmed) = refl
+stand_seen ending (body.Ask ask free) = refl
 stand_seen ending (body.Bind identity) = refl
 stand_seen ending body.Sync = refl
 stand_seen ending (body.Message sent) = refl
@@ -136,7 +144,7 @@ module _ {D : Type 0} (moment_of : D → ℕ) (left_since : D → ℕ → List �
       eqb-true e.incarnation back.number own ∙ numbered_so moment_of left_since told image faults_of start opening sound back known in
       steps_to (rear_of back) later (e ∷ []) _ _ (stand_of back.mode) (flat_map held_of back.held.items ++ holds e.number back.before e.body) (before_next back.before e.body) back.durable
       (takes_own e later.cache (mounted_as back.mode on) incarnation) (logs_as true true true is) (stands_as true true true is)
-      (held_seen true true true is ∙ ap (λ (h : List Held). flat_map held_of back.held.items ++ h) (own_seen back.before back.number e.number e.body))
+      (held_seen true true true is ∙ ap (λ (h : List Held). flat_map held_of back.held.items ++ h) (own_seen back.before back.needs back.number e.number e.body))
       (counts_as true true true is ∙ before_seen back.before e.body) enters.durable
 
   down_steps : (mode : Mode) → back.mode ≡ mode → fit_of back e ≡ fit_as true true false → (e.incarnation == back.number) ≡ true → is_mounted_mode mode ≡ false
@@ -150,7 +158,7 @@ module _ {D : Type 0} (moment_of : D → ℕ) (left_since : D → ℕ → List �
       steps_to (rear_of back) later (e ∷ []) [] _ (stands_after ending.cause e.body) (flat_map held_of back.held.items) back.before back.durable
       (takes_down e ending.cause later.cache (ap stand_of at) incarnation fits) (logs_as true true false is)
       (stands_as true true false is ∙ ap (λ (m : Mode). stand_of (mode_by e.body m)) at ∙ stand_seen ending e.body)
-      (held_seen true true false is ∙ ap (λ (h : List Held). flat_map held_of back.held.items ++ h) (down_seen back.before (back.number - 1) e.number e.body fits) ∙ append-nil _)
+      (held_seen true true false is ∙ ap (λ (h : List Held). flat_map held_of back.held.items ++ h) (down_seen back.before back.before (back.number - 1) e.number e.body fits) ∙ append-nil _)
       (counts_as true true false is) enters.durable
 
   late_steps : (on : Bool) → fit_of back e ≡ fit_as true false on → comes_behind (last_of back.log.taken.items) e ≡ true → not (nat_lt back.number e.incarnation) ≡ true
@@ -163,7 +171,7 @@ module _ {D : Type 0} (moment_of : D → ℕ) (left_since : D → ℕ → List �
       let incarnation : suc e.incarnation ≡ suc (length back.log.stops.items) = omega (arith, number, most, differs, least, (in_order known).newest) in
       steps_to (rear_of back) later (e ∷ []) [] _ (stand_of back.mode) (flat_map held_of back.held.items) back.before back.durable
       (takes_late e later.cache incarnation) (logs_as true false on is) (stands_as true false on is)
-      (held_seen true false on is ∙ ap (λ (h : List Held). flat_map held_of back.held.items ++ h) (late_seen _ back.settled e.incarnation e.body) ∙ append-nil _)
+      (held_seen true false on is ∙ ap (λ (h : List Held). flat_map held_of back.held.items ++ h) (late_seen _ back.late back.settled e.incarnation e.body) ∙ append-nil _)
       (counts_as true false on is) enters.durable
 
   abbrev fits : Bool

@@ -57,14 +57,14 @@ module _ (start : Contents) (f : Front) (front : Fronted) (back : Backed) (read 
 
   reached_plain : (state : State) (b : Body) (more : List Body) → f.mode ≡ serves state → is_plain b ≡ true → IsUnread f.mode more
       → AreGiven (option_to_list (notice_of n m b)) given → Reached b more
-  reached_plain state (body.Batch ops None) more mode plain u are =
+  reached_plain state (body.Batch ops None confirmed) more mode plain u are =
       told_none (λ (g : List Notice). Together start f front back more (suc before) mounted [] g) [] given are (unreached state mode u)
   reached_plain state (body.Message message) more mode plain u are =
       told_none (λ (g : List Notice). Together start f front back more before mounted [] g) [] given are (unreached state mode u)
   reached_plain state (body.Bind identity) more mode plain u are =
       told_none (λ (g : List Notice). Together start f front back more before mounted [] g) [] given are (unreached state mode u)
-  reached_plain state (body.Batch ops (Some tail)) more mode plain u are = absurd cc
-  reached_plain state (body.Ask asks) more mode plain u are = absurd cc
+  reached_plain state (body.Batch ops (Some tail) confirmed) more mode plain u are = absurd cc
+  reached_plain state (body.Ask asks free) more mode plain u are = absurd cc
   reached_plain state body.Sync more mode plain u are = absurd cc
   reached_plain state (body.Halt c) more mode plain u are = absurd cc
   reached_plain state body.Mend more mode plain u are = absurd cc
@@ -82,8 +82,8 @@ module _ (start : Contents) (f : Front) (front : Fronted) (back : Backed) (read 
 
   reached_asked : (o : Object) (t : OpenTask) (b : Body) (more : List Body) → f.mode ≡ serves (waiting o t b) → more ≡ [] → f.said ≡ read ++ b ∷ more
       → n ≡ suc (length read) → m ≡ written start read → is_asked b ≡ true → AreGiven (option_to_list (notice_of n m b)) given → Reached b more
-  reached_asked o t (body.Ask a) more mode none said number maps asked are =
-      let b : Body = body.Ask a in
+  reached_asked o t (body.Ask a free) more mode none said number maps asked are =
+      let b : Body = body.Ask a free in
       told_one (λ (g : List Notice). Together start f front back more before mounted [] g) [] given (notice.Read n (reading m a)) are
       (answered (notice.Read n (reading m a)) (record {
         state = waiting o t b;
@@ -95,8 +95,8 @@ module _ (start : Contents) (f : Front) (front : Fronted) (back : Backed) (read 
         answer = ap (λ (c : Contents). answer.Read (reading c a) ∷ []) maps;
       }) none)
       (no_more o t b more mode none said number maps before)
-  reached_asked o t (body.Batch ops (Some tail)) more mode none said number maps asked are =
-      let b : Body = body.Batch ops (Some tail) in
+  reached_asked o t (body.Batch ops (Some tail) confirmed) more mode none said number maps asked are =
+      let b : Body = body.Batch ops (Some tail) confirmed in
       told_one (λ (g : List Notice). Together start f front back more (suc before) mounted [] g) [] given (notice.Taken n (counted m ops tail)) are
       (answered (notice.Taken n (counted m ops tail)) (record {
         state = waiting o t b;
@@ -112,7 +112,7 @@ module _ (start : Contents) (f : Front) (front : Fronted) (back : Backed) (read 
       told_none (λ (g : List Notice). Together start f front back more before mounted (record { hold = sync n; needs = before } ∷ []) g) [] given are
       (subst (λ (at : ℕ). Together start f front back more before mounted (record { hold = sync at; needs = before } ∷ []) [])
       (sym (is_length o t body.Sync more mode none said number maps)) (syncs o t mode none))
-  reached_asked o t (body.Batch ops None) more mode none said number maps asked are = absurd cc
+  reached_asked o t (body.Batch ops None confirmed) more mode none said number maps asked are = absurd cc
   reached_asked o t (body.Message message) more mode none said number maps asked are = absurd cc
   reached_asked o t (body.Bind identity) more mode none said number maps asked are = absurd cc
   reached_asked o t (body.Halt c) more mode none said number maps asked are = absurd cc

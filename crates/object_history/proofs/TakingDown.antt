@@ -26,11 +26,11 @@ module _ (start : Contents) (f : Front) (front : Fronted) (back : Backed) (befor
 
   sunk_plain : (call : Option Event) (b : Body) (more : List Body) → f.mode ≡ down call → is_plain b ≡ true → IsUnread f.mode more
       → length (missed_of f.incarnation back.downs) ≡ suc (length (calls_down f front)) → Sunk b more
-  sunk_plain call (body.Batch ops None) more mode plain u count = falls call c mode u count
+  sunk_plain call (body.Batch ops None confirmed) more mode plain u count = falls call c mode u count
   sunk_plain call (body.Message message) more mode plain u count = falls call c mode u count
   sunk_plain call (body.Bind identity) more mode plain u count = falls call c mode u count
-  sunk_plain call (body.Batch ops (Some tail)) more mode plain u count = absurd cc
-  sunk_plain call (body.Ask asks) more mode plain u count = absurd cc
+  sunk_plain call (body.Batch ops (Some tail) confirmed) more mode plain u count = absurd cc
+  sunk_plain call (body.Ask asks free) more mode plain u count = absurd cc
   sunk_plain call body.Sync more mode plain u count = absurd cc
   sunk_plain call (body.Halt cause) more mode plain u count = absurd cc
   sunk_plain call body.Mend more mode plain u count = absurd cc

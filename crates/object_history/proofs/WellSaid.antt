@@ -89,8 +89,8 @@ outside_well again well o t (Some a) message = well (resumed o t a)
 -- An ask,
 ask_well : (again : OpenTask → Step) → ((u : OpenTask) → IsInner (again u)) → (l : Life) (o : Object) (t : OpenTask) (batches : List Made) (a : Ask)
     → IsInner (on_ask again l o t batches a)
-ask_well again well l o t batches (ask.Store a) = before_well (map batch batches) (asks o t (body.Ask a)) (batches_plain batches) (none_plain, refl)
-ask_well again well l o t batches (ask.Open a) = before_well (map batch batches) (asks o t (body.Ask a)) (batches_plain batches) (none_plain, refl)
+ask_well again well l o t batches (ask.Store a) = before_well (map batch batches) (asks o t (body.Ask a false)) (batches_plain batches) (none_plain, refl)
+ask_well again well l o t batches (ask.Open a) = before_well (map batch batches) (asks o t (body.Ask a false)) (batches_plain batches) (none_plain, refl)
 ask_well again well l o t batches (ask.Written tail) = written_well o t tail batches
 ask_well again well l o t batches ask.Sync = before_well (map batch batches) (asks o t body.Sync) (batches_plain batches) (none_plain, refl)
 ask_well again well l o t batches (ask.Call to method args) =
@@ -216,11 +216,11 @@ pub answers_inner : (l : Life) (o : Object) (t : OpenTask) (a : Answer) → Lead
 answers_inner l o t a = task_well l o (resumed o t (hides o.handler o.touched a))
 
 inner_plain : (b : Body) → is_inner b ≡ true → is_plain b ≡ true
-inner_plain (body.Batch ops None) is = refl
-inner_plain (body.Batch ops (Some tail)) is = absurd (true≢false (sym is))
+inner_plain (body.Batch ops None confirmed) is = refl
+inner_plain (body.Batch ops (Some tail) confirmed) is = absurd (true≢false (sym is))
 inner_plain (body.Message sent) is = refl
 inner_plain (body.Bind identity) is = refl
-inner_plain (body.Ask ask) is = absurd (true≢false (sym is))
+inner_plain (body.Ask ask free) is = absurd (true≢false (sym is))
 inner_plain body.Sync is = absurd (true≢false (sym is))
 inner_plain (body.Halt c) is = absurd (true≢false (sym is))
 inner_plain body.Mend is = absurd (true≢false (sym is))

@@ -15,8 +15,8 @@ abbrev pub IsNoWish : Body → Type 0
 IsNoWish b = is_mend b ≡ false
 
 plain_no_wish : (b : Body) → is_plain b ≡ true → IsNoWish b
-plain_no_wish (body.Batch ops tail) is = refl
-plain_no_wish (body.Ask ask) is = refl
+plain_no_wish (body.Batch ops tail confirmed) is = refl
+plain_no_wish (body.Ask ask free) is = refl
 plain_no_wish (body.Bind identity) is = refl
 plain_no_wish body.Sync is = refl
 plain_no_wish (body.Message sent) is = refl
@@ -24,8 +24,8 @@ plain_no_wish (body.Halt c) is = refl
 plain_no_wish body.Mend is = absurd (true≢false (sym is))
 
 asked_no_wish : (b : Body) → is_asked b ≡ true → IsNoWish b
-asked_no_wish (body.Batch ops tail) is = refl
-asked_no_wish (body.Ask ask) is = refl
+asked_no_wish (body.Batch ops tail confirmed) is = refl
+asked_no_wish (body.Ask ask free) is = refl
 asked_no_wish (body.Bind identity) is = refl
 asked_no_wish body.Sync is = refl
 asked_no_wish (body.Message sent) is = refl

@@ -8,14 +8,14 @@ use Rattle.timeline.specs.History.{is_halting}
 
 -- An entry that the storage answers.
 abbrev pub is_asked : Body → Bool
-is_asked (body.Ask ask) = true
-is_asked (body.Batch ops (Some tail)) = true
+is_asked (body.Ask ask free) = true
+is_asked (body.Batch ops (Some tail) confirmed) = true
 is_asked body.Sync = true
 is_asked _ = false
 
 -- An entry that stands between others: nothing is waited for behind it.
 abbrev pub is_plain : Body → Bool
-is_plain (body.Batch ops None) = true
+is_plain (body.Batch ops None confirmed) = true
 is_plain (body.Message sent) = true
 is_plain (body.Bind identity) = true
 is_plain _ = false
@@ -25,7 +25,7 @@ ArePlain bodies = All (λ b. is_plain b ≡ true) bodies
 
 -- One that an object says of itself: a batch or a message.
 abbrev pub is_inner : Body → Bool
-is_inner (body.Batch ops None) = true
+is_inner (body.Batch ops None confirmed) = true
 is_inner (body.Message sent) = true
 is_inner _ = false
 

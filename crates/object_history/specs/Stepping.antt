@@ -79,7 +79,7 @@ holds number before _ = []
 
 -- the batches before what comes behind an entry
 abbrev pub before_next : ℕ → Body → ℕ
-before_next before (body.Batch ops tail) = suc before
+before_next before (body.Batch ops tail confirmed) = suc before
 before_next before _ = before
 
 -- how a back that is down stands after an entry

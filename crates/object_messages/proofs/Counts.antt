@@ -45,9 +45,9 @@ pub one_replies : (b : Body) → replied_in (message_of b) ≡ answered_by b
 one_replies (body.Message (message.Reply to result)) = refl
 one_replies (body.Message (message.Call incarnation number to method args depth)) = refl
 one_replies (body.Message (message.Fetch incarnation number value)) = refl
-one_replies (body.Batch ops tail) = refl
+one_replies (body.Batch ops tail confirmed) = refl
 one_replies (body.Bind identity) = refl
-one_replies (body.Ask ask) = refl
+one_replies (body.Ask ask free) = refl
 one_replies body.Sync = refl
 one_replies (body.Halt cause) = refl
 one_replies body.Mend = refl

@@ -148,9 +148,9 @@ module _ (l : Life) (answered all : List (ℕ × ℕ)) where
       → (o : Object) (t : OpenTask) (turn : Option Segment) → latest_turn l t ≡ turn → Opens l answered all o → StepOpens l answered all (on_turn again l o t turn)
   turn_opens again opens o t None is all_so = λ within. all_so
   turn_opens again opens o t (Some (task.asked batches fs (ask.Store a) block)) is all_so =
-      before_opens (map batch batches) (asks (wrote batches (record o { fields = fs })) (record t { block = block }) (body.Ask a)) (λ within. all_so)
+      before_opens (map batch batches) (asks (wrote batches (record o { fields = fs })) (record t { block = block }) (body.Ask a false)) (λ within. all_so)
   turn_opens again opens o t (Some (task.asked batches fs (ask.Open a) block)) is all_so =
-      before_opens (map batch batches) (asks (wrote batches (record o { fields = fs })) (record t { block = block }) (body.Ask a)) (λ within. all_so)
+      before_opens (map batch batches) (asks (wrote batches (record o { fields = fs })) (record t { block = block }) (body.Ask a false)) (λ within. all_so)
   turn_opens again opens o t (Some (task.asked batches fs (ask.Written tail) block)) is all_so =
       written_opens (wrote batches (record o { fields = fs })) (record t { block = block }) tail batches all_so
   turn_opens again opens o t (Some (task.asked batches fs ask.Sync block)) is all_so =

@@ -10,7 +10,7 @@ use Rattle.timeline.specs.History.{History, Incarnation, history, incarnation_at
 use Rattle.timeline.specs.Intake.{Front, IsIntake, Kind, MayTake, Mode, Taken, delivered, noticed, wanted, closed_by, down, ends_by, ends_in, entries_of, life, numbered, opened, sent_by, serves, steps_to, takes}
 use Rattle.timeline.specs.Logs.{Backed, Fronted}
 use Rattle.timeline.specs.Object.{State, Step, idle, waiting, ended}
-use Rattle.timeline.specs.Passed.{Held, Passed, bound_by, held_in, is_mend, is_mounted, passed, passes, passes_if}
+use Rattle.timeline.specs.Passed.{Held, Passed, bound_by, follows, held_in, is_mend, is_mounted, passed, passes, passes_if}
 use Rattle.timeline.specs.Steps.{delivers, answers}
 use Rattle.timeline.specs.Told.{asking}
 use Rattle.timeline.specs.declared.back_log.Stop.{Stop}
@@ -78,9 +78,9 @@ numbered_sound : (i number : ℕ) (bodies : List Body) → AreSound bodies → T
 numbered_sound i number [] is = All-nil (λ (m : Message). tells_end m ≡ false)
 numbered_sound i number (body.Message sent ∷ bodies) is =
     All-cons (λ (m : Message). tells_end m ≡ false) sent (messages_of (numbered i (suc number) bodies)) is.0 (numbered_sound i (suc number) bodies is.1)
-numbered_sound i number (body.Batch ops tail ∷ bodies) is = numbered_sound i (suc number) bodies is.1
+numbered_sound i number (body.Batch ops tail confirmed ∷ bodies) is = numbered_sound i (suc number) bodies is.1
 numbered_sound i number (body.Bind identity ∷ bodies) is = numbered_sound i (suc number) bodies is.1
-numbered_sound i number (body.Ask a ∷ bodies) is = numbered_sound i (suc number) bodies is.1
+numbered_sound i number (body.Ask a free ∷ bodies) is = numbered_sound i (suc number) bodies is.1
 numbered_sound i number (body.Sync ∷ bodies) is = numbered_sound i (suc number) bodies is.1
 numbered_sound i number (body.Halt cause ∷ bodies) is = numbered_sound i (suc number) bodies is.1
 numbered_sound i number (body.Mend ∷ bodies) is = numbered_sound i (suc number) bodies is.1
@@ -119,40 +119,40 @@ gone_both [] ys = refl
 gone_both (x ∷ xs) ys = ap (λ (ms : List Message). x.message ∷ ms) (gone_both xs ys)
 
 -- one entry in front of others,
-entry_passes : (older : History) (number count : ℕ) (b : Body) (entries : List Entry) → TellNoEnd (message_of b ++ messages_of entries)
-    → ((later : ℕ) → TellNoEnd (gone (flat_map (passes older number None) (held_in later (said_in entries)))))
-    → TellNoEnd (gone (flat_map (passes older number None) (held_in count (b ∷ said_in entries))))
-entry_passes older number count (body.Message sent) entries all rest =
-    let held : Held = record { message = sent; behind = count; mended = list_any is_mend (said_in entries) } in
+entry_passes : (older : History) (number count behind : ℕ) (b : Body) (entries : List Entry) → TellNoEnd (message_of b ++ messages_of entries)
+    → ((later reach : ℕ) → TellNoEnd (gone (flat_map (passes older number None) (held_in later reach (said_in entries)))))
+    → TellNoEnd (gone (flat_map (passes older number None) (held_in count behind (b ∷ said_in entries))))
+entry_passes older number count behind (body.Message sent) entries all rest =
+    let held : Held = record { message = sent; behind = behind; mended = list_any is_mend (said_in entries) } in
     let first = passes older number None held in
-    let later = flat_map (passes older number None) (held_in count (said_in entries)) in
+    let later = flat_map (passes older number None) (held_in count behind (said_in entries)) in
     All-same (λ (m : Message). tells_end m ≡ false) (gone (first ++ later)) (gone first ++ gone later) (gone_both first later)
     (All-append (λ (m : Message). tells_end m ≡ false) (gone first) (gone later)
     (passes_as_is older number held (not (is_mounted older) || held.mended) (All-head (λ (m : Message). tells_end m ≡ false) sent (messages_of entries) all))
-    (rest count))
-entry_passes older number count (body.Batch ops tail) entries all rest = rest (count + 1)
-entry_passes older number count (body.Bind identity) entries all rest = rest count
-entry_passes older number count (body.Ask a) entries all rest = rest count
-entry_passes older number count body.Sync entries all rest = rest count
-entry_passes older number count (body.Halt cause) entries all rest = rest count
-entry_passes older number count body.Mend entries all rest = rest count
+    (rest count behind))
+entry_passes older number count behind (body.Batch ops tail confirmed) entries all rest = rest (count + 1) (follows count behind confirmed)
+entry_passes older number count behind (body.Bind identity) entries all rest = rest count behind
+entry_passes older number count behind (body.Ask a free) entries all rest = rest count behind
+entry_passes older number count behind body.Sync entries all rest = rest count behind
+entry_passes older number count behind (body.Halt cause) entries all rest = rest count behind
+entry_passes older number count behind body.Mend entries all rest = rest count behind
 
 -- Behind an entry no message tells of an end either.
 behind_entry : (b : Body) (entries : List Entry) → TellNoEnd (message_of b ++ messages_of entries) → TellNoEnd (messages_of entries)
 behind_entry (body.Message sent) entries all = All-tail (λ (m : Message). tells_end m ≡ false) sent (messages_of entries) all
-behind_entry (body.Batch ops tail) entries all = all
+behind_entry (body.Batch ops tail confirmed) entries all = all
 behind_entry (body.Bind identity) entries all = all
-behind_entry (body.Ask a) entries all = all
+behind_entry (body.Ask a free) entries all = all
 behind_entry body.Sync entries all = all
 behind_entry (body.Halt cause) entries all = all
 behind_entry body.Mend entries all = all
 
 -- one after another.
-all_pass : (older : History) (number count : ℕ) (entries : List Entry) → TellNoEnd (messages_of entries)
-    → TellNoEnd (gone (flat_map (passes older number None) (held_in count (said_in entries))))
-all_pass older number count [] all = All-nil (λ (m : Message). tells_end m ≡ false)
-all_pass older number count (entry ∷ entries) all =
-    entry_passes older number count entry.body entries all (λ later. all_pass older number later entries (behind_entry entry.body entries all))
+all_pass : (older : History) (number count behind : ℕ) (entries : List Entry) → TellNoEnd (messages_of entries)
+    → TellNoEnd (gone (flat_map (passes older number None) (held_in count behind (said_in entries))))
+all_pass older number count behind [] all = All-nil (λ (m : Message). tells_end m ≡ false)
+all_pass older number count behind (entry ∷ entries) all =
+    entry_passes older number count behind entry.body entries all (λ later reach. all_pass older number later reach entries (behind_entry entry.body entries all))
 
 -- Those of one incarnation are some of all.
 first_kept : (b : Body) (some entries : List Entry) → TellNoEnd (message_of b ++ messages_of entries) → TellNoEnd (messages_of some)
@@ -160,9 +160,9 @@ first_kept : (b : Body) (some entries : List Entry) → TellNoEnd (message_of b 
 first_kept (body.Message sent) some entries all rest =
     All-cons (λ (m : Message). tells_end m ≡ false) sent (messages_of some)
     (All-head (λ (m : Message). tells_end m ≡ false) sent (messages_of entries) all) rest
-first_kept (body.Batch ops tail) some entries all rest = rest
+first_kept (body.Batch ops tail confirmed) some entries all rest = rest
 first_kept (body.Bind identity) some entries all rest = rest
-first_kept (body.Ask a) some entries all rest = rest
+first_kept (body.Ask a free) some entries all rest = rest
 first_kept body.Sync some entries all rest = rest
 first_kept (body.Halt cause) some entries all rest = rest
 first_kept body.Mend some entries all rest = rest
@@ -185,5 +185,5 @@ unended_pass front back none all =
     ap (λ (stops : List Stop). bound_by (slice_get stops 0) i.flights) none in
     let one : history front back ≡ i ∷ [] = ap (λ (stops : List Stop). incarnations front back (suc (length stops))) none in
     subst (λ (h : History). TellNoEnd (gone (passed h))) (sym one)
-    (subst (λ (b : Option (Cause × ℕ)). TellNoEnd (gone (flat_map (passes [] i.number b) (held_in 0 (said_in i.taken))))) (sym bound)
-    (all_pass [] i.number 0 i.taken (some_tell_none (λ (entry : Entry). entry.incarnation == 1) back.taken all)))
+    (subst (λ (b : Option (Cause × ℕ)). TellNoEnd (gone (flat_map (passes [] i.number b) (held_in 0 0 (said_in i.taken))))) (sym bound)
+    (all_pass [] i.number 0 0 i.taken (some_tell_none (λ (entry : Entry). entry.incarnation == 1) back.taken all)))

@@ -100,8 +100,8 @@ outside_numbers i again o t None message numbers next =
 -- An ask,
 ask_numbers : (again : OpenTask → Step) (l : Life) (o : Object) (t : OpenTask) (batches : List Made) (a : Ask)
     → ((u : OpenTask) → Numbers l.incarnation o.made (again u)) → Numbers l.incarnation o.made (on_ask again l o t batches a)
-ask_numbers again l o t batches (ask.Store a) numbers = batches_number l.incarnation o.made batches (asks o t (body.Ask a)) (refl, refl)
-ask_numbers again l o t batches (ask.Open a) numbers = batches_number l.incarnation o.made batches (asks o t (body.Ask a)) (refl, refl)
+ask_numbers again l o t batches (ask.Store a) numbers = batches_number l.incarnation o.made batches (asks o t (body.Ask a false)) (refl, refl)
+ask_numbers again l o t batches (ask.Open a) numbers = batches_number l.incarnation o.made batches (asks o t (body.Ask a false)) (refl, refl)
 ask_numbers again l o t batches (ask.Written tail) numbers = written_numbers l.incarnation o t tail batches
 ask_numbers again l o t batches ask.Sync numbers = batches_number l.incarnation o.made batches (asks o t body.Sync) (refl, refl)
 ask_numbers again l o t batches (ask.Call to method args) numbers =

@@ -104,9 +104,9 @@ ask_owes : (from : Caller) (again : OpenTask → Step) (l : Life) (o : Object) (
     → ((u : OpenTask) → Owes from (object_owes from o + task_owes from u) (again u))
     → Owes from (object_owes from o + task_owes from t) (on_ask again l o t batches a)
 ask_owes from again l o t batches (ask.Store a) owes =
-    batches_owe from (object_owes from o + task_owes from t) batches (asks o t (body.Ask a)) (omega arith)
+    batches_owe from (object_owes from o + task_owes from t) batches (asks o t (body.Ask a false)) (omega arith)
 ask_owes from again l o t batches (ask.Open a) owes =
-    batches_owe from (object_owes from o + task_owes from t) batches (asks o t (body.Ask a)) (omega arith)
+    batches_owe from (object_owes from o + task_owes from t) batches (asks o t (body.Ask a false)) (omega arith)
 ask_owes from again l o t batches (ask.Written tail) owes = written_owes from o t tail batches
 ask_owes from again l o t batches ask.Sync owes =
     batches_owe from (object_owes from o + task_owes from t) batches (asks o t body.Sync) (omega arith)

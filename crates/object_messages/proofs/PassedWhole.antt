@@ -5,7 +5,7 @@ use Rattle.std.proofs.lemmas.Option.{slice_get_past}
 use Rattle.std.specs.List.{flat_map, list_any}
 use Rattle.std.specs.Prelude.{Bool, true, false, not, ◌||◌}
 use Rattle.timeline.specs.History.{History, Incarnation, incarnation_at, incarnations, said_in}
-use Rattle.timeline.specs.Passed.{Held, Passed, bound_by, held_in, is_mend, is_mounted, passed, passed_in, passes, passes_if}
+use Rattle.timeline.specs.Passed.{Held, Passed, bound_by, follows, held_in, is_mend, is_mounted, passed, passed_in, passes, passes_if}
 use Rattle.timeline.specs.declared.back_log.Stop.{Stop}
 use Rattle.timeline.specs.declared.caller.Cause.{Cause}
 use Rattle.timeline.specs.declared.entry.Body.{Body}
@@ -22,29 +22,29 @@ module _ (older : History) (number : ℕ) where
   one_whole held true = refl
   one_whole held false = refl
 
-  abbrev gone_from : ℕ → List Body → List Message
-  gone_from count bodies = gone (flat_map (passes older number None) (held_in count bodies))
+  abbrev gone_from : (count behind : ℕ) → List Body → List Message
+  gone_from count behind bodies = gone (flat_map (passes older number None) (held_in count behind bodies))
 
   -- one entry in front of others,
-  entry_whole : (b : Body) (bodies : List Body) (count : ℕ) (messages : List Message) → ((later : ℕ) → gone_from later bodies ≡ messages)
-      → gone_from count (b ∷ bodies) ≡ message_of b ++ messages
-  entry_whole (body.Message sent) bodies count messages rest =
-      let held : Held = record { message = sent; behind = count; mended = list_any is_mend bodies } in
-      let later : List Passed = flat_map (passes older number None) (held_in count bodies) in
+  entry_whole : (b : Body) (bodies : List Body) (count behind : ℕ) (messages : List Message)
+      → ((later reach : ℕ) → gone_from later reach bodies ≡ messages) → gone_from count behind (b ∷ bodies) ≡ message_of b ++ messages
+  entry_whole (body.Message sent) bodies count behind messages rest =
+      let held : Held = record { message = sent; behind = behind; mended = list_any is_mend bodies } in
+      let later : List Passed = flat_map (passes older number None) (held_in count behind bodies) in
       map-append (λ (p : Passed). p.message) (passes older number None held) later
       ∙ ap (λ (ms : List Message). ms ++ gone later) (one_whole held (not (is_mounted older) || held.mended))
-      ∙ ap (λ (ms : List Message). sent ∷ ms) (rest count)
-  entry_whole (body.Batch ops tail) bodies count messages rest = rest (count + 1)
-  entry_whole (body.Bind identity) bodies count messages rest = rest count
-  entry_whole (body.Ask a) bodies count messages rest = rest count
-  entry_whole body.Sync bodies count messages rest = rest count
-  entry_whole (body.Halt cause) bodies count messages rest = rest count
-  entry_whole body.Mend bodies count messages rest = rest count
+      ∙ ap (λ (ms : List Message). sent ∷ ms) (rest count behind)
+  entry_whole (body.Batch ops tail confirmed) bodies count behind messages rest = rest (count + 1) (follows count behind confirmed)
+  entry_whole (body.Bind identity) bodies count behind messages rest = rest count behind
+  entry_whole (body.Ask a free) bodies count behind messages rest = rest count behind
+  entry_whole body.Sync bodies count behind messages rest = rest count behind
+  entry_whole (body.Halt cause) bodies count behind messages rest = rest count behind
+  entry_whole body.Mend bodies count behind messages rest = rest count behind
 
   -- and all of them.
-  all_whole : (entries : List Entry) (count : ℕ) → gone_from count (said_in entries) ≡ messages_of entries
-  all_whole [] count = refl
-  all_whole (entry ∷ entries) count = entry_whole entry.body (said_in entries) count (messages_of entries) (all_whole entries)
+  all_whole : (entries : List Entry) (count behind : ℕ) → gone_from count behind (said_in entries) ≡ messages_of entries
+  all_whole [] count behind = refl
+  all_whole (entry ∷ entries) count behind = entry_whole entry.body (said_in entries) count behind (messages_of entries) (all_whole entries)
 
 pub newest_whole : NewestPassesWhole
 newest_whole front back =
@@ -55,6 +55,6 @@ newest_whole front back =
     ap (λ (stop : Option Stop). bound_by stop i.flights) (slice_get_past back.stops n (omega arith)) in (
       gone (passed older),
       map-append (λ (p : Passed). p.message) (passed older) (passed_in older i)
-          ∙ ap (λ (b : Option (Cause × ℕ)). gone (passed older) ++ gone (flat_map (passes older (suc n) b) (held_in 0 (said_in i.taken)))) bound
-          ∙ ap (λ (ms : List Message). gone (passed older) ++ ms) (all_whole older (suc n) i.taken 0),
+          ∙ ap (λ (b : Option (Cause × ℕ)). gone (passed older) ++ gone (flat_map (passes older (suc n) b) (held_in 0 0 (said_in i.taken)))) bound
+          ∙ ap (λ (ms : List Message). gone (passed older) ++ ms) (all_whole older (suc n) i.taken 0 0),
     )

@@ -10,7 +10,7 @@ use Rattle.std.specs.List.{AllByRecursion, Contains, filter, flat_map, sum_by}
 use Rattle.std.specs.Prelude.{Bool, true, false, not, ◌&&◌, nat_le, nat_lt, ◌==◌, ◌||◌, cond, if◌then◌else◌, Option, Some, None}
 use Rattle.timeline.specs.History.{History, Incarnation, entries_of, incarnation_at, incarnations, kept_before, said_in}
 use Rattle.timeline.specs.Logs.{Backed, Fronted}
-use Rattle.timeline.specs.Passed.{Held, Passed, bound_by, durable_at, held_in, is_mounted, passed, passed_in, passes, passes_by, passes_if, replaced}
+use Rattle.timeline.specs.Passed.{Held, Passed, bound_by, durable_at, follows, held_in, is_mounted, passed, passed_in, passes, passes_by, passes_if, replaced}
 use Rattle.timeline.specs.Replies.{answered_by}
 use Rattle.timeline.specs.declared.caller.Caller.{Caller}
 use Rattle.timeline.specs.declared.caller.Cause.{Cause}
@@ -67,7 +67,7 @@ either_fares : (b : Bool) (sent : Message) (one other : List Passed) → Fares s
 either_fares true sent one other first second = first
 either_fares false sent one other first second = second
 
--- by how many batches stand before it,
+-- by how many batches it follows,
 by_bound_fares : (before number : ℕ) (bound : Option (Cause × ℕ)) (count : ℕ) (sent : Message) → Fares sent (passes_by before number bound count sent)
 by_bound_fares before number None count sent = stays_fares sent (before + count) number
 by_bound_fares before number (Some bound) count sent =
@@ -123,23 +123,23 @@ first_fares sent bodies one other first rest = (
 )
 
 -- All of them, by what becomes of each.
-held_fare : (leaves : Held → List Passed) → ((held : Held) → Fares held.message (leaves held)) → (count : ℕ) (bodies : List Body)
-    → AllFare bodies (flat_map leaves (held_in count bodies))
-held_fare leaves fares count [] = (none_within [], refl, λ x. omega arith)
-held_fare leaves fares count (body.Batch ops tail ∷ bodies) = held_fare leaves fares (count + 1) bodies
-held_fare leaves fares count (body.Message sent ∷ bodies) =
-    first_fares sent bodies (leaves _) (flat_map leaves (held_in count bodies)) (fares _) (held_fare leaves fares count bodies)
-held_fare leaves fares count (body.Bind identity ∷ bodies) = held_fare leaves fares count bodies
-held_fare leaves fares count (body.Ask ask ∷ bodies) = held_fare leaves fares count bodies
-held_fare leaves fares count (body.Sync ∷ bodies) = held_fare leaves fares count bodies
-held_fare leaves fares count (body.Halt cause ∷ bodies) = held_fare leaves fares count bodies
-held_fare leaves fares count (body.Mend ∷ bodies) = held_fare leaves fares count bodies
+held_fare : (leaves : Held → List Passed) → ((held : Held) → Fares held.message (leaves held)) → (count behind : ℕ) (bodies : List Body)
+    → AllFare bodies (flat_map leaves (held_in count behind bodies))
+held_fare leaves fares count behind [] = (none_within [], refl, λ x. omega arith)
+held_fare leaves fares count behind (body.Batch ops tail confirmed ∷ bodies) = held_fare leaves fares (count + 1) (follows count behind confirmed) bodies
+held_fare leaves fares count behind (body.Message sent ∷ bodies) =
+    first_fares sent bodies (leaves _) (flat_map leaves (held_in count behind bodies)) (fares _) (held_fare leaves fares count behind bodies)
+held_fare leaves fares count behind (body.Bind identity ∷ bodies) = held_fare leaves fares count behind bodies
+held_fare leaves fares count behind (body.Ask ask free ∷ bodies) = held_fare leaves fares count behind bodies
+held_fare leaves fares count behind (body.Sync ∷ bodies) = held_fare leaves fares count behind bodies
+held_fare leaves fares count behind (body.Halt cause ∷ bodies) = held_fare leaves fares count behind bodies
+held_fare leaves fares count behind (body.Mend ∷ bodies) = held_fare leaves fares count behind bodies
 
 -- So those of an incarnation.
 pub passed_fare : (older : History) (i : Incarnation) → AllFare (said_in i.taken) (passed_in older i)
 passed_fare older i =
     held_fare (passes older i.number (bound_by i.stop i.flights))
-    (λ held. if_fares older i.number (bound_by i.stop i.flights) held (not (is_mounted older) || held.mended)) 0 (said_in i.taken)
+    (λ held. if_fares older i.number (bound_by i.stop i.flights) held (not (is_mounted older) || held.mended)) 0 0 (said_in i.taken)
 
 -- What entries ask and reply is what was said in them.
 first_asked : (entry : Entry) (entries : List Entry) → asked_among (entry ∷ entries) ≡ asked_of entry.body ++ asked_among entries

@@ -81,8 +81,8 @@ outside_sound again o t None message sound none = ((none (o.made + 1), tt), tt)
 -- An ask,
 ask_sound : (again : OpenTask → Step) (l : Life) (o : Object) (t : OpenTask) (batches : List Made) (a : Ask)
     → ((u : OpenTask) → IsSound (again u)) → IsSound (on_ask again l o t batches a)
-ask_sound again l o t batches (ask.Store a) sound = behind_batches batches (asks o t (body.Ask a)) (tt, refl)
-ask_sound again l o t batches (ask.Open a) sound = behind_batches batches (asks o t (body.Ask a)) (tt, refl)
+ask_sound again l o t batches (ask.Store a) sound = behind_batches batches (asks o t (body.Ask a false)) (tt, refl)
+ask_sound again l o t batches (ask.Open a) sound = behind_batches batches (asks o t (body.Ask a false)) (tt, refl)
 ask_sound again l o t batches (ask.Written tail) sound = written_sound o t tail batches
 ask_sound again l o t batches ask.Sync sound = behind_batches batches (asks o t body.Sync) (tt, refl)
 ask_sound again l o t batches (ask.Call to method args) sound =

@@ -100,8 +100,8 @@ module _ (P : Caller → Type 0) where
   -- An ask,
   ask_names : (again : OpenTask → Step) (l : Life) (o : Object) (t : OpenTask) (batches : List Made) (a : Ask)
       → ((u : OpenTask) → PurposeNames u.purpose → StepNames (again u)) → ObjectNames o → PurposeNames t.purpose → StepNames (on_ask again l o t batches a)
-  ask_names again l o t batches (ask.Store a) names all own = behind_batches batches (asks o t (body.Ask a)) (tt, (tt, all, own))
-  ask_names again l o t batches (ask.Open a) names all own = behind_batches batches (asks o t (body.Ask a)) (tt, (tt, all, own))
+  ask_names again l o t batches (ask.Store a) names all own = behind_batches batches (asks o t (body.Ask a false)) (tt, (tt, all, own))
+  ask_names again l o t batches (ask.Open a) names all own = behind_batches batches (asks o t (body.Ask a false)) (tt, (tt, all, own))
   ask_names again l o t batches (ask.Written tail) names all own = written_names o t tail batches all own
   ask_names again l o t batches ask.Sync names all own = behind_batches batches (asks o t body.Sync) (tt, (tt, all, own))
   ask_names again l o t batches (ask.Call to method args) names all own =

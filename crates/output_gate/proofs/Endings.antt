@@ -1,18 +1,22 @@
 -- What is known of the incarnations that have ended.
 use Rattle.std.proofs.Common.{◌≡◌, ◌∙◌, ap, sym, refl, subst, inl, inr, ⊎_elim, ℕ, zero, suc, ◌+◌, ◌-◌, ◌<◌, ◌≤◌, List, [], ◌∷◌, ◌++◌, length, length-append, take, sum, arith, Option, Some, None}
 use Rattle.std.proofs.lemmas.List.{length-take-le, map-append}
-use Rattle.std.specs.Prelude.{◌⊎◌, Bool, true, false, slice_get, if◌then◌else◌}
+use Rattle.std.proofs.lemmas.Bool.{lt-ltb}
+use Rattle.std.specs.Prelude.{◌⊎◌, Bool, true, false, nat_lt, slice_get, if◌then◌else◌}
 use Rattle.timeline.specs.Headline.{KeepBy}
-use Rattle.timeline.specs.History.{Incarnation, History, batches_in, durable, durable_by, incarnation_at, incarnations, is_halting, kept_before, kept_of, IsKept, IsKeptBy}
+use Rattle.timeline.specs.History.{Incarnation, History, batches_in, durable, durable_by, incarnation_at, incarnations, is_halting, kept_before, kept_of, said_in, IsKept, IsKeptBy}
 use Rattle.timeline.specs.Logs.{Fronted, Backed}
-use Rattle.timeline.specs.Passed.{discards, is_mounted, is_followed}
+use Rattle.timeline.specs.Passed.{discards, is_mounted, is_followed, reaches}
 use Rattle.timeline.specs.Told.{said_by, batches_of}
 use Rattle.timeline.specs.declared.back_log.End.{End}
 use Rattle.timeline.specs.declared.back_log.Stop.{Stop}
 use Rattle.timeline.specs.declared.caller.Cause.{Cause}
 use Rattle.timeline.specs.declared.caller.Cause.TheVariants as cause
+use Rattle.timeline.specs.declared.entry.Body.{Body}
+use Rattle.timeline.specs.declared.entry.Body.TheVariants as body
 use Rattle.timeline.specs.declared.entry.Entry.{Entry}
-use Rattle.output_gate.specs.Ended.{last_stop, stop_causes, end_causes, AreInOrder, HasEnded, IsPlaced, IsLogged, IsEnding, AreEnding, IsLoggedDown}
+use Rattle.output_gate.specs.Ended.{last_stop, stop_causes, end_causes, AreInOrder, HasEnded, HaveEnded, IsPlaced, IsLogged, IsEnding, AreEnding, IsLoggedDown, Marks, late_if}
+use Rattle.output_gate.specs.Entering.{late_after, needs_by}
 use Rattle.output_gate.specs.Fits.{is_halt, last_of}
 use Rattle.output_gate.specs.Gate.{Place, place_of}
 use Rattle.output_gate.specs.Logs.{no_log}
@@ -23,6 +27,7 @@ use Rattle.output_gate.proofs.Gates.{batches_more, sum_push}
 use Rattle.output_gate.proofs.Helds.{true_false}
 use Rattle.output_gate.proofs.Histories.{get_some}
 use Rattle.output_gate.proofs.Ordered.{order_own, order_stop, order_halt, order_none}
+use Rattle.output_gate.proofs.Passing.{lt_add, reach_none, reach_one}
 use Rattle.output_gate.proofs.Places.{place_took, place_flew, place_stopped, place_followed_at}
 
 -- as many incarnations as were asked for; and the next one is mounted where each is followed
@@ -69,58 +74,110 @@ causes_push stops stop = map-append (λ (s : Stop). s.cause) stops (stop ∷ [])
 end_push : (ends : List End) (end : End) → end_causes (ends ++ end ∷ []) ≡ end_causes ends ++ end.cause ∷ []
 end_push ends end = map-append (λ (e : End). e.cause) ends (end ∷ [])
 
+-- the marks that are of the newest incarnation alone don't matter to what has ended
+ended_by : (marks : Marks) (needs : ℕ) (older : History) → HaveEnded marks older → HaveEnded (record marks { needs = needs }) older
+ended_by marks needs [] h = tt
+ended_by marks needs (i ∷ older) h = record {
+  mounted = h.mounted;
+  number = h.number;
+  stop = h.stop;
+  stopped = h.stopped;
+  within = h.within;
+  kept = h.kept;
+  discarded = h.discarded;
+}
+
+-- what the next message needs, counted from the opening
+reached : (b : Body) (kept count q before needs : ℕ) → before ≡ kept + count → needs ≡ kept + q → needs_by b before needs ≡ kept + reaches count q (b ∷ [])
+reached (body.Batch ops tail true) kept count q before needs at is = omega (arith, at)
+reached (body.Batch ops tail false) kept count q before needs at is = is
+reached (body.Message sent) kept count q before needs at is = is
+reached (body.Bind identity) kept count q before needs at is = is
+reached (body.Ask ask free) kept count q before needs at is = is
+reached body.Sync kept count q before needs at is = is
+reached (body.Halt cause) kept count q before needs at is = is
+reached body.Mend kept count q before needs at is = is
+
+-- what writes nothing leaves it
+pub needs_none : (b : Body) (before needs : ℕ) → batches_of (said_by b) ≡ [] → needs_by b before needs ≡ needs
+needs_none (body.Batch ops tail confirmed) before needs none = absurd (omega (arith, ap length none))
+needs_none (body.Message sent) before needs none = refl
+needs_none (body.Bind identity) before needs none = refl
+needs_none (body.Ask ask free) before needs none = refl
+needs_none body.Sync before needs none = refl
+needs_none (body.Halt cause) before needs none = refl
+needs_none body.Mend before needs none = refl
+
+-- what late messages need is the same counted from the opening
+late_so : (kept ended q flown needs : ℕ) → flown ≡ kept + ended → needs ≡ kept + q → late_if (nat_lt flown needs) needs ≡ late_if (nat_lt ended q) (kept + q)
+late_so kept ended q flown needs at is =
+    ap (λ (n : ℕ). late_if (nat_lt n needs) needs) at ∙ ap (λ (n : ℕ). late_if (nat_lt (kept + ended) n) n) is ∙ ap (λ (b : Bool). late_if b (kept + q)) (lt_add kept ended q)
+
 -- The log goes on, and what ended stays.
-logged_moves : (tells later_tells : Type 0) → (later_tells → tells) → (back later : Backed) (settled own before flown : ℕ) → IsLogged tells back settled own before flown
-    → (new_own new_before new_flown : ℕ) → AreInOrder later.taken later.stops → end_causes later.ends ≡ stop_causes later.stops → (p : Fronted → Place) → ((front : Fronted) → place_of front later ≡ p front)
-    → ((front : Fronted) → (p front).older ≡ older_of front back) → ((front : Fronted) → IsPlaced settled new_own new_before new_flown (p front))
-    → IsLogged later_tells later settled new_own new_before new_flown
-logged_moves tells later_tells before_it back later settled own before flown l new_own new_before new_flown ordered followed p at older placed = record {
+logged_moves : (tells later_tells : Type 0) → (later_tells → tells) → (back later : Backed) (marks : Marks) (own before flown : ℕ) → IsLogged tells back marks own before flown
+    → (next : Marks) (new_own new_before new_flown : ℕ) → AreInOrder later.taken later.stops → end_causes later.ends ≡ stop_causes later.stops → (p : Fronted → Place) → ((front : Fronted) → place_of front later ≡ p front)
+    → ((front : Fronted) → (p front).older ≡ older_of front back) → ((front : Fronted) → IsPlaced next new_own new_before new_flown (p front))
+    → IsLogged later_tells later next new_own new_before new_flown
+logged_moves tells later_tells before_it back later marks own before flown l next new_own new_before new_flown ordered followed p at older placed = record {
   ordered = ordered;
   followed = followed;
-  placed = λ front. subst (IsPlaced settled new_own new_before new_flown) (sym (at front)) (placed front);
+  placed = λ front. subst (IsPlaced next new_own new_before new_flown) (sym (at front)) (placed front);
   keep = λ yes front. subst KeepBy (sym (ap (λ (q : Place). q.older) (at front) ∙ older front)) (l.keep (before_it yes) front);
 }
 
-module _ (tells later_tells : Type 0) (before_it : later_tells → tells) (back : Backed) (settled own before flown : ℕ) where
-  pub logged_took : (e : Entry) (more : ℕ) → AreLogs back → e.incarnation ≡ suc (length back.stops) → IsLogged tells back settled own before flown
-      → IsLogged later_tells (record back { taken = back.taken ++ e ∷ [] }) settled (own + more) (before + more) flown
-  logged_took e more logs is l =
-      logged_moves tells later_tells before_it back (record back { taken = back.taken ++ e ∷ [] }) settled own before flown l (own + more) (before + more) flown
+module _ (tells later_tells : Type 0) (before_it : later_tells → tells) (back : Backed) (marks : Marks) (own before flown : ℕ) where
+  pub logged_took : (e : Entry) (more needs : ℕ) → AreLogs back → e.incarnation ≡ suc (length back.stops) → own ≡ length (batches_in (own_entries back)) → needs ≡ needs_by e.body before marks.needs
+      → IsLogged tells back marks own before flown
+      → IsLogged later_tells (record back { taken = back.taken ++ e ∷ [] }) (record marks { needs = needs }) (own + more) (before + more) flown
+  logged_took e more needs logs is is_own is_needs l =
+      logged_moves tells later_tells before_it back (record back { taken = back.taken ++ e ∷ [] }) marks own before flown l (record marks { needs = needs }) (own + more) (before + more) flown
       (order_own back.taken back.stops e logs.begun is) l.followed (λ front. record (place_of front back) { taken = own_entries back ++ e ∷ [] }) (λ front. place_took front back e logs is) (λ front. refl)
-      (λ front. let g = l.placed front in record { counted = omega (arith, g.counted); known = g.known; ended = g.ended })
+      (λ front.
+      let g = l.placed front in
+      let kept : ℕ = length (kept_before (older_of front back)) in
+      record {
+        counted = omega (arith, g.counted);
+        known = g.known;
+        reach = is_needs
+            ∙ reached e.body kept (length (batches_in (own_entries back))) (reaches 0 0 (said_in (own_entries back))) before marks.needs (omega (arith, g.counted, g.known, is_own)) g.reach
+            ∙ ap (λ (n : ℕ). kept + n) (sym (reach_one (own_entries back) e));
+        ended = ended_by marks needs (older_of front back) g.ended;
+      })
 
   -- one that writes nothing
-  pub logged_said : (e : Entry) → AreLogs back → e.incarnation ≡ suc (length back.stops) → IsLogged tells back settled own before flown
-      → IsLogged later_tells (record back { taken = back.taken ++ e ∷ [] }) settled own before flown
-  logged_said e logs is l =
-      subst (λ (x : ℕ × ℕ). IsLogged later_tells (record back { taken = back.taken ++ e ∷ [] }) settled x.0 x.1 flown)
-      (ap (λ (n : ℕ). (n, before + 0)) (omega arith) ∙ ap (λ (n : ℕ). (own, n)) (omega arith)) (logged_took e 0 logs is l)
+  pub logged_said : (e : Entry) → AreLogs back → e.incarnation ≡ suc (length back.stops) → own ≡ length (batches_in (own_entries back)) → batches_of (said_by e.body) ≡ []
+      → IsLogged tells back marks own before flown → IsLogged later_tells (record back { taken = back.taken ++ e ∷ [] }) marks own before flown
+  logged_said e logs is is_own none l =
+      subst (λ (x : ℕ × ℕ). IsLogged later_tells (record back { taken = back.taken ++ e ∷ [] }) marks x.0 x.1 flown)
+      (ap (λ (n : ℕ). (n, before + 0)) (omega arith) ∙ ap (λ (n : ℕ). (own, n)) (omega arith)) (logged_took e 0 marks.needs logs is is_own (sym (needs_none e.body before marks.needs none)) l)
 
-  pub logged_flew : AreLogs back → flown ≤ before → IsLogged tells back settled own before flown
-      → IsLogged later_tells (record back { flights = back.flights ++ (before - flown) ∷ [] }) settled own before before
+  pub logged_flew : AreLogs back → flown ≤ before → IsLogged tells back marks own before flown
+      → IsLogged later_tells (record back { flights = back.flights ++ (before - flown) ∷ [] }) marks own before before
   logged_flew logs less l =
-      logged_moves tells later_tells before_it back (record back { flights = back.flights ++ (before - flown) ∷ [] }) settled own before flown l own before before
+      logged_moves tells later_tells before_it back (record back { flights = back.flights ++ (before - flown) ∷ [] }) marks own before flown l marks own before before
       l.ordered l.followed (λ front. record (place_of front back) { flights = own_flights back ++ (before - flown) ∷ [] }) (λ front. place_flew front back (before - flown) logs) (λ front. refl)
       (λ front. let g = l.placed front in record {
         counted = omega (arith, g.counted, sum_push (own_flights back) (before - flown), less);
         known = omega (arith, g.known, sum_push (own_flights back) (before - flown), less);
+        reach = g.reach;
         ended = g.ended;
       })
 
   -- what stands elsewhere in the log doesn't matter
   pub logged_same : (later : Backed) → later.taken ≡ back.taken → later.stops ≡ back.stops → later.ends ≡ back.ends → ((front : Fronted) → place_of front later ≡ place_of front back)
-      → IsLogged tells back settled own before flown → IsLogged later_tells later settled own before flown
+      → IsLogged tells back marks own before flown → IsLogged later_tells later marks own before flown
   logged_same later taken stops ends at l =
-      logged_moves tells later_tells before_it back later settled own before flown l own before flown
+      logged_moves tells later_tells before_it back later marks own before flown l marks own before flown
       (subst (λ (x : List Entry × List Stop). AreInOrder x.0 x.1) (ap (λ es. (es, back.stops)) (sym taken) ∙ ap (λ ss. (later.taken, ss)) (sym stops)) l.ordered)
       (ap end_causes ends ∙ l.followed ∙ ap stop_causes (sym stops)) (λ front. place_of front back) at (λ front. refl) l.placed
 
   -- An append ends the incarnation.
   pub logged_stopped : (stop : Stop) (ending : Ending) → AreLogs back → stop.flights ≡ length back.flights → length back.ends ≡ length back.stops
       → own ≡ length (batches_in (own_entries back)) → flown < before → before ≤ flown + own → stop.batches ≡ own → stop.read ≡ false → discards stop.cause false ≡ true
-      → ending.flown ≡ own - (before - flown) → ending.whole ≡ own → ending.cause ≡ stop.cause → IsLogged tells back settled own before flown
-      → IsLoggedDown later_tells (record back { stops = back.stops ++ stop ∷ [] }) ending flown flown
+      → ending.flown ≡ own - (before - flown) → ending.whole ≡ own → ending.cause ≡ stop.cause → IsLogged tells back marks own before flown
+      → IsLoggedDown later_tells (record back { stops = back.stops ++ stop ∷ [] }) ending (record { settled = flown; late = late_if (nat_lt flown marks.needs) marks.needs; needs = flown }) flown
   logged_stopped stop ending logs all followed is_own more some batches unread drops is_flown is_whole is_cause l =
+      let next : Marks = record { settled = flown; late = late_if (nat_lt flown marks.needs) marks.needs; needs = flown } in
       let later : Backed = record back { stops = back.stops ++ stop ∷ [] } in
       let last : Fronted → Incarnation = λ front. record (going_on front (length back.stops) (own_entries back) (own_flights back)) { stop = Some stop } in
       let at = λ (front : Fronted). place_stopped front back stop logs all in
@@ -133,7 +190,7 @@ module _ (tells later_tells : Type 0) (before_it : later_tells → tells) (back 
         ended = λ front.
             let g = l.placed front in
             let short : durable (last front) ≡ sum (own_flights back) = keeps_durable stop (own_flights back) unread in
-            subst (AreEnding ending flown) (sym (older front)) record {
+            subst (AreEnding ending next) (sym (older front)) record {
               ended = record {
                 mounted = mounted_older front back (length back.stops) (omega (arith, followed));
                 number = ap suc (sym (older_length front back (length back.stops)));
@@ -141,7 +198,11 @@ module _ (tells later_tells : Type 0) (before_it : later_tells → tells) (back 
                 stopped = refl;
                 within = omega (arith, batches, is_own);
                 kept = λ k is. absurd (no_count k is);
-                discarded = λ yes. (omega (arith, short, g.counted, is_own, more, some), omega (arith, short, g.known));
+                discarded = λ yes. (
+                  omega (arith, short, g.counted, is_own, more, some),
+                  omega (arith, short, g.known),
+                  late_so (length (kept_before (older_of front back))) (durable (last front)) (reaches 0 0 (said_in (own_entries back))) flown marks.needs (omega (arith, short, g.known)) g.reach,
+                );
               };
               unfollowed = refl;
               is_flown = omega (arith, short, is_flown, g.counted, more, some);
@@ -193,15 +254,15 @@ kept_late cause.BlockThrew read i stop kept taken drops is = absurd (true_false 
 kept_stop : (i : Incarnation) (stop : Stop) (kept : ℕ) (read : Bool) → stop.read ≡ read → IsKeptBy stop.cause read i stop kept → IsKept i stop kept
 kept_stop i stop kept read is held = subst (λ b. IsKeptBy stop.cause b i stop kept) (sym is) held
 
-module _ (tells later_tells : Type 0) (before_it : later_tells → tells) (back : Backed) (settled own before flown : ℕ) where
+module _ (tells later_tells : Type 0) (before_it : later_tells → tells) (back : Backed) (marks : Marks) (own before flown : ℕ) where
   -- A halt ends the incarnation, and the next one begins with all of its batches.
   pub logged_restarted : (stop : Stop) (e : Entry) → AreLogs back → stop.flights ≡ length back.flights → length back.ends ≡ length back.stops
       → own ≡ length (batches_in (own_entries back)) → before ≡ flown → stop.batches ≡ own → stop.read ≡ false → is_halting stop.cause ≡ true
       → last_of back.taken ≡ Some e → e.incarnation ≡ suc (length back.stops) → is_halt e.body ≡ true
       → (place : (front : Fronted) → place_of front (record back { stops = back.stops ++ stop ∷ []; ends = back.ends ++ record { kept = own; cause = stop.cause } ∷ [] })
       ≡ record { ended = suc (length back.stops); taken = []; flights = []; older = record (going_on front (length back.stops) (own_entries back) (own_flights back)) { stop = Some stop; kept = Some own } ∷ older_of front back })
-      → IsLogged tells back settled own before flown
-      → IsLogged later_tells (record back { stops = back.stops ++ stop ∷ []; ends = back.ends ++ record { kept = own; cause = stop.cause } ∷ [] }) settled 0 before flown
+      → IsLogged tells back marks own before flown
+      → IsLogged later_tells (record back { stops = back.stops ++ stop ∷ []; ends = back.ends ++ record { kept = own; cause = stop.cause } ∷ [] }) (record marks { needs = before }) 0 before flown
   logged_restarted stop e logs all followed is_own even batches unread halting last is halts at l =
       let later : Backed = record back { stops = back.stops ++ stop ∷ []; ends = back.ends ++ record { kept = own; cause = stop.cause } ∷ [] } in
       let ended : Fronted → Incarnation = λ front. record (going_on front (length back.stops) (own_entries back) (own_flights back)) { stop = Some stop; kept = Some own } in
@@ -212,9 +273,12 @@ module _ (tells later_tells : Type 0) (before_it : later_tells → tells) (back 
         placed = λ front.
             let g = l.placed front in
             let kept : length (take own (batches_in (own_entries back))) ≡ own = length-take-le own (batches_in (own_entries back)) (omega (arith, is_own)) in
-            subst (IsPlaced settled 0 before flown) (sym (at front)) record {
+            let counts : before ≡ length (kept_before (ended front ∷ older_of front back)) =
+            omega (arith, g.known, g.counted, even, kept, length-append (kept_before (older_of front back)) (take own (batches_in (own_entries back)))) in
+            subst (IsPlaced (record marks { needs = before }) 0 before flown) (sym (at front)) record {
               counted = omega (arith, even);
-              known = omega (arith, g.known, g.counted, even, kept, length-append (kept_before (older_of front back)) (take own (batches_in (own_entries back))));
+              known = omega (arith, even, counts);
+              reach = omega (arith, counts);
               ended = record {
                 mounted = mounted_older front back (length back.stops) (omega (arith, followed));
                 number = ap suc (sym (older_length front back (length back.stops)));
@@ -236,20 +300,21 @@ module _ (tells later_tells : Type 0) (before_it : later_tells → tells) (back 
 pub last_of_stops : (stops : List Stop) (last : ℕ) (s : Stop) → length stops ≡ suc last → slice_get stops last ≡ Some s → last_stop stops ≡ Some s
 last_of_stops stops last s long is = ap (slice_get stops) (omega (arith, long)) ∙ is
 
-module _ (tells later_tells : Type 0) (before_it : later_tells → tells) (back : Backed) (ending : Ending) (settled flown : ℕ) where
-  ending_older : (front : Fronted) (last : ℕ) → length back.stops ≡ suc last → IsLoggedDown tells back ending settled flown
-      → IsEnding ending settled (incarnation_at front back last) (incarnations front back last)
-  ending_older front last long l = subst (AreEnding ending settled) (ap (incarnations front back) long) (l.ended front)
+module _ (tells later_tells : Type 0) (before_it : later_tells → tells) (back : Backed) (ending : Ending) (marks : Marks) (flown : ℕ) where
+  ending_older : (front : Fronted) (last : ℕ) → length back.stops ≡ suc last → IsLoggedDown tells back ending marks flown
+      → IsEnding ending marks (incarnation_at front back last) (incarnations front back last)
+  ending_older front last long l = subst (AreEnding ending marks) (ap (incarnations front back) long) (l.ended front)
 
-  keep_older : (front : Fronted) (last : ℕ) → length back.stops ≡ suc last → IsLoggedDown tells back ending settled flown → tells
+  keep_older : (front : Fronted) (last : ℕ) → length back.stops ≡ suc last → IsLoggedDown tells back ending marks flown → tells
       → KeepBy (incarnation_at front back last ∷ incarnations front back last)
   keep_older front last long l tell = subst KeepBy (ap (incarnations front back) long) (l.keep tell front)
 
   -- so many batches of the last incarnation were found, and the next one begins
   pub logged_begun : (kept now : ℕ) → AreLogs back → length back.stops ≡ suc (length back.ends) → (kept ≡ ending.flown) ⊎ (kept ≡ ending.whole)
-      → (later_tells → IsFoundBy ending kept) → ending.flown ≤ ending.whole → now ≡ flown + (kept - ending.flown) → IsLoggedDown tells back ending settled flown
-      → IsLogged later_tells (record back { ends = back.ends ++ record { kept = kept; cause = ending.cause } ∷ [] }) settled 0 now now
-  logged_begun kept now logs long one found more is l =
+      → (later_tells → IsFoundBy ending kept) → ending.flown ≤ ending.whole → now ≡ flown + (kept - ending.flown) → length (batches_in (own_entries back)) ≡ 0
+      → IsLoggedDown tells back ending marks flown
+      → IsLogged later_tells (record back { ends = back.ends ++ record { kept = kept; cause = ending.cause } ∷ [] }) (record marks { needs = now }) 0 now now
+  logged_begun kept now logs long one found more is none l =
       let last : ℕ = length back.ends in
       let later : Backed = record back { ends = back.ends ++ record { kept = kept; cause = ending.cause } ∷ [] } in
       let at = λ (front : Fronted). place_followed_at front back (record { kept = kept; cause = ending.cause }) logs last long refl in
@@ -264,9 +329,12 @@ module _ (tells later_tells : Type 0) (before_it : later_tells → tells) (back 
             let bounds : (ending.flown ≤ kept) × (kept ≤ length (batches_in i.taken)) =
             ⊎_elim (λ flown. (omega (arith, flown), omega (arith, flown, e.is_flown, d.0))) (λ whole. (omega (arith, whole, more), omega (arith, whole, e.is_whole, e.ended.within))) one in
             let taken : length (take kept (batches_in i.taken)) ≡ kept = length-take-le kept (batches_in i.taken) bounds.1 in
-            subst (IsPlaced settled 0 now now) (sym (at front)) record {
+            let counts : now ≡ length (kept_before (record i { kept = Some kept } ∷ older)) =
+            omega (arith, is, l.even, d.1, e.is_flown, bounds.0, taken, length-append (kept_before older) (take kept (batches_in i.taken))) in
+            subst (IsPlaced (record marks { needs = now }) 0 now now) (sym (at front)) record {
               counted = omega (arith, ap sum l.idle);
-              known = omega (arith, ap sum l.idle, is, l.even, d.1, e.is_flown, bounds.0, taken, length-append (kept_before older) (take kept (batches_in i.taken)));
+              known = omega (arith, ap sum l.idle, counts);
+              reach = omega (arith, counts, reach_none (own_entries back) none);
               ended = record {
                 mounted = e.ended.mounted;
                 number = e.ended.number;
@@ -296,33 +364,49 @@ module _ (tells later_tells : Type 0) (before_it : later_tells → tells) (back 
 
   -- the log goes on while the object is down
   pub down_moves : (later : Backed) → AreInOrder later.taken later.stops → later.stops ≡ back.stops → later.ends ≡ back.ends → ((front : Fronted) → older_of front later ≡ older_of front back) → own_flights later ≡ own_flights back
-      → IsLoggedDown tells back ending settled flown → IsLoggedDown later_tells later ending settled flown
+      → IsLoggedDown tells back ending marks flown → IsLoggedDown later_tells later ending marks flown
   down_moves later ordered stops ends older flights l = record {
     ordered = ordered;
     followed = ap (λ es. end_causes es ++ ending.cause ∷ []) ends ∙ l.followed ∙ ap stop_causes (sym stops);
     even = l.even;
     idle = flights ∙ l.idle;
-    ended = λ front. subst (AreEnding ending settled) (sym (older front)) (l.ended front);
+    ended = λ front. subst (AreEnding ending marks) (sym (older front)) (l.ended front);
     keep = λ yes front. subst KeepBy (sym (older front)) (l.keep (before_it yes) front);
   }
 
-  pub down_took : (e : Entry) → AreLogs back → e.incarnation ≡ suc (length back.stops) → IsLoggedDown tells back ending settled flown
-      → IsLoggedDown later_tells (record back { taken = back.taken ++ e ∷ [] }) ending settled flown
+  pub down_took : (e : Entry) → AreLogs back → e.incarnation ≡ suc (length back.stops) → IsLoggedDown tells back ending marks flown
+      → IsLoggedDown later_tells (record back { taken = back.taken ++ e ∷ [] }) ending marks flown
   down_took e logs is l =
       down_moves (record back { taken = back.taken ++ e ∷ [] }) (order_own back.taken back.stops e logs.begun is) refl refl
       (λ front. ap (λ (p : Place). p.older) (place_took front back e logs is)) (ap (λ (p : Place). p.flights) (place_took front_none back e logs is)) l
 
   pub down_same : (later : Backed) → later.taken ≡ back.taken → later.stops ≡ back.stops → later.ends ≡ back.ends → ((front : Fronted) → place_of front later ≡ place_of front back)
-      → IsLoggedDown tells back ending settled flown → IsLoggedDown later_tells later ending settled flown
+      → IsLoggedDown tells back ending marks flown → IsLoggedDown later_tells later ending marks flown
   down_same later taken stops ends at l =
       down_moves later (subst (λ (x : List Entry × List Stop). AreInOrder x.0 x.1) (ap (λ es. (es, back.stops)) (sym taken) ∙ ap (λ ss. (later.taken, ss)) (sym stops)) l.ordered) stops ends
       (λ front. ap (λ (p : Place). p.older) (at front)) (ap (λ (p : Place). p.flights) (at front_none)) l
 
--- What is taken late of an incarnation that has ended changes nothing of its end.
-pub ended_late : (settled : ℕ) (i : Incarnation) (older : History) (e : Entry) → HasEnded settled i older → HasEnded settled (record i { taken = i.taken ++ e ∷ [] }) older
-ended_late settled i older e h =
+-- a late batch that is confirmed is one more than was durable; nothing else changes what late messages need
+late_grows : (b : Body) (kept ended count q : ℕ) → ended < count
+    → late_after b (late_if (nat_lt ended q) (kept + q)) ≡ late_if (nat_lt ended (reaches count q (b ∷ []))) (kept + reaches count q (b ∷ []))
+late_grows (body.Batch ops tail true) kept ended count q less = sym (ap (λ (b : Bool). late_if b (kept + (count + 1))) (lt-ltb ended (count + 1) (omega (arith, less))))
+late_grows (body.Batch ops tail false) kept ended count q less = refl
+late_grows (body.Message sent) kept ended count q less = refl
+late_grows (body.Bind identity) kept ended count q less = refl
+late_grows (body.Ask ask free) kept ended count q less = refl
+late_grows body.Sync kept ended count q less = refl
+late_grows (body.Halt cause) kept ended count q less = refl
+late_grows body.Mend kept ended count q less = refl
+
+-- What is taken late of an incarnation that has ended changes nothing of its end but what its late messages need.
+abbrev pub marks_late : Marks → Entry → Marks
+marks_late marks e = record marks { late = late_after e.body marks.late }
+
+pub ended_late : (marks : Marks) (i : Incarnation) (older : History) (e : Entry) → HasEnded marks i older → HasEnded (marks_late marks e) (record i { taken = i.taken ++ e ∷ [] }) older
+ended_late marks i older e h =
     let more : length (batches_in (i.taken ++ e ∷ [])) ≡ length (batches_in i.taken) + length (batches_of (said_by e.body)) =
     omega (arith, ap length (batches_more i.taken e), length-append (batches_in i.taken) (batches_of (said_by e.body))) in
+    let kept : ℕ = length (kept_before older) in
     record {
       mounted = h.mounted;
       number = h.number;
@@ -330,13 +414,20 @@ ended_late settled i older e h =
       stopped = h.stopped;
       within = omega (arith, h.within, more);
       kept = λ k is. omega (arith, h.kept k is, more);
-      discarded = λ yes. let d = h.discarded yes in (omega (arith, d.0, more), d.1);
+      discarded = λ yes. let d = h.discarded yes in (
+        omega (arith, d.0, more),
+        d.1,
+        ap (late_after e.body) d.2
+            ∙ late_grows e.body kept (durable i) (length (batches_in i.taken)) (reaches 0 0 (said_in i.taken)) d.0
+            ∙ ap (λ (q : ℕ). late_if (nat_lt (durable i) q) (kept + q)) (sym (reach_one i.taken e)),
+      );
     }
 
-pub ending_late : (ending : Ending) (settled : ℕ) (i : Incarnation) (older : History) (e : Entry) → IsEnding ending settled i older → IsEnding ending settled (record i { taken = i.taken ++ e ∷ [] }) older
+pub ending_late : (ending : Ending) (marks : Marks) (i : Incarnation) (older : History) (e : Entry) → IsEnding ending marks i older
+    → IsEnding ending (marks_late marks e) (record i { taken = i.taken ++ e ∷ [] }) older
 unfolding ended_late
-ending_late ending settled i older e g = record {
-  ended = ended_late settled i older e g.ended;
+ending_late ending marks i older e g = record {
+  ended = ended_late marks i older e g.ended;
   unfollowed = g.unfollowed;
   is_flown = g.is_flown;
   is_whole = g.is_whole;
@@ -345,19 +436,22 @@ ending_late ending settled i older e g = record {
   discards_some = g.discards_some;
 }
 
-pub keep_late : (settled : ℕ) (i : Incarnation) (older : History) (e : Entry) (h : HasEnded settled i older) → discards h.stop.cause h.stop.read ≡ true → KeepBy (i ∷ older)
+pub keep_late : (marks : Marks) (i : Incarnation) (older : History) (e : Entry) (h : HasEnded marks i older) → discards h.stop.cause h.stop.read ≡ true → KeepBy (i ∷ older)
     → KeepBy (record i { taken = i.taken ++ e ∷ [] } ∷ older)
-keep_late settled i older e h drops keep = (
+keep_late marks i older e h drops keep = (
   λ stop k so kept. kept_late stop.cause stop.read i stop k (i.taken ++ e ∷ [])
       (ap (λ (s : Stop). discards s.cause s.read) (sym (same_stop h.stop stop (sym h.stopped ∙ so))) ∙ drops) (keep.0 stop k so kept),
   keep.1,
 )
 
 -- a log in which nothing stands
-pub logged_new : (tells : Type 0) (back : Backed) → back ≡ no_log → IsLogged tells back 0 0 0 0
-logged_new tells back empty = subst (λ (b : Backed). IsLogged tells b 0 0 0 0) (sym empty) record {
+abbrev pub no_marks : Marks
+no_marks = record { settled = 0; late = None; needs = 0 }
+
+pub logged_new : (tells : Type 0) (back : Backed) → back ≡ no_log → IsLogged tells back no_marks 0 0 0
+logged_new tells back empty = subst (λ (b : Backed). IsLogged tells b no_marks 0 0 0) (sym empty) record {
   ordered = order_none;
   followed = refl;
-  placed = λ front. record { counted = refl; known = refl; ended = tt };
+  placed = λ front. record { counted = refl; known = refl; reach = refl; ended = tt };
   keep = λ yes front. tt;
 }

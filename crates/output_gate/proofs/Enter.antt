@@ -8,7 +8,7 @@ use Rattle.timeline.specs.Logs.{Backed, backed}
 use Rattle.timeline.specs.declared.back_log.BackLog.{BackLog}
 use Rattle.timeline.specs.declared.entry.Entry.{Entry}
 use Rattle.timeline.specs.declared.notice.Notice.{Notice}
-use Rattle.output_gate.specs.Entering.{CanTake, TakesOwn, FailsOwn, CanTakeDown, TakesDown, TakesLate, Enters, LosesEntry, logged_as, is_unfit, held_as, late_by, mode_after, before_after, identity_after}
+use Rattle.output_gate.specs.Entering.{CanTake, TakesOwn, FailsOwn, CanTakeDown, TakesDown, TakesLate, Enters, LosesEntry, logged_as, is_unfit, held_as, late_by, mode_after, before_after, needs_after, identity_after}
 use Rattle.output_gate.specs.Fits.{comes_behind, last_of}
 use Rattle.output_gate.specs.Serving.{IsMounted, IsUnmounted, IsBackAs, IsAsBefore}
 use Rattle.output_gate.specs.Storing.{KeepsDisk}
@@ -44,6 +44,7 @@ unfit_enters old e is = record {
   held = sym (append-nil old.held.items) ∙ ap (λ (x : Fit). old.held.items ++ held_as x old e) (sym is);
   mode = ap (λ (x : Fit). mode_after x old.mode e.body) (sym is);
   before = ap (λ (x : Fit). before_after x old.before e.body) (sym is);
+  needs = ap (λ (x : Fit). needs_after x old.before old.needs e.body) (sym is);
   identity = ap (λ (x : Fit). identity_after x old.identity e.body) (sym is);
   durable = refl;
   limit = refl;
@@ -107,6 +108,7 @@ module _ {D : Type 0} (moment_of : D → ℕ) (left_since : D → ℕ → List �
         held = t.holds ∙ ap (λ (x : Fit). old.held.items ++ held_as x old e) (sym is);
         mode = t.mode ∙ ap (λ (x : Fit). mode_after x old.mode e.body) (sym is);
         before = t.before ∙ ap (λ (x : Fit). before_after x old.before e.body) (sym is);
+        needs = t.needs ∙ ap (λ (x : Fit). needs_after x old.before old.needs e.body) (sym is);
         identity = t.identity ∙ ap (λ (x : Fit). identity_after x old.identity e.body) (sym is);
         durable = t.durable;
         limit = t.limit;
@@ -143,6 +145,7 @@ module _ {D : Type 0} (moment_of : D → ℕ) (left_since : D → ℕ → List �
         held = t.holds ∙ ap (λ (x : Fit). old.held.items ++ held_as x old e) (sym is);
         mode = t.mode ∙ ap (λ (x : Fit). mode_after x old.mode e.body) (sym is);
         before = t.before ∙ ap (λ (x : Fit). before_after x old.before e.body) (sym is);
+        needs = t.needs ∙ ap (λ (x : Fit). needs_after x old.before old.needs e.body) (sym is);
         identity = t.identity ∙ ap (λ (x : Fit). identity_after x old.identity e.body) (sym is);
         durable = t.durable;
         limit = t.limit;
@@ -154,10 +157,11 @@ module _ {D : Type 0} (moment_of : D → ℕ) (left_since : D → ℕ → List �
     log = t.log ∙ ap (λ (x : Backed). record x { taken = x.taken ++ e ∷ [] }) same.same ∙ ap (λ (x : Fit). logged_as x (backed old.log) e) (sym is);
     stuck = ap (λ (b : Back D). b.stuck) t.same ∙ free_of old may ∙ ap is_unfit (sym is);
     held = t.holds
-        ∙ ap (λ (x : Backed). old.held.items ++ late_by (slice_get x.stops (length x.stops - 1)) old.settled e.incarnation e.body) same.same
+        ∙ ap (λ (x : Backed). old.held.items ++ late_by (slice_get x.stops (length x.stops - 1)) old.late old.settled e.incarnation e.body) same.same
         ∙ ap (λ (x : Fit). old.held.items ++ held_as x old e) (sym is);
     mode = ap (λ (b : Back D). b.mode) t.same ∙ ap (λ (x : Fit). mode_after x old.mode e.body) (sym is);
     before = ap (λ (b : Back D). b.before) t.same ∙ ap (λ (x : Fit). before_after x old.before e.body) (sym is);
+    needs = ap (λ (b : Back D). b.needs) t.same ∙ ap (λ (x : Fit). needs_after x old.before old.needs e.body) (sym is);
     identity = ap (λ (b : Back D). b.identity) t.same ∙ ap (λ (x : Fit). identity_after x old.identity e.body) (sym is);
     durable = ap (λ (b : Back D). b.durable) t.same;
     limit = ap (λ (b : Back D). b.limit) t.same;

@@ -1,19 +1,19 @@
 -- What each entry does to a back that serves, in one step.
 use Rattle.std.proofs.Common.{◌≡◌, ◌∙◌, ap, sym, refl, subst, inl, inr, ℕ, ◌+◌, ◌-◌, List, [], ◌∷◌, ◌++◌, Option, Some, None, length, append-nil, Global}
 use Rattle.std.specs.declared.collections.VecDeque.{VecDeque}
-use Rattle.std.specs.Prelude.{Result, Ok, Err, OnErr, true, false, not, is_some}
+use Rattle.std.specs.Prelude.{Bool, Result, Ok, Err, OnErr, true, false, not, is_some}
 use Rattle.storage_map.specs.Contents.{Contents, apply}
 use Rattle.storage_map.specs.Limits.{Object}
 use Rattle.storage_map.specs.declared.op.Op.{Op}
 use Rattle.timeline.specs.Logs.{backed}
-use Rattle.timeline.specs.Passed.{is_mend}
+use Rattle.timeline.specs.Passed.{follows, is_mend}
 use Rattle.timeline.specs.declared.back_log.BackLog.{BackLog}
 use Rattle.timeline.specs.Told.{said_by, batches_of}
 use Rattle.timeline.specs.declared.entry.Body.{Body}
 use Rattle.timeline.specs.declared.entry.Body.TheVariants as body
 use Rattle.timeline.specs.declared.entry.Entry.{Entry}
 use Rattle.timeline.specs.declared.message.Message.{Message}
-use Rattle.output_gate.specs.Entering.{TakesOwn, FailsOwn, TakesDown, FailsDown, held_by, before_by, identity_by, asked}
+use Rattle.output_gate.specs.Entering.{TakesOwn, FailsOwn, TakesDown, FailsDown, held_by, before_by, needs_behind, identity_by, asked}
 use Rattle.output_gate.specs.Storing.{Stages}
 use Rattle.output_gate.specs.declared.back.Ending.{Ending}
 use Rattle.output_gate.specs.declared.back.Mode.{Mode}
@@ -26,6 +26,7 @@ use Rattle.storage_map.specs.Ops.{batch_bytes}
 use Rattle.output_gate.proofs.Unmounting.{unmounted_held, unmounted_message, unmounted_mend}
 use Rattle.output_gate.specs.Fits.{is_halt, comes_behind, last_of}
 use Rattle.output_gate.specs.Held.{passed_by, is_held_halt, halts_well}
+use Rattle.output_gate.proofs.Endings.{needs_none}
 use Rattle.output_gate.proofs.Helds.{true_false}
 use Rattle.output_gate.specs.Passing.{IsSilent}
 use Rattle.output_gate.specs.Serving.{IsMounted, IsUnmounted, IsAtEnd, IsAsBefore}
@@ -77,6 +78,9 @@ module _ {D : Type 0} (moment_of : D → ℕ) (left_since : D → ℕ → List �
   abbrev held_now : Back D → HeldBody → Held
   held_now old b = record { body = b; needs = old.before; since = old.number }
 
+  abbrev message_now : Back D → Message → Held
+  message_now old sent = record { body = held_body.Message sent; needs = old.needs; since = old.number }
+
   -- the log of what was held first
   log_behind : (old mid new : Back D) (number : ℕ) (b : Body) → mid ≡ record old { held = mid.held } → LogTook mid.log new.log (entry_of mid number b) → LogTook old.log new.log (entry_of old number b)
   log_behind old mid new number b same took = record {
@@ -92,7 +96,7 @@ module _ {D : Type 0} (moment_of : D → ℕ) (left_since : D → ℕ → List �
   pub took_silent : (old mid new : Back D) (number : ℕ) (b : Body) (h : HeldBody) → comes_behind (last_of old.log.taken.items) (entry_of old number b) ≡ true
       → is_mend b ≡ false → IsSilent b → batches_of (said_by b) ≡ [] → ((n s : ℕ) → passed_by h n s ≡ []) → (is_held_halt h ≡ true → halts_well h ≡ true) → is_held_halt h ≡ is_halt b
       → mid.held.items ≡ old.held.items ++ held_now old h ∷ [] → mid ≡ record old { held = mid.held } → LogTook mid.log new.log (entry_of mid number b) → new ≡ record mid { log = new.log }
-      → held_now old h ∷ [] ≡ held_by old.before old.number number b → old.before ≡ before_by b old.before → old.identity ≡ identity_by b old.identity → TakesOwn moment_of left_since told image faults_of old new number b
+      → held_now old h ∷ [] ≡ held_by old.before old.needs old.number number b → old.before ≡ before_by b old.before → old.identity ≡ identity_by b old.identity → TakesOwn moment_of left_since told image faults_of old new number b
   took_silent old mid new number b h comes other silent nothing says well halts items first log then so even known =
       let took = log_behind old mid new number b first log in
       let same = same_behind old mid new first then in
@@ -104,6 +108,7 @@ module _ {D : Type 0} (moment_of : D → ℕ) (left_since : D → ℕ → List �
         holds = held ∙ ap (λ more. old.held.items ++ more) so;
         mode = ap (λ (x : Back D). x.mode) same;
         before = ap (λ (x : Back D). x.before) same ∙ even;
+        needs = ap (λ (x : Back D). x.needs) same ∙ sym (needs_none b old.before old.needs nothing);
         durable = ap (λ (x : Back D). x.durable) same;
         limit = ap (λ (x : Back D). x.limit) same;
         disk = still_disk old.store new.store (ap (λ (x : Back D). x.store) same);
@@ -113,13 +118,13 @@ module _ {D : Type 0} (moment_of : D → ℕ) (left_since : D → ℕ → List �
       }
 
   pub took_message : (old mid new : Back D) (number : ℕ) (sent copy : Message) → copy ≡ sent → comes_behind (last_of old.log.taken.items) (entry_of old number (body.Message sent)) ≡ true
-      → mid.held.items ≡ old.held.items ++ held_now old (held_body.Message copy) ∷ [] → mid ≡ record old { held = mid.held } → LogTook mid.log new.log (entry_of mid number (body.Message sent)) → new ≡ record mid { log = new.log }
+      → mid.held.items ≡ old.held.items ++ message_now old copy ∷ [] → mid ≡ record old { held = mid.held } → LogTook mid.log new.log (entry_of mid number (body.Message sent)) → new ≡ record mid { log = new.log }
       → TakesOwn moment_of left_since told image faults_of old new number (body.Message sent)
   took_message old mid new number sent copy equal comes items first log then =
       let took = log_behind old mid new number (body.Message sent) first log in
       let same = same_behind old mid new first then in
-      let held : new.held.items ≡ old.held.items ++ held_now old (held_body.Message sent) ∷ [] =
-      ap (λ (x : Back D). x.held.items) then ∙ items ∙ ap (λ (m : Message). old.held.items ++ held_now old (held_body.Message m) ∷ []) equal in
+      let held : new.held.items ≡ old.held.items ++ message_now old sent ∷ [] =
+      ap (λ (x : Back D). x.held.items) then ∙ items ∙ ap (λ (m : Message). old.held.items ++ message_now old m ∷ []) equal in
       record {
         log = took.taken;
         stuck = ap (λ (x : Back D). x.stuck) same;
@@ -127,18 +132,19 @@ module _ {D : Type 0} (moment_of : D → ℕ) (left_since : D → ℕ → List �
         holds = held;
         mode = ap (λ (x : Back D). x.mode) same;
         before = ap (λ (x : Back D). x.before) same;
+        needs = ap (λ (x : Back D). x.needs) same;
         durable = ap (λ (x : Back D). x.durable) same;
         limit = ap (λ (x : Back D). x.limit) same;
         disk = still_disk old.store new.store (ap (λ (x : Back D). x.store) same);
         back = λ start opening m. subst (IsMounted moment_of left_since told image faults_of start opening true) (sym same)
             (mounted_message moment_of left_since told image faults_of start opening true old new.log new.held (entry_of old number (body.Message sent)) sent m took refl comes refl
-            (HoldsMore.one_more (held_now old (held_body.Message sent)) held refl (λ yes. absurd (true_false (sym yes))) refl));
+            (HoldsMore.one_more (message_now old sent) held refl (λ yes. absurd (true_false (sym yes))) refl));
       }
 
   -- nothing more is held
   pub took_only : (old new : Back D) (number : ℕ) (b : Body) → comes_behind (last_of old.log.taken.items) (entry_of old number b) ≡ true
       → is_mend b ≡ false → IsSilent b → batches_of (said_by b) ≡ [] → is_halt b ≡ false → LogTook old.log new.log (entry_of old number b) → new ≡ record old { log = new.log }
-      → [] ≡ held_by old.before old.number number b → old.before ≡ before_by b old.before → old.identity ≡ identity_by b old.identity → TakesOwn moment_of left_since told image faults_of old new number b
+      → [] ≡ held_by old.before old.needs old.number number b → old.before ≡ before_by b old.before → old.identity ≡ identity_by b old.identity → TakesOwn moment_of left_since told image faults_of old new number b
   took_only old new number b comes other silent nothing halts took same so even known = record {
     log = took.taken;
     stuck = ap (λ (x : Back D). x.stuck) same;
@@ -146,6 +152,7 @@ module _ {D : Type 0} (moment_of : D → ℕ) (left_since : D → ℕ → List �
     holds = ap (λ (x : Back D). x.held.items) same ∙ sym (append-nil old.held.items) ∙ ap (λ more. old.held.items ++ more) so;
     mode = ap (λ (x : Back D). x.mode) same;
     before = ap (λ (x : Back D). x.before) same ∙ even;
+    needs = ap (λ (x : Back D). x.needs) same ∙ sym (needs_none b old.before old.needs nothing);
     durable = ap (λ (x : Back D). x.durable) same;
     limit = ap (λ (x : Back D). x.limit) same;
     disk = still_disk old.store new.store (ap (λ (x : Back D). x.store) same);
@@ -168,6 +175,7 @@ module _ {D : Type 0} (moment_of : D → ℕ) (left_since : D → ℕ → List �
     holds = ap (λ (x : Back D). x.held.items) same ∙ sym (append-nil old.held.items);
     mode = ap (λ (x : Back D). x.mode) same;
     before = ap (λ (x : Back D). x.before) same;
+    needs = ap (λ (x : Back D). x.needs) same;
     durable = ap (λ (x : Back D). x.durable) same;
     limit = ap (λ (x : Back D). x.limit) same;
     disk = still_disk old.store new.store (ap (λ (x : Back D). x.store) same);
@@ -202,27 +210,29 @@ module _ {D : Type 0} (moment_of : D → ℕ) (left_since : D → ℕ → List �
         (same_log moment_of left_since told image faults_of start opening true old.log) refl st.same_staged st.frames st.disk (λ yes. absurd (true_false (sym yes))));
   }
 
-  pub took_batch : (old mid add : Back D) (number : ℕ) (ops : List Op) (tail : Option ℕ) (cache : Contents) (size : ℕ) (object : Object) → old.identity ≡ Some object
-      → (journal : Journal D) → old.store ≡ store.Journal journal → comes_behind (last_of old.log.taken.items) (entry_of old number (body.Batch ops tail)) ≡ true → cache ≡ apply old.cache ops → size ≡ length (batch_bytes ops)
+  pub took_batch : (old mid add : Back D) (number : ℕ) (ops : List Op) (tail : Option ℕ) (confirmed : Bool) (cache : Contents) (size needs : ℕ) (object : Object) → old.identity ≡ Some object
+      → (journal : Journal D) → old.store ≡ store.Journal journal → comes_behind (last_of old.log.taken.items) (entry_of old number (body.Batch ops tail confirmed)) ≡ true → cache ≡ apply old.cache ops → size ≡ length (batch_bytes ops) → needs ≡ follows old.before old.needs confirmed
       → ((journal : Journal D) → old.store ≡ store.Journal journal → Stages told image journal mid.store object ops (Ok tt))
-      → mid ≡ record old { cache = cache; store = mid.store } → LogTook mid.log add.log (entry_of mid number (body.Batch ops tail)) → add ≡ record mid { log = add.log }
-      → TakesOwn moment_of left_since told image faults_of old (record add { before = add.before + 1; own = add.own + 1; unflushed = add.unflushed + size }) number (body.Batch ops tail)
-  took_batch old mid add number ops tail cache size object named journal at comes wrote is_size stages first log then =
-      let e : Entry = entry_of old number (body.Batch ops tail) in
-      let f : Back D → Back D = λ x. record x { before = x.before + 1; own = x.own + 1; unflushed = x.unflushed + size } in
+      → mid ≡ record old { cache = cache; store = mid.store } → LogTook mid.log add.log (entry_of mid number (body.Batch ops tail confirmed)) → add ≡ record mid { log = add.log }
+      → (last : Back D) → last ≡ record (record add { before = add.before + 1; own = add.own + 1; unflushed = add.unflushed + size }) { needs = needs }
+      → TakesOwn moment_of left_since told image faults_of old last number (body.Batch ops tail confirmed)
+  took_batch old mid add number ops tail confirmed cache size needs object named journal at comes wrote is_size is_needs stages first log then last ends =
+      let e : Entry = entry_of old number (body.Batch ops tail confirmed) in
+      let f : Back D → Back D = λ x. record x { before = x.before + 1; own = x.own + 1; needs = needs; unflushed = x.unflushed + size } in
       let same : add ≡ record old { cache = cache; store = mid.store; log = add.log } = then ∙ ap (λ (x : Back D). record x { log = add.log }) first in
       let took : LogTook old.log add.log e = record {
-        taken = log.taken ∙ ap (λ (x : Back D). record (backed x.log) { taken = x.log.taken.items ++ entry_of x number (body.Batch ops tail) ∷ [] }) first;
+        taken = log.taken ∙ ap (λ (x : Back D). record (backed x.log) { taken = x.log.taken.items ++ entry_of x number (body.Batch ops tail confirmed) ∷ [] }) first;
         flights = log.flights;
         stops = log.stops;
       } in
-      record {
+      subst (λ (x : Back D). TakesOwn moment_of left_since told image faults_of old x number (body.Batch ops tail confirmed)) (sym ends) record {
         log = took.taken;
         stuck = ap (λ (x : Back D). x.stuck) same;
         identity = ap (λ (x : Back D). x.identity) same;
         holds = ap (λ (x : Back D). x.held.items) same ∙ sym (append-nil old.held.items);
         mode = ap (λ (x : Back D). x.mode) same;
         before = ap (λ (x : Back D). x.before + 1) same;
+        needs = is_needs;
         durable = ap (λ (x : Back D). x.durable) same;
         limit = ap (λ (x : Back D). x.limit) same;
         disk = let st = stages journal at in staged_disk old.store add.store journal st.new at (ap (λ (x : Back D). x.store) then ∙ st.is) st.disk st.limit st.end;
@@ -230,9 +240,14 @@ module _ {D : Type 0} (moment_of : D → ℕ) (left_since : D → ℕ → List �
             let st = stages m.journal m.safe.store in
             subst (IsMounted moment_of left_since told image faults_of start opening true)
             (ap (λ (s : Store D). f (record old { cache = cache; store = s; log = add.log })) (sym st.is) ∙ ap f (sym same))
-            (mounted_batch moment_of left_since told image faults_of start opening true old add.log number ops tail st.new cache (old.unflushed + size) object m took named comes st.staged st.frames st.disk wrote
-            (ap (λ (n : ℕ). old.unflushed + n) is_size));
+            (mounted_batch moment_of left_since told image faults_of start opening true old add.log number ops tail confirmed st.new cache (old.unflushed + size) needs object m took named comes st.staged st.frames st.disk wrote
+            (ap (λ (n : ℕ). old.unflushed + n) is_size) is_needs);
       }
+
+  -- what is needed behind it
+  pub follows_so : (old add : Back D) (confirmed : Bool) → add.before ≡ old.before → add.needs ≡ old.needs → needs_behind confirmed (add.before + 1) add.needs ≡ follows old.before old.needs confirmed
+  follows_so old add true before needs = ap (λ n. n + 1) before
+  follows_so old add false before needs = needs
 
   -- of an incarnation that isn't mounted
   pub failed_down : (old new : Back D) → new.held.items ≡ old.held.items → new ≡ record old { held = new.held } → FailsDown moment_of left_since told image faults_of old new
@@ -273,6 +288,7 @@ module _ {D : Type 0} (moment_of : D → ℕ) (left_since : D → ℕ → List �
         holds = ap (λ (x : Back D). x.held.items) same ∙ sym (append-nil old.held.items);
         mode = ap (λ (x : Back D). x.mode) same ∙ sym (ap asked down);
         before = ap (λ (x : Back D). x.before) same;
+        needs = ap (λ (x : Back D). x.needs) same;
         durable = ap (λ (x : Back D). x.durable) same;
         limit = ap (λ (x : Back D). x.limit) same;
         disk = still_disk old.store new.store (ap (λ (x : Back D). x.store) same);
@@ -296,6 +312,7 @@ module _ {D : Type 0} (moment_of : D → ℕ) (left_since : D → ℕ → List �
         holds = held;
         mode = ap (λ (x : Back D). x.mode) same;
         before = ap (λ (x : Back D). x.before) same;
+        needs = ap (λ (x : Back D). x.needs) same;
         durable = ap (λ (x : Back D). x.durable) same;
         limit = ap (λ (x : Back D). x.limit) same;
         disk = still_disk old.store new.store (ap (λ (x : Back D). x.store) same);

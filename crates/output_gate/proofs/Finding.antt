@@ -16,10 +16,10 @@ use Rattle.timeline.specs.History.{Incarnation, History, durable_by, kept_before
 use Rattle.timeline.specs.Logs.{Fronted, Backed, backed}
 use Rattle.timeline.specs.declared.back_log.BackLog.{BackLog}
 use Rattle.timeline.specs.declared.back_log.Stop.{Stop}
-use Rattle.output_gate.specs.Ended.{AreEnding, IsEnding}
+use Rattle.output_gate.specs.Ended.{AreEnding, IsEnding, Marks}
 use Rattle.output_gate.specs.Gate.{Place}
 use Rattle.output_gate.specs.Mending.{Begins}
-use Rattle.output_gate.specs.Serving.{IsEnded, IsUnmounted}
+use Rattle.output_gate.specs.Serving.{IsEnded, IsUnmounted, marks_of}
 use Rattle.output_gate.specs.Standing.{older_of}
 use Rattle.output_gate.specs.Storing.{IsDiskOf}
 use Rattle.output_gate.specs.Taking.{LogSame, is_mounted_mode}
@@ -65,13 +65,13 @@ module _ {D : Type 0} (moment_of : D → ℕ) (left_since : D → ℕ → List �
     (reads_an_image : (disk : D) (c : List ℕ) → told disk ≡ Some c → image disk c)
     (counts_now : (disk : D) (t : ℕ) (c : List ℕ) → t ≤ moment_of disk → image disk c → left_since disk t c) (start : List (List Op)) (opening : ℕ) where
   -- the flight that failed has the batches that had not flown
-  flight_is : (disk : D) (ending : Ending) (back : Back D) (s : IsEnded moment_of left_since image start opening disk ending back) (settled : ℕ)
-      → ((front : Fronted) → AreEnding ending settled (older_of front (backed back.log))) → (front : Fronted) → s.flight.batches ≡ unflown_in (older_of front (backed back.log))
-  flight_is disk ending back s settled ended front =
+  flight_is : (disk : D) (ending : Ending) (back : Back D) (s : IsEnded moment_of left_since image start opening disk ending back) (marks : Marks)
+      → ((front : Fronted) → AreEnding ending marks (older_of front (backed back.log))) → (front : Fronted) → s.flight.batches ≡ unflown_in (older_of front (backed back.log))
+  flight_is disk ending back s marks ended front =
       let last : Incarnation = s.last front in
       let rest : History = s.rest front in
       let g = s.down front in
-      let how : IsEnding ending settled last rest = subst (AreEnding ending settled) (ap (λ (p : Place). p.older) (s.place front)) (ended front) in
+      let how : IsEnding ending marks last rest = subst (AreEnding ending marks) (ap (λ (p : Place). p.older) (s.place front)) (ended front) in
       let flown_is = ap (λ (o : Option Stop). durable_by o last.flights) how.ended.stopped
       ∙ ap (λ (r : Bool). if r then how.ended.stop.batches else sum last.flights) how.unread in
       behind (kept_before rest) (own_batches last) s.flown s.flight.batches (sum last.flights) g.line (omega (arith, g.long, g.at_end, flown_is))
@@ -95,6 +95,6 @@ module _ {D : Type 0} (moment_of : D → ℕ) (left_since : D → ℕ → List �
           end_is = omega (arith, ends, was, ap (λ (fs : List Frame). length (journal_bytes fs)) found, length-journal_push s.frames s.flight);
           object = s.object;
           some = (all_last IsFrame s.frames s.flight (subst (λ (fs : List Frame). All IsFrame fs) found is.at_rest.of_grammar.each)).some;
-          batches = flight_is disk ending old s old.settled k.2.ended;
+          batches = flight_is disk ending old s (marks_of old) k.2.ended;
         },
       )) (found_one moment_of left_since told image reads_an_image start opening disk ending old s before.0 is.frames before.1 is.recovers)

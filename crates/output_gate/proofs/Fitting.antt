@@ -159,8 +159,8 @@ late_of back e is =
 -- it is no `Mend`
 pub not_mend : (b : Body) (known : Bool) → fits_mounted b known ≡ true → is_mend b ≡ false
 not_mend (body.Bind identity) known is = refl
-not_mend (body.Batch ops tail) known is = refl
-not_mend (body.Ask ask) known is = refl
+not_mend (body.Batch ops tail confirmed) known is = refl
+not_mend (body.Ask ask free) known is = refl
 not_mend body.Sync known is = refl
 not_mend (body.Message sent) known is = refl
 not_mend (body.Halt cause) known is = refl

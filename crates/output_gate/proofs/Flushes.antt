@@ -3,7 +3,8 @@ use Rattle.std.proofs.Common.{◌≡◌, ◌≢◌, ◌∙◌, ap, sym, refl, su
 use Rattle.std.proofs.lemmas.Grind.{flat_map-append}
 use Rattle.std.proofs.lemmas.List.{length_push}
 use Rattle.std.proofs.lemmas.List.Elements.{All-nil, All-push}
-use Rattle.std.specs.Prelude.{Bool, true, false}
+use Rattle.std.specs.Prelude.{Bool, true, false, nat_lt}
+use Rattle.output_gate.specs.Ended.{late_if}
 use Rattle.std.specs.List.{flat_map}
 use Rattle.batch_journal.specs.Frames.{Frame, Name, batches_in}
 use Rattle.batch_journal.specs.Moments.{LeavesOnly}
@@ -75,7 +76,9 @@ stopped old journal new fault = record old {
   mode = Wanted (ending_of old fault);
   before = old.durable;
   own = 0;
+  needs = old.durable;
   settled = old.durable;
+  late = late_if (nat_lt old.durable old.needs) old.needs;
   unflushed = 0;
   number = old.number + 1;
 }

@@ -20,7 +20,7 @@ use Rattle.timeline.specs.declared.caller.Cause.{Cause}
 use Rattle.timeline.specs.declared.caller.Cause.TheVariants as cause
 use Rattle.timeline.specs.declared.entry.Entry.{Entry}
 use Rattle.output_gate.specs.Down.{place_down}
-use Rattle.output_gate.specs.Ended.{HasEnded}
+use Rattle.output_gate.specs.Ended.{HasEnded, Marks}
 use Rattle.output_gate.specs.Gate.{Place, history_at}
 use Rattle.output_gate.specs.Standing.{going_on}
 use Rattle.output_gate.specs.Written.{flown_frames, unflown, found_frames, frames_in, frames_before, end_with, needed_by, IsFullBy, AreFilled}
@@ -172,13 +172,13 @@ module _ (limit end : ℕ) (object : Object) where
       )
 
   -- ---- an entry of the one before it is taken
-  module _ (front : Fronted) (ended : ℕ) (taken : List Entry) (flights : List ℕ) (settled : ℕ) (last : Incarnation) (rest : History) (e : Entry) (h : HasEnded settled last rest)
+  module _ (front : Fronted) (ended : ℕ) (taken : List Entry) (flights : List ℕ) (marks : Marks) (last : Incarnation) (rest : History) (e : Entry) (h : HasEnded marks last rest)
       (all : AreFilled limit end object (history_at front (record { ended = ended; taken = taken; flights = flights; older = last ∷ rest }))) where
     abbrev late_place : Place
     late_place = record { ended = ended; taken = taken; flights = flights; older = later last e ∷ rest }
 
     same_rest : unflown (later last e) ≡ unflown last
-    same_rest = ap (drop (sum last.flights)) (same_own settled last rest e h)
+    same_rest = ap (drop (sum last.flights)) (same_own marks last rest e h)
 
     same_flown : flown_frames object last.flights (batches_in (later last e).taken) ≡ flown_frames object last.flights (batches_in last.taken)
     same_flown = ap (flown_frames object last.flights) (batches_more last.taken e) ∙ flown_more object last.flights (batches_in last.taken) (batches_of (said_by e.body)) all.3.0

@@ -3,14 +3,14 @@ use Rattle.std.proofs.Common.{◌≡◌, ◌∙◌, ap, sym, refl, subst, inl, �
 use Rattle.std.proofs.lemmas.Grind.{flat_map-append}
 use Rattle.std.proofs.lemmas.List.Sums.{fold-append}
 use Rattle.std.proofs.lemmas.List.Elements.{All-nil, All-append, All-push, All-head, All-tail}
-use Rattle.std.specs.Prelude.{false}
+use Rattle.std.specs.Prelude.{Bool, false}
 use Rattle.std.specs.List.{All}
 use Rattle.batch_journal.specs.Moments.{LeavesOnly}
 use Rattle.storage_map.specs.Limits.{Object}
 use Rattle.storage_map.specs.declared.op.Op.{Op}
-use Rattle.timeline.specs.History.{History, batches_in, kept_before, line}
+use Rattle.timeline.specs.History.{History, batches_in, kept_before, line, said_in}
 use Rattle.timeline.specs.Logs.{Fronted}
-use Rattle.timeline.specs.Passed.{Passed, held_in, passed, is_mend}
+use Rattle.timeline.specs.Passed.{Passed, held_in, passed, reaches, is_mend}
 use Rattle.timeline.specs.Told.{Said, said_by, spoken, batches_of}
 use Rattle.timeline.specs.declared.back_log.Release.{Release}
 use Rattle.timeline.specs.declared.entry.Body.{Body}
@@ -26,7 +26,7 @@ use Rattle.output_gate.proofs.Passing.{holds, is_silent}
 
 pub batches_of-append : (xs ys : List Said) → batches_of (xs ++ ys) ≡ batches_of xs ++ batches_of ys
 batches_of-append [] ys = refl
-batches_of-append (Said.batch ops ∷ xs) ys = ap (λ more. ops ∷ more) (batches_of-append xs ys)
+batches_of-append (Said.batch ops confirmed ∷ xs) ys = ap (λ more. ops ∷ more) (batches_of-append xs ys)
 batches_of-append (Said.message sent ∷ xs) ys = batches_of-append xs ys
 
 -- the batches of one more entry
@@ -92,27 +92,27 @@ module _ {D : Type 0} (moment_of : D → ℕ) (left_since : D → ℕ → List �
       }
 
   -- a batch
-  pub takes_batch : (disk : D) (e : Entry) (ops : List Op) (tail : Option ℕ) → e.body ≡ body.Batch ops tail → IsGate moment_of left_since object start opening front p disk l before durable
+  pub takes_batch : (disk : D) (e : Entry) (ops : List Op) (tail : Option ℕ) (confirmed : Bool) → e.body ≡ body.Batch ops tail confirmed → IsGate moment_of left_since object start opening front p disk l before durable
       → IsGate moment_of left_since object start opening front (record p { taken = p.taken ++ e ∷ [] }) disk (record l { staged = l.staged ++ ops ∷ [] }) (before + 1) durable
-  takes_batch disk e ops tail is g =
-      let silent : (n : ℕ) → held_in n (e.body ∷ []) ≡ [] = λ n. ap (λ (b : Body). held_in n (b ∷ [])) is in
+  takes_batch disk e ops tail confirmed is g =
+      let silent : IsSilent e.body = λ n k. ap (λ (b : Body). held_in n k (b ∷ [])) is in
       let one : batches_of (said_by e.body) ≡ ops ∷ [] = ap (λ (b : Body). batches_of (said_by b)) is in
       let none : List Passed = [] in
       subst (λ (both : List Passed × List (List Op)). IsGate moment_of left_since object start opening front (record p { taken = p.taken ++ e ∷ [] }) disk (record l { waiting = both.0; staged = l.staged ++ both.1 }) (before + 1) durable)
       (ap (λ (ws : List Passed). (ws, batches_of (said_by e.body))) (append-nil l.waiting) ∙ ap (λ bs. (l.waiting, bs)) one)
       (takes disk e none 1 g (is_silent front p.older p.ended p.taken p.flights e (ap is_mend is) silent ∙ sym (append-nil (passed (history_at front p)))) (All-nil (λ (q : Passed). q.since ≤ suc p.ended)) (ap length (sym one)))
 
-  -- a message, which needs all batches before it
-  pub takes_message : (disk : D) (e : Entry) (sent : Message) → e.body ≡ body.Message sent → IsGate moment_of left_since object start opening front p disk l before durable
+  -- a message, which needs the batches up to the last confirmed one before it
+  pub takes_message : (disk : D) (e : Entry) (sent : Message) (needs : ℕ) → e.body ≡ body.Message sent → needs ≡ length (kept_before p.older) + reaches 0 0 (said_in p.taken) → IsGate moment_of left_since object start opening front p disk l before durable
       → IsGate moment_of left_since object start opening front (record p { taken = p.taken ++ e ∷ [] }) disk
-      (record l { waiting = l.waiting ++ record { message = sent; needs = before; since = suc p.ended } ∷ [] }) before durable
-  takes_message disk e sent is g =
-      let one : Passed = record { message = sent; needs = before; since = suc p.ended } in
+      (record l { waiting = l.waiting ++ record { message = sent; needs = needs; since = suc p.ended } ∷ [] }) before durable
+  takes_message disk e sent needs is reach g =
+      let one : Passed = record { message = sent; needs = needs; since = suc p.ended } in
       let none : batches_of (said_by e.body) ≡ [] = ap (λ (b : Body). batches_of (said_by b)) is in
       subst (λ (both : List (List Op) × ℕ). IsGate moment_of left_since object start opening front (record p { taken = p.taken ++ e ∷ [] }) disk (record l { waiting = l.waiting ++ one ∷ []; staged = both.0 }) both.1 durable)
       (ap (λ bs. (l.staged ++ bs, before + 0)) none ∙ ap (λ bs. (bs, before + 0)) (append-nil l.staged) ∙ ap (λ (n : ℕ). (l.staged, n)) (omega arith))
       (takes disk e (one ∷ []) 0 g (holds front p.older p.ended p.taken p.flights e sent is g.mounted
-      ∙ ap (λ (n : ℕ). passed (history_at front p) ++ record { message = sent; needs = n; since = suc p.ended } ∷ []) (sym g.counted))
+      ∙ ap (λ (n : ℕ). passed (history_at front p) ++ record { message = sent; needs = n; since = suc p.ended } ∷ []) (sym reach))
       (All-push (λ (q : Passed). q.since ≤ suc p.ended) [] one (All-nil (λ (q : Passed). q.since ≤ suc p.ended)) (omega arith)) (ap length (sym none)))
 
   -- something else

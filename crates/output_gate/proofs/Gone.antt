@@ -14,7 +14,7 @@ use Rattle.timeline.specs.declared.notice.Notice.{Notice}
 use Rattle.timeline.specs.declared.notice.Stepped.{Stepped}
 use Rattle.timeline.specs.declared.notice.Stepped.TheVariants.{Did, Nothing}
 use Rattle.output_gate.specs.Held.{passed_by, passed_of, is_held_halt, has_halt}
-use Rattle.output_gate.specs.Releasing.{may_release, release_at, released_log, released_notices, released_messages, IsIdleRelease, Releases, Stays, StaysPut, Goes, LogReleases, LogHalts}
+use Rattle.output_gate.specs.Releasing.{may_release, release_at, released_log, needs_released, released_notices, released_messages, IsIdleRelease, Releases, Stays, StaysPut, Goes, LogReleases, LogHalts}
 use Rattle.output_gate.specs.Serving.{IsMounted, IsUnmounted, IsBackAs}
 use Rattle.output_gate.specs.Storing.{IsDiskOf, KeepsDisk}
 use Rattle.output_gate.specs.Taking.{LogSame}
@@ -71,11 +71,12 @@ module _ {D : Type 0} (moment_of : D → ℕ) (left_since : D → ℕ → List �
   }
 
   -- a back of which what is held, the log and the newest incarnation changed
-  releases_as : (old : Back D) (held : VecDeque Held Global) (log : BackLog) (own number : ℕ) (first : Held) (b : HeldBody) → old.held.items ≡ first ∷ held.items → first.body ≡ b
+  releases_as : (old : Back D) (held : VecDeque Held Global) (log : BackLog) (own needs number : ℕ) (first : Held) (b : HeldBody) → old.held.items ≡ first ∷ held.items → first.body ≡ b
+      → needs ≡ needs_released old b
       → (s0 s : List Notice) (o0 o : List Sent) → s ≡ s0 ++ released_notices old b → o ≡ o0 ++ released_messages b
       → ((disk : D) → IsDiskOf old.store disk → backed log ≡ released_log old (moment_of disk) first b)
-      → Releases moment_of old (record old { held = held; log = log; own = own; number = number }) s0 s o0 o
-  releases_as old held log own number first b items body s0 s o0 o told_so left_so logged = record {
+      → Releases moment_of old (record old { held = held; log = log; own = own; needs = needs; number = number }) s0 s o0 o
+  releases_as old held log own needs number first b items body reach s0 s o0 o told_so left_so logged = record {
     first = first;
     rest = held.items;
     held = items;
@@ -89,6 +90,7 @@ module _ {D : Type 0} (moment_of : D → ℕ) (left_since : D → ℕ → List �
     stuck = refl;
     mode = refl;
     before = refl;
+    needs = reach ∙ ap (needs_released old) (sym body);
     durable = refl;
     limit = refl;
     settled = refl;
@@ -118,7 +120,7 @@ module _ {D : Type 0} (moment_of : D → ℕ) (left_since : D → ℕ → List �
       let one : ℕ → Release = λ t. record { message = sent; needs = first.needs; moment = t } in
       let passes : passed_of first ≡ record { message = sent; needs = first.needs; since = first.since } ∷ [] = ap (λ (b : HeldBody). passed_by b first.needs first.since) body in
       record {
-        releases = releases_as old held log old.own old.number first (Message sent) items body s s o0 o (sym (append-nil s)) left_so
+        releases = releases_as old held log old.own old.needs old.number first (Message sent) items body refl s s o0 o (sym (append-nil s)) left_so
             (λ disk where_is. done.log ∙ ap (λ (x : Backed). record x { released = x.released ++ one moment ∷ [] }) same.same
             ∙ ap (λ (t : ℕ). record (backed old.log) { released = old.log.released.items ++ one t ∷ [] }) (at disk where_is));
         back = λ start opening b. back_release start opening (record old { log = mid }) log held first items ready
@@ -134,7 +136,7 @@ module _ {D : Type 0} (moment_of : D → ℕ) (left_since : D → ℕ → List �
   sync_goes old held first number items body ready s0 s o told_so =
       let none : passed_of first ≡ [] = ap (λ (b : HeldBody). passed_by b first.needs first.since) body in
       record {
-        releases = releases_as old held old.log old.own old.number first (Sync number) items body s0 s o o told_so (sym (append-nil o)) (λ disk where_is. refl);
+        releases = releases_as old held old.log old.own old.needs old.number first (Sync number) items body refl s0 s o o told_so (sym (append-nil o)) (λ disk where_is. refl);
         back = λ start opening b. back_release start opening old old.log held first items ready
             (λ disk where_is. ap (λ rs. record (backed old.log) { released = rs }) (sym (append-nil old.log.released.items))
             ∙ ap (λ ps. record (backed old.log) { released = old.log.released.items ++ map (release_at (moment_of disk)) ps }) (sym none)) refl refl b;
@@ -153,7 +155,7 @@ module _ {D : Type 0} (moment_of : D → ℕ) (left_since : D → ℕ → List �
       → (s0 s : List Notice) (o : List Sent) → s ≡ s0 ++ released_notices old (Halt c)
       → Goes moment_of left_since told image faults_of old (restarted old log held) s0 s o o
   halt_goes old mid log held first c same items body ready done s0 s o told_so = record {
-    releases = releases_as old held log 0 (old.number + 1) first (Halt c) items body s0 s o o told_so (sym (append-nil o))
+    releases = releases_as old held log 0 old.before (old.number + 1) first (Halt c) items body refl s0 s o o told_so (sym (append-nil o))
         (λ disk where_is. done ∙ ap (λ (x : Backed). record x {
           stops = x.stops ++ record { cause = c; flights = length x.flights; batches = old.own; read = false } ∷ [];
           ends = x.ends ++ record { kept = old.own; cause = c } ∷ [];

@@ -33,7 +33,7 @@ use Rattle.output_gate.specs.Gate.{Place, place_of, IsGate}
 use Rattle.output_gate.specs.Held.{waiting_in}
 use Rattle.output_gate.specs.Kept.{NameOnly}
 use Rattle.output_gate.specs.Mending.{Begins, Misses, is_own_object, kept_at}
-use Rattle.output_gate.specs.Serving.{HasRoom, IsSafe, IsServing, IsMounted, IsSafeEnded, IsEnded, IsUnmounted}
+use Rattle.output_gate.specs.Serving.{HasRoom, IsSafe, IsServing, IsMounted, IsSafeEnded, IsEnded, IsUnmounted, marks_of}
 use Rattle.output_gate.specs.Standing.{AreLogs, own_entries, own_flights, going_on}
 use Rattle.output_gate.specs.declared.back.Back.{Back}
 use Rattle.output_gate.specs.declared.back.Ending.{Ending}
@@ -92,7 +92,7 @@ kept_one ending false = inl refl
 
 -- the back behind a mounting
 abbrev pub begun : {D : Type 0} → Back D → BackLog → Journal D → Contents → ℕ → Back D
-begun old log journal map now = record old { store = store.Journal journal; cache = map; mode = IsMountedMode; durable = now; before = now; log = log }
+begun old log journal map now = record old { store = store.Journal journal; cache = map; mode = IsMountedMode; durable = now; before = now; needs = now; log = log }
 
 module _ {D : Type 0} (told : D → Option (List ℕ)) (image : D → List ℕ → Type 0) where
   begun_room : (disk : D) (ending : Ending) (old : Back D) (log : BackLog) (end : End) (journal : Journal D) (map : Contents) (now : ℕ) → IsSafeEnded disk ending old
@@ -211,7 +211,7 @@ module _ {D : Type 0} (moment_of : D → ℕ) (left_since : D → ℕ → List �
       → (is : IsMountOf told image moment_of left_since disk mounted) → is_own_object mounted.identity old.identity
       → ((object : Object) → IsStaged mounted.journal object [])
       → LeavesOnly moment_of left_since disk (disk_in mounted.journal) (ImageOrHeader (told disk) (image disk))
-      → TellsAsBefore (told disk) (told (disk_in mounted.journal)) → IsLoggedDown (IsTold (told disk)) (backed old.log) ending old.settled old.durable
+      → TellsAsBefore (told disk) (told (disk_in mounted.journal)) → IsLoggedDown (IsTold (told disk)) (backed old.log) ending (marks_of old) old.durable
       → AreCounted (IsTold (told disk)) (backed old.log) (faults_of disk) → faults_of disk ≤ faults_of (disk_in mounted.journal)
       → Begins old new ending mounted.journal mounted.map
       → IsMounted moment_of left_since told image faults_of start opening true new
@@ -229,9 +229,9 @@ module _ {D : Type 0} (moment_of : D → ℕ) (left_since : D → ℕ → List �
             let tells : Type 0 = IsTold (told (disk_in mounted.journal)) in
             let before_it : tells → IsTold (told disk) = told_before (told disk) (told (disk_in mounted.journal)) telling in
             let one = kept_one ending (not (mounted.journal.end == ending.end)) in
-            subst (λ (x : Backed × ℕ). IsLogged tells x.0 old.settled x.1 now now) (ap (λ (b : Backed). (b, 0)) (sym done.log) ∙ ap (λ (n : ℕ). (backed new.log, n)) (sym safe.none))
-            (logged_begun (IsTold (told disk)) tells before_it (backed old.log) ending old.settled old.durable kept now safe.logs safe.gone one
-            (λ yes. let t = before_it yes in (one, begun_full disk ending old (s t) mounted is t.0 t.1)) safe.more refl l);
+            subst (λ (x : Backed × ℕ). IsLogged tells x.0 (record (marks_of old) { needs = now }) x.1 now now) (ap (λ (b : Backed). (b, 0)) (sym done.log) ∙ ap (λ (n : ℕ). (backed new.log, n)) (sym safe.none))
+            (logged_begun (IsTold (told disk)) tells before_it (backed old.log) ending (marks_of old) old.durable kept now safe.logs safe.gone one
+            (λ yes. let t = before_it yes in (one, begun_full disk ending old (s t) mounted is t.0 t.1)) safe.more refl (sym safe.own ∙ safe.none) l);
         counts = counts_same (IsTold (told disk)) (IsTold (told (disk_in mounted.journal))) (told_before (told disk) (told (disk_in mounted.journal)) telling) (backed old.log)
             (faults_of disk) (faults_of (disk_in mounted.journal)) counted (backed new.log) (ap (λ (b : Backed). b.stops) done.log) (ap (λ (b : Backed). b.downs) done.log) up;
       } in
@@ -243,7 +243,7 @@ module _ {D : Type 0} (moment_of : D → ℕ) (left_since : D → ℕ → List �
       → LeavesOnly moment_of left_since disk left (ImageOrHeader (told disk) (image disk))
       → TellsAsBefore (told disk) (told left)
       → ((c : List ℕ) → image left c → ImageOrHeader (told disk) (image disk) c)
-      → IsLoggedDown (IsTold (told disk)) (backed old.log) ending old.settled old.durable
+      → IsLoggedDown (IsTold (told disk)) (backed old.log) ending (marks_of old) old.durable
       → AreCounted (IsTold (told disk)) (backed old.log) (faults_of disk) → before ≡ faults_of disk → after ≡ faults_of left → (IsTold (told left) → HasRisen (faults_of disk) (faults_of left))
       → Misses old new ending left before after
       → IsUnmounted moment_of left_since told image faults_of start opening new
@@ -297,8 +297,8 @@ module _ {D : Type 0} (moment_of : D → ℕ) (left_since : D → ℕ → List �
         logged =
             let tells : Type 0 = IsTold (told left) in
             let all : List Missed = old.log.downs.items ++ record { incarnation = old.number; before = before; after = after } ∷ [] in
-            subst (λ (b : Backed). IsLoggedDown tells b ending old.settled old.durable) (sym log)
-            (down_same (IsTold (told disk)) tells (told_before (told disk) (told left) telling) (backed old.log) ending old.settled old.durable (record (backed old.log) { downs = all }) refl refl refl
+            subst (λ (b : Backed). IsLoggedDown tells b ending (marks_of old) old.durable) (sym log)
+            (down_same (IsTold (told disk)) tells (told_before (told disk) (told left) telling) (backed old.log) ending (marks_of old) old.durable (record (backed old.log) { downs = all }) refl refl refl
             (λ front. missed_place front (backed old.log) all) l);
         counts = counts_missed_more (IsTold (told disk)) (IsTold (told left)) (told_before (told disk) (told left) telling) (backed old.log) (faults_of disk) (faults_of left) counted (backed new.log)
             (record { incarnation = old.number; before = before; after = after }) (ap (λ (b : Backed). b.stops) log) (ap (λ (b : Backed). b.downs) log) safe.number

@@ -172,7 +172,7 @@ before_noted old mid s h = record { log = h.log; held = h.held; stuck = h.stuck;
 
 entered_noted : {D : Type 0} (old mid : Back D) (e : Entry) (s : Bool) → IsAsBefore old mid ⊎ Enters old mid e → IsAsBefore old (noted mid s) ⊎ Enters old (noted mid s) e
 entered_noted old mid e s (inl h) = inl (before_noted old mid s h)
-entered_noted old mid e s (inr h) = inr (record { log = h.log; stuck = h.stuck; held = h.held; identity = h.identity; mode = h.mode; before = h.before; durable = h.durable; limit = h.limit })
+entered_noted old mid e s (inr h) = inr (record { log = h.log; stuck = h.stuck; held = h.held; identity = h.identity; mode = h.mode; before = h.before; needs = h.needs; durable = h.durable; limit = h.limit })
 
 -- An entry is lost, with the note.
 pub loses_noted : {D A : Type 0} (r : Result A NoMemory) (old mid : Back D) (got0 got : List Entry) (sent0 sent : List Notice) (s : Bool) → OnErr r (LosesEntry old mid got0 got sent0 sent)

@@ -4,8 +4,8 @@ use Rattle.std.specs.Prelude.{Bool}
 use Rattle.storage_map.specs.declared.op.Op.{Op}
 use Rattle.timeline.specs.History.{History}
 use Rattle.timeline.specs.Logs.{backed}
-use Rattle.output_gate.specs.Ended.{HasEnded, HaveEnded, IsEnding, AreEnding}
-use Rattle.output_gate.specs.Serving.{IsMounted, IsUnmounted, IsBackAs}
+use Rattle.output_gate.specs.Ended.{HasEnded, HaveEnded, IsEnding, AreEnding, Marks}
+use Rattle.output_gate.specs.Serving.{IsMounted, IsUnmounted, IsBackAs, marks_of}
 use Rattle.output_gate.specs.Standing.{older_of}
 use Rattle.output_gate.specs.Taking.{is_mounted_mode}
 use Rattle.output_gate.specs.Telling.{KeepsWithin, IsOrdered}
@@ -13,13 +13,13 @@ use Rattle.output_gate.specs.declared.back.Back.{Back}
 use Rattle.output_gate.specs.declared.back.Ending.{Ending}
 use Rattle.output_gate.proofs.Fitting.{never_mounted}
 
-ended_within : (settled : ℕ) (h : History) → HaveEnded settled h → KeepsWithin h
-ended_within settled [] e = tt
-ended_within settled (i ∷ older) e = let one : HasEnded settled i older = e in one.kept
+ended_within : (marks : Marks) (h : History) → HaveEnded marks h → KeepsWithin h
+ended_within marks [] e = tt
+ended_within marks (i ∷ older) e = let one : HasEnded marks i older = e in one.kept
 
-ending_within : (ending : Ending) (settled : ℕ) (h : History) → AreEnding ending settled h → KeepsWithin h
-ending_within ending settled [] e = absurd e
-ending_within ending settled (i ∷ older) e = let one : IsEnding ending settled i older = e in one.ended.kept
+ending_within : (ending : Ending) (marks : Marks) (h : History) → AreEnding ending marks h → KeepsWithin h
+ending_within ending marks [] e = absurd e
+ending_within ending marks (i ∷ older) e = let one : IsEnding ending marks i older = e in one.ended.kept
 
 module _ {D : Type 0} (moment_of : D → ℕ) (left_since : D → ℕ → List ℕ → Type 0) (told : D → Option (List ℕ)) (image : D → List ℕ → Type 0) (faults_of : D → ℕ)
     (start : List (List Op)) (opening : ℕ) (sound : Bool) where
@@ -33,7 +33,7 @@ module _ {D : Type 0} (moment_of : D → ℕ) (left_since : D → ℕ → List �
         missed = m.counts.begun;
         more = omega (arith, s.unflown);
         unflown = λ less none. omega (arith, less, s.unflown, s.own, s.room.own, ap (λ bs. length bs) none);
-        kept = λ front. ended_within back.settled (older_of front (backed back.log)) (m.logged.placed front).ended;
+        kept = λ front. ended_within (marks_of back) (older_of front (backed back.log)) (m.logged.placed front).ended;
       }
 
   unmounted_ordered : (back : Back D) → IsUnmounted moment_of left_since told image faults_of start opening back → IsOrdered back
@@ -46,7 +46,7 @@ module _ {D : Type 0} (moment_of : D → ℕ) (left_since : D → ℕ → List �
         missed = u.counts.begun;
         more = omega (arith, s.even);
         unflown = λ less. absurd (omega (arith, less, s.even));
-        kept = λ front. ending_within u.ending back.settled (older_of front (backed back.log)) (u.logged.ended front);
+        kept = λ front. ending_within u.ending (marks_of back) (older_of front (backed back.log)) (u.logged.ended front);
       }
 
   pub is_ordered : (back : Back D) → IsBackAs moment_of left_since told image faults_of start opening sound back → IsOrdered back

@@ -21,7 +21,7 @@ use Rattle.output_gate.specs.Gate.{Place, place_of, history_at, Lists, IsGate}
 use Rattle.output_gate.specs.Held.{passed_by, passed_of, waiting_in, is_held_halt, has_halt, HaltsLast}
 use Rattle.output_gate.specs.Kept.{RecoversToPrefix}
 use Rattle.output_gate.specs.Releasing.{release_at}
-use Rattle.output_gate.specs.Serving.{HasRoom, IsSafe, IsServing, IsMounted}
+use Rattle.output_gate.specs.Serving.{HasRoom, IsSafe, IsServing, IsMounted, marks_of}
 use Rattle.output_gate.specs.Standing.{AreLogs, own_entries}
 use Rattle.output_gate.specs.declared.back.Back.{Back}
 use Rattle.output_gate.specs.declared.held.Held.{Held}
@@ -147,8 +147,8 @@ module _ {D : Type 0} (moment_of : D → ℕ) (left_since : D → ℕ → List �
     logged =
         let all : List Release = old.log.released.items ++ map (release_at (moment_of (disk_in m.journal))) (passed_of h) in
         let tells : Type 0 = IsTold (told (disk_in m.journal)) in
-        subst (λ (b : Backed). IsLogged tells b old.settled old.own old.before old.durable) (sym is)
-        (logged_same tells tells (λ yes. yes) (backed old.log) old.settled old.own old.before old.durable (record (backed old.log) { released = all }) refl refl refl
+        subst (λ (b : Backed). IsLogged tells b (marks_of old) old.own old.before old.durable) (sym is)
+        (logged_same tells tells (λ yes. yes) (backed old.log) (marks_of old) old.own old.before old.durable (record (backed old.log) { released = all }) refl refl refl
         (λ front. released_place front (backed old.log) all) m.logged);
     counts = counts_stay told faults_of (disk_in m.journal) (disk_in m.journal) (backed old.log) (backed log) refl (ap (λ (b : Backed). b.stops) is) (ap (λ (b : Backed). b.downs) is) m.counts;
   }

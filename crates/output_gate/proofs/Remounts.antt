@@ -18,7 +18,7 @@ use Rattle.output_gate.specs.Mending.{Begins, Misses, IsFound, is_own_object, Re
 use Rattle.batch_journal.specs.Rest.{disk_in, end_of}
 use Rattle.output_gate.proofs.Fitting.{unmounted_of}
 use Rattle.output_gate.proofs.Gone.{back_room}
-use Rattle.output_gate.specs.Serving.{IsMounted, IsSafeEnded, IsEnded, IsUnmounted, IsAtEnd, IsBackAs, CanServeAs}
+use Rattle.output_gate.specs.Serving.{IsMounted, IsSafeEnded, IsEnded, IsUnmounted, IsAtEnd, IsBackAs, CanServeAs, marks_of}
 use Rattle.output_gate.specs.Storing.{IsDiskOf}
 use Rattle.output_gate.specs.declared.back.Back.{Back}
 use Rattle.output_gate.specs.declared.back.Ending.{Ending}
@@ -49,7 +49,7 @@ module _ {D : Type 0} (moment_of : D → ℕ) (left_since : D → ℕ → List �
     (counts_now : (disk : D) (t : ℕ) (c : List ℕ) → t ≤ moment_of disk → image disk c → left_since disk t c) (start : List (List Op)) (opening : ℕ) where
   abbrev pub Knows : Back D → D → Ending → Type 0
   Knows old disk ending = IsSafeEnded disk ending old × (IsTold (told disk) → IsEnded moment_of left_since image start opening disk ending old)
-      × IsLoggedDown (IsTold (told disk)) (backed old.log) ending old.settled old.durable × AreCounted (IsTold (told disk)) (backed old.log) (faults_of disk)
+      × IsLoggedDown (IsTold (told disk)) (backed old.log) ending (marks_of old) old.durable × AreCounted (IsTold (told disk)) (backed old.log) (faults_of disk)
 
   pub known : (old : Back D) (disk : D) (ending : Ending) → old.mode ≡ Wanted ending → IsDiskOf old.store disk → IsUnmounted moment_of left_since told image faults_of start opening old → Knows old disk ending
   known old disk ending wanted at u =
@@ -125,7 +125,7 @@ module _ {D : Type 0} (moment_of : D → ℕ) (left_since : D → ℕ → List �
               number = e.number;
               full = λ needed limit cause c now. full_leaves moment_of left_since told image reads_an_image start opening disk ending old e needed limit cause c (images_left disk left is.0 c now);
             };
-        logged = down_same (IsTold (told disk)) (IsTold (told left)) (told_before (told disk) (told left) is.1) (backed old.log) ending old.settled old.durable (backed old.log) refl refl refl (λ front. refl) k.2;
+        logged = down_same (IsTold (told disk)) (IsTold (told left)) (told_before (told disk) (told left) is.1) (backed old.log) ending (marks_of old) old.durable (backed old.log) refl refl refl (λ front. refl) k.2;
         counts = counts_same (IsTold (told disk)) (IsTold (told left)) (told_before (told disk) (told left) is.1) (backed old.log) (faults_of disk) (faults_of left) k.3 (backed old.log) refl refl up;
       } in
       subst (λ (x : Store D). IsUnmounted moment_of left_since told image faults_of start opening (record old { store = x })) (sym same) made

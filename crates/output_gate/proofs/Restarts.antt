@@ -19,7 +19,7 @@ use Rattle.output_gate.specs.Down.{place_down}
 use Rattle.output_gate.specs.Ended.{IsLogged}
 use Rattle.output_gate.specs.Gate.{Place, place_of, Lists, IsGate}
 use Rattle.output_gate.specs.Held.{passed_by, passed_of, waiting_in, is_held_halt, has_halt, halts_well, HaltsLast}
-use Rattle.output_gate.specs.Serving.{HasRoom, IsSafe, IsServing, IsMounted, stop_of}
+use Rattle.output_gate.specs.Serving.{HasRoom, IsSafe, IsServing, IsMounted, marks_of, stop_of}
 use Rattle.output_gate.specs.Standing.{AreLogs, own_entries, own_flights, older_of, going_on}
 use Rattle.output_gate.specs.declared.back.Back.{Back}
 use Rattle.output_gate.specs.declared.held.Held.{Held}
@@ -36,7 +36,7 @@ use Rattle.output_gate.proofs.Unmounted.{restarts}
 
 -- the back behind a halt
 abbrev pub restarted : {D : Type 0} → Back D → BackLog → VecDeque Held Global → Back D
-restarted old log held = record old { held = held; own = 0; number = old.number + 1; log = log }
+restarted old log held = record old { held = held; own = 0; needs = old.before; number = old.number + 1; log = log }
 
 abbrev pub LogRestarts : {D : Type 0} → Back D → BackLog → Cause → Type 0
 LogRestarts old log c = backed log ≡ record (backed old.log) { stops = old.log.stops.items ++ stop_of old c ∷ []; ends = old.log.ends.items ++ record { kept = old.own; cause = c } ∷ [] }
@@ -169,8 +169,8 @@ module _ {D : Type 0} (moment_of : D → ℕ) (left_since : D → ℕ → List �
         let last = last_halt old held h c s.halts halting in
         let e = s.halted (ap has_halt halting.first ∙ ap (λ (b : HeldBody). is_held_halt b || has_halt held.items) halting.body) in
         let tells : Type 0 = IsTold (told (disk_in m.journal)) in
-        subst (λ (b : Backed). IsLogged tells b old.settled 0 old.before old.durable) (sym is)
-        (logged_restarted tells tells (λ yes. yes) (backed old.log) old.settled old.own old.before old.durable (stop_of old c) e.0 s.room.logs refl s.room.followed s.room.own
+        subst (λ (b : Backed). IsLogged tells b (record (marks_of old) { needs = old.before }) 0 old.before old.durable) (sym is)
+        (logged_restarted tells tells (λ yes. yes) (backed old.log) (marks_of old) old.own old.before old.durable (stop_of old c) e.0 s.room.logs refl s.room.followed s.room.own
         (omega (arith, s.unflown, last.1, halting.ready)) refl refl last.2 e.1 (e.2 ∙ s.room.number) e.3 (λ front. restart_place front (backed old.log) (stop_of old c) old.own s.room.logs refl s.room.followed) m.logged);
     counts =
         let last = last_halt old held h c m.safe.halts halting in

@@ -2,7 +2,7 @@
 use Rattle.std.proofs.Common.{◌≡◌, ◌≢◌, ◌∙◌, ap, sym, refl, subst, inl, inr, ℕ, suc, ◌+◌, ◌-◌, ◌<◌, ◌≤◌, List, [], ◌∷◌, ◌++◌, length, arith, Option, Some, None, Ok, Err}
 use Rattle.std.proofs.lemmas.List.{length_push}
 use Rattle.std.proofs.lemmas.List.Elements.{All-push}
-use Rattle.std.specs.Prelude.{true, false, Bool, is_some}
+use Rattle.std.specs.Prelude.{true, false, Bool, is_some, nat_lt}
 use Rattle.batch_journal.specs.Frames.{Frame, Name}
 use Rattle.batch_journal.specs.Moments.{TellsAsBefore, IsTold}
 use Rattle.batch_journal.proofs.Journals.{length-journal_push}
@@ -20,10 +20,10 @@ use Rattle.timeline.specs.declared.back_log.BackLog.{BackLog}
 use Rattle.timeline.specs.declared.caller.Cause.{Cause}
 use Rattle.timeline.specs.declared.caller.Cause.TheVariants as cause
 use Rattle.output_gate.specs.Counted.{stop_counts, AreCounted}
-use Rattle.output_gate.specs.Ended.{IsLogged, IsLoggedDown}
+use Rattle.output_gate.specs.Ended.{IsLogged, IsLoggedDown, late_if}
 use Rattle.output_gate.specs.Flushing.{GetsFrame}
 use Rattle.output_gate.specs.Held.{has_halt}
-use Rattle.output_gate.specs.Serving.{HasRoom, IsSafe, IsMounted, IsSafeEnded, IsUnmounted, IsBackAs, Lands, CanLand, Stops, CanStop, ending_of, stop_of}
+use Rattle.output_gate.specs.Serving.{HasRoom, IsSafe, IsMounted, IsSafeEnded, IsUnmounted, IsBackAs, Lands, CanLand, Stops, CanStop, ending_of, marks_of, stop_of}
 use Rattle.output_gate.specs.Standing.{AreLogs, own_entries}
 use Rattle.output_gate.specs.Storing.{Appends, IsCauseOf, IsDiskOf}
 use Rattle.output_gate.specs.declared.back.Back.{Back}
@@ -58,26 +58,26 @@ longer durable before (x ∷ xs) is other = omega (arith, is)
 
 -- what the log shows behind an append that was good, and behind one that wasn't
 logged_lands : {D : Type 0} (tells later_tells : Type 0) → (later_tells → tells) → (old new : Back D) (later : Journal D) → AreLogs (backed old.log) → old.durable ≤ old.before
-    → Lands (record old { store = store.Journal later }) new → IsLogged tells (backed old.log) old.settled old.own old.before old.durable
-    → IsLogged later_tells (backed new.log) new.settled new.own new.before new.durable
+    → Lands (record old { store = store.Journal later }) new → IsLogged tells (backed old.log) (marks_of old) old.own old.before old.durable
+    → IsLogged later_tells (backed new.log) (marks_of new) new.own new.before new.durable
 logged_lands {D} tells later_tells before_it old new later logs less done l =
     let at : backed new.log ≡ record (backed old.log) { flights = old.log.flights.items ++ (old.before - old.durable) ∷ [] } =
     ap backed done.log ∙ ap (λ (fs : List ℕ). record (backed old.log) { flights = fs }) done.flights in
-    subst (λ (x : Back D). IsLogged later_tells (backed x.log) x.settled x.own x.before x.durable) (sym done.same)
-    (subst (λ (b : Backed). IsLogged later_tells b old.settled old.own old.before old.before) (sym at)
-    (logged_flew tells later_tells before_it (backed old.log) old.settled old.own old.before old.durable logs less l))
+    subst (λ (x : Back D). IsLogged later_tells (backed x.log) (marks_of x) x.own x.before x.durable) (sym done.same)
+    (subst (λ (b : Backed). IsLogged later_tells b (marks_of old) old.own old.before old.before) (sym at)
+    (logged_flew tells later_tells before_it (backed old.log) (marks_of old) old.own old.before old.durable logs less l))
 
 logged_ends : {D : Type 0} (tells later_tells : Type 0) → (later_tells → tells) → (old new : Back D) (later : Journal D) (fault : Fault) → HasRoom old → old.durable < old.before
     → old.before ≤ old.durable + old.own → discards fault.cause false ≡ true → Stops (record old { store = store.Journal later }) new fault
-    → IsLogged tells (backed old.log) old.settled old.own old.before old.durable
-    → IsLoggedDown later_tells (backed new.log) (ending_of old fault) new.settled new.durable
+    → IsLogged tells (backed old.log) (marks_of old) old.own old.before old.durable
+    → IsLoggedDown later_tells (backed new.log) (ending_of old fault) (marks_of new) new.durable
 logged_ends {D} tells later_tells before_it old new later fault room more some drops done l =
     let stop : Stop = stop_of old fault.cause in
     let at : backed new.log ≡ record (backed old.log) { stops = old.log.stops.items ++ stop ∷ [] } =
     ap backed done.log ∙ ap (λ (ss : List Stop). record (backed old.log) { stops = ss }) done.stops in
-    subst (λ (x : Back D). IsLoggedDown later_tells (backed x.log) (ending_of old fault) x.settled x.durable) (sym done.same)
-    (subst (λ (b : Backed). IsLoggedDown later_tells b (ending_of old fault) old.durable old.durable) (sym at)
-    (logged_stopped tells later_tells before_it (backed old.log) old.settled old.own old.before old.durable stop (ending_of old fault) room.logs refl room.followed room.own more some refl refl drops refl refl refl l))
+    subst (λ (x : Back D). IsLoggedDown later_tells (backed x.log) (ending_of old fault) (marks_of x) x.durable) (sym done.same)
+    (subst (λ (b : Backed). IsLoggedDown later_tells b (ending_of old fault) (record { settled = old.durable; late = late_if (nat_lt old.durable old.needs) old.needs; needs = old.durable }) old.durable) (sym at)
+    (logged_stopped tells later_tells before_it (backed old.log) (marks_of old) old.own old.before old.durable stop (ending_of old fault) room.logs refl room.followed room.own more some refl refl drops refl refl refl l))
 
 -- the counts behind an append that wasn't good
 counts_by : {D : Type 0} (faults_of : D → ℕ) (journal later : Journal D) (tells later_tells : Type 0) → (later_tells → tells) → (back next : Backed) (stop : Stop)

@@ -11,9 +11,9 @@ use Rattle.batch_journal.specs.declared.journal.Journal.{Journal}
 use Rattle.storage_map.specs.Contents.{Contents, nothing, apply}
 use Rattle.storage_map.specs.Limits.{Object}
 use Rattle.storage_map.specs.declared.op.Op.{Op}
-use Rattle.timeline.specs.History.{batches_in as batches_taken}
+use Rattle.timeline.specs.History.{batches_in as batches_taken, kept_before, said_in}
 use Rattle.timeline.specs.Logs.{Fronted, Backed, backed}
-use Rattle.timeline.specs.Passed.{Passed, is_mend}
+use Rattle.timeline.specs.Passed.{Passed, follows, is_mend, reaches}
 use Rattle.timeline.specs.Told.{said_by, batches_of}
 use Rattle.timeline.specs.declared.back_log.BackLog.{BackLog}
 use Rattle.timeline.specs.declared.back_log.Release.{Release}
@@ -33,8 +33,8 @@ use Rattle.output_gate.specs.Ended.{IsLogged}
 use Rattle.output_gate.specs.Fits.{is_halt, last_of, comes_behind}
 use Rattle.output_gate.specs.declared.store.Store.{Store}
 use Rattle.output_gate.specs.declared.store.Store.TheVariants as store
-use Rattle.output_gate.specs.Serving.{HasRoom, IsSafe, IsServing, IsMounted}
-use Rattle.output_gate.specs.Standing.{AreLogs, own_entries}
+use Rattle.output_gate.specs.Serving.{HasRoom, IsSafe, IsServing, IsMounted, marks_of}
+use Rattle.output_gate.specs.Standing.{AreLogs, own_entries, older_of}
 use Rattle.output_gate.specs.Taking.{LogTook, LogSame}
 use Rattle.output_gate.specs.declared.back.Back.{Back}
 use Rattle.output_gate.proofs.Flushes.{front_none, placed}
@@ -64,16 +64,16 @@ took_place old new e logs is took front =
     ap (place_of front) took ∙ placed front later (record (place_of front (backed old)) { taken = own_entries (backed old) ++ e ∷ [] }) (takes_fit front (backed old) e logs (omega (arith, is))) (history_takes front (backed old) e logs is)
 
 -- the entries of the newest incarnation
-abbrev pub batch_entry : {D : Type 0} → Back D → ℕ → List Op → Option ℕ → Entry
-batch_entry back number ops tail = record { incarnation = back.number; number = number; body = body.Batch ops tail }
+abbrev pub batch_entry : {D : Type 0} → Back D → ℕ → List Op → Option ℕ → Bool → Entry
+batch_entry back number ops tail confirmed = record { incarnation = back.number; number = number; body = body.Batch ops tail confirmed }
 
 abbrev pub bind_entry : {D : Type 0} → Back D → ℕ → Object → Entry
 bind_entry back number object = record { incarnation = back.number; number = number; body = body.Bind object }
 
 -- the back with a batch more
-abbrev pub with_batch : {D : Type 0} → Back D → BackLog → Journal D → Contents → ℕ → Back D
-with_batch old log journal cache bytes =
-    record old { store = store.Journal journal; cache = cache; log = log; before = old.before + 1; own = old.own + 1; unflushed = bytes }
+abbrev pub with_batch : {D : Type 0} → Back D → BackLog → Journal D → Contents → (bytes needs : ℕ) → Back D
+with_batch old log journal cache bytes needs =
+    record old { store = store.Journal journal; cache = cache; log = log; before = old.before + 1; own = old.own + 1; needs = needs; unflushed = bytes }
 
 -- the bytes of one more batch
 more_bytes : (batches : List (List Op)) (ops : List Op) (bytes : ℕ) → bytes ≡ length (flat_map batch_bytes batches)
@@ -91,9 +91,9 @@ same_object one other same = ap (λ (o : Option Object). named_or o one) same
 -- the log's lists and the counters fit still
 pub took_room : {D : Type 0} (old : Back D) (log : BackLog) (e : Entry) (more : ℕ) → HasRoom old → e.incarnation ≡ suc (length old.log.stops.items) → LogTook old.log log e
     → more ≡ length (batches_of (said_by e.body)) → more ≤ 1
-    → (later : Store D) (cache : Contents) (held : VecDeque Held Global) (identity : Option Object) (bytes : ℕ)
-    → HasRoom (record old { store = later; cache = cache; identity = identity; held = held; log = log; before = old.before + more; own = old.own + more; unflushed = bytes })
-took_room old log e more room is took count most later cache held identity bytes =
+    → (later : Store D) (cache : Contents) (held : VecDeque Held Global) (identity : Option Object) (bytes needs : ℕ)
+    → HasRoom (record old { store = later; cache = cache; identity = identity; held = held; log = log; before = old.before + more; own = old.own + more; needs = needs; unflushed = bytes })
+took_room old log e more room is took count most later cache held identity bytes needs =
     let own : own_entries (backed log) ≡ own_entries (backed old.log) ++ e ∷ [] = ap (λ (p : Place). p.taken) (took_place old.log log e room.logs is took.taken front_none) in
     let long : length log.taken.items ≡ length old.log.taken.items + 1 = ap (λ (b : Backed). length b.taken) took.taken ∙ length_push old.log.taken.items e in
     record {
@@ -156,20 +156,20 @@ module _ {D : Type 0} (told : D → Option (List ℕ)) (image : D → List ℕ �
   pub free : (journal : Journal D) (back : Back D) → IsSafe told image journal back → (e : Entry) → e.incarnation ≡ back.number → comes_behind (last_of back.log.taken.items) e ≡ true → has_halt back.held.items ≡ false
   free journal back s e own comes = free_if journal back s e (has_halt back.held.items) refl own comes
 
-  safe_batch : (old : Back D) (log : BackLog) (number : ℕ) (ops : List Op) (tail : Option ℕ) (journal later : Journal D) (cache : Contents) (bytes : ℕ) (object : Object)
-      → IsSafe told image journal old → LogTook old.log log (batch_entry old number ops tail) → old.identity ≡ Some object
-      → comes_behind (last_of old.log.taken.items) (batch_entry old number ops tail) ≡ true
+  safe_batch : (old : Back D) (log : BackLog) (number : ℕ) (ops : List Op) (tail : Option ℕ) (confirmed : Bool) (journal later : Journal D) (cache : Contents) (bytes needs : ℕ) (object : Object)
+      → IsSafe told image journal old → LogTook old.log log (batch_entry old number ops tail confirmed) → old.identity ≡ Some object
+      → comes_behind (last_of old.log.taken.items) (batch_entry old number ops tail confirmed) ≡ true
       → ((batches : List (List Op)) → IsStaged journal object batches → IsStaged later object (batches ++ ops ∷ []))
       → ((frames : List Frame) → IsAtRest told image journal frames → IsAtRest told image later frames)
       → bytes ≡ old.unflushed + length (batch_bytes ops)
-      → IsSafe told image later (with_batch old log later cache bytes)
-  safe_batch old log number ops tail journal later cache bytes object s took named comes staged frames is =
-      let e : Entry = batch_entry old number ops tail in
+      → IsSafe told image later (with_batch old log later cache bytes needs)
+  safe_batch old log number ops tail confirmed journal later cache bytes needs object s took named comes staged frames is =
+      let e : Entry = batch_entry old number ops tail confirmed in
       let none = free journal old s e refl comes in
       record {
         store = refl;
         mode = s.mode;
-        room = took_room old log e 1 s.room s.room.number took refl (omega arith) (store.Journal later) cache old.held old.identity bytes;
+        room = took_room old log e 1 s.room s.room.number took refl (omega arith) (store.Journal later) cache old.held old.identity bytes needs;
         frames = s.frames;
         staged = s.staged ++ ops ∷ [];
         at_rest = frames s.frames s.at_rest;
@@ -189,7 +189,7 @@ module _ {D : Type 0} (told : D → Option (List ℕ)) (image : D → List ℕ �
       → IsSafe told image journal (record old { held = held; log = log })
   safe_said old log held e more journal s took own comes silent holds =
       let none = free journal old s e own comes in
-      let room = took_room old log e 0 s.room (own ∙ s.room.number) took (ap length (sym silent)) (omega arith) old.store old.cache held old.identity old.unflushed in
+      let room = took_room old log e 0 s.room (own ∙ s.room.number) took (ap length (sym silent)) (omega arith) old.store old.cache held old.identity old.unflushed old.needs in
       record {
         store = s.store;
         mode = s.mode;
@@ -214,7 +214,7 @@ module _ {D : Type 0} (told : D → Option (List ℕ)) (image : D → List ℕ �
   safe_bind old log number object journal s took nobody comes =
       let e : Entry = bind_entry old number object in
       let none = free journal old s e refl comes in
-      let room = took_room old log e 0 s.room s.room.number took refl (omega arith) old.store old.cache old.held (Some object) old.unflushed in
+      let room = took_room old log e 0 s.room s.room.number took refl (omega arith) old.store old.cache old.held (Some object) old.unflushed old.needs in
       let nothing = s.nameless nobody in
       record {
         store = s.store;
@@ -256,18 +256,18 @@ module _ {D : Type 0} (told : D → Option (List ℕ)) (image : D → List ℕ �
   }
 
 module _ {D : Type 0} (moment_of : D → ℕ) (left_since : D → ℕ → List ℕ → Type 0) (told : D → Option (List ℕ)) (image : D → List ℕ → Type 0) (faults_of : D → ℕ) (start : List (List Op)) (opening : ℕ) (sound : Bool) where
-  serves_batch : (old : Back D) (log : BackLog) (number : ℕ) (ops : List Op) (tail : Option ℕ) (journal later : Journal D) (cache : Contents) (bytes : ℕ) (object : Object)
-      → IsServing moment_of left_since told image start opening sound journal old → LogTook old.log log (batch_entry old number ops tail) → old.identity ≡ Some object
+  serves_batch : (old : Back D) (log : BackLog) (number : ℕ) (ops : List Op) (tail : Option ℕ) (confirmed : Bool) (journal later : Journal D) (cache : Contents) (bytes needs : ℕ) (object : Object)
+      → IsServing moment_of left_since told image start opening sound journal old → LogTook old.log log (batch_entry old number ops tail confirmed) → old.identity ≡ Some object
       → ((batches : List (List Op)) → IsStaged journal object batches → IsStaged later object (batches ++ ops ∷ []))
       → ((frames : List Frame) → IsAtRest told image journal frames → IsAtRest told image later frames)
       → disk_in later ≡ disk_in journal → cache ≡ apply old.cache ops → bytes ≡ old.unflushed + length (batch_bytes ops)
-      → IsServing moment_of left_since told image start opening sound later (with_batch old log later cache bytes)
-  serves_batch old log number ops tail journal later cache bytes object s took named staged frames disk wrote is =
-      let e : Entry = batch_entry old number ops tail in
+      → IsServing moment_of left_since told image start opening sound later (with_batch old log later cache bytes needs)
+  serves_batch old log number ops tail confirmed journal later cache bytes needs object s took named staged frames disk wrote is =
+      let e : Entry = batch_entry old number ops tail confirmed in
       let line : List (List Op) = start ++ s.flown ++ s.staged in
       let released : log.released.items ≡ old.log.released.items = ap (λ (b : Backed). b.released) took.taken in
       record {
-        room = took_room old log e 1 s.room s.room.number took refl (omega arith) (store.Journal later) cache old.held old.identity bytes;
+        room = took_room old log e 1 s.room s.room.number took refl (omega arith) (store.Journal later) cache old.held old.identity bytes needs;
         frames = s.frames;
         left = s.left;
         flown = s.flown;
@@ -278,7 +278,7 @@ module _ {D : Type 0} (moment_of : D → ℕ) (left_since : D → ℕ → List �
             subst (λ (x : Place × D × List Release). IsGate moment_of left_since old.identity start opening front x.0 x.1 (record l { released = x.2; staged = s.staged ++ ops ∷ [] }) (old.before + 1) old.durable)
             (ap (λ (q : Place). (q, disk_in journal, old.log.released.items)) (sym (took_place old.log log e s.room.logs s.room.number took.taken front))
             ∙ ap (λ (d : D). (place_of front (backed log), d, old.log.released.items)) (sym disk) ∙ ap (λ (rs : List Release). (place_of front (backed log), disk_in later, rs)) (sym released))
-            (takes_batch moment_of left_since old.identity start opening front p l old.before old.durable (disk_in journal) e ops tail refl (s.gate front));
+            (takes_batch moment_of left_since old.identity start opening front p l old.before old.durable (disk_in journal) e ops tail confirmed refl (s.gate front));
         at_rest = frames s.frames s.at_rest;
         named = s.named;
         batches = s.batches;
@@ -298,7 +298,7 @@ module _ {D : Type 0} (moment_of : D → ℕ) (left_since : D → ℕ → List �
   serves_said old log held e more journal s took own silent waits gate =
       let released : log.released.items ≡ old.log.released.items = ap (λ (b : Backed). b.released) took.taken in
       let number : e.incarnation ≡ suc (length old.log.stops.items) = own ∙ s.room.number in
-      let room = took_room old log e 0 s.room number took (ap length (sym silent)) (omega arith) old.store old.cache held old.identity old.unflushed in
+      let room = took_room old log e 0 s.room number took (ap length (sym silent)) (omega arith) old.store old.cache held old.identity old.unflushed old.needs in
       record {
         room = record { logs = room.logs; flights = λ other. took.flights; stops = λ other. took.stops; number = room.number; own = omega (arith, room.own); few = omega (arith, room.few); own_few = omega (arith, room.own_few); followed = room.followed };
         frames = s.frames;
@@ -336,14 +336,15 @@ module _ {D : Type 0} (moment_of : D → ℕ) (left_since : D → ℕ → List �
 
   serves_message : (old : Back D) (log : BackLog) (held : VecDeque Held Global) (e : Entry) (sent : Message) (journal : Journal D) → IsServing moment_of left_since told image start opening sound journal old
       → LogTook old.log log e → e.incarnation ≡ old.number → e.body ≡ body.Message sent
-      → waiting_in held.items ≡ waiting_in old.held.items ++ record { message = sent; needs = old.before; since = old.number } ∷ []
+      → ((front : Fronted) → old.needs ≡ length (kept_before (older_of front (backed old.log))) + reaches 0 0 (said_in (own_entries (backed old.log))))
+      → waiting_in held.items ≡ waiting_in old.held.items ++ record { message = sent; needs = old.needs; since = old.number } ∷ []
       → IsServing moment_of left_since told image start opening sound journal (record old { held = held; log = log })
-  serves_message old log held e sent journal s took own says waits =
-      let one : ℕ → Passed = λ n. record { message = sent; needs = old.before; since = n } in
+  serves_message old log held e sent journal s took own says reach waits =
+      let one : ℕ → Passed = λ n. record { message = sent; needs = old.needs; since = n } in
       serves_said old log held e (one (suc (length old.log.stops.items)) ∷ []) journal s took own (ap (λ b. batches_of (said_by b)) says)
       (waits ∙ ap (λ n. waiting_in old.held.items ++ one n ∷ []) s.room.number)
       (λ front t. takes_message moment_of left_since old.identity start opening front (place_of front (backed old.log))
-      (record { released = old.log.released.items; left = t.left; waiting = waiting_in old.held.items; flown = t.flown; staged = t.staged }) old.before old.durable (disk_in journal) e sent says (t.gate front))
+      (record { released = old.log.released.items; left = t.left; waiting = waiting_in old.held.items; flown = t.flown; staged = t.staged }) old.before old.durable (disk_in journal) e sent old.needs says (reach front) (t.gate front))
 
   -- the object is named
   serves_bind : (old : Back D) (log : BackLog) (number : ℕ) (object : Object) (journal : Journal D) → IsServing moment_of left_since told image start opening sound journal old
@@ -351,7 +352,7 @@ module _ {D : Type 0} (moment_of : D → ℕ) (left_since : D → ℕ → List �
       → IsServing moment_of left_since told image start opening sound journal (record old { identity = Some object; log = log })
   serves_bind old log number object journal s took nobody =
       let e : Entry = bind_entry old number object in
-      let said = serves_silent old log old.held e journal s took refl refl (λ n. refl) refl (sym (append-nil (waiting_in old.held.items))) in
+      let said = serves_silent old log old.held e journal s took refl refl (λ n k. refl) refl (sym (append-nil (waiting_in old.held.items))) in
       record {
         room = record {
           logs = said.room.logs;
@@ -410,11 +411,11 @@ module _ {D : Type 0} (moment_of : D → ℕ) (left_since : D → ℕ → List �
 
   -- what the log shows behind an entry that writes nothing
   said_logged : (old : Back D) (log : BackLog) (e : Entry) (m : IsMounted moment_of left_since told image faults_of start opening sound old)
-      → LogTook old.log log e → e.incarnation ≡ suc (length old.log.stops.items)
-      → IsLogged (IsTold (told (disk_in m.journal))) (backed log) old.settled old.own old.before old.durable
-  said_logged old log e m took is =
-      subst (λ (b : Backed). IsLogged (IsTold (told (disk_in m.journal))) b old.settled old.own old.before old.durable) (sym took.taken)
-      (logged_said (IsTold (told (disk_in m.journal))) (IsTold (told (disk_in m.journal))) (λ tells. tells) (backed old.log) old.settled old.own old.before old.durable e m.safe.room.logs is m.logged)
+      → LogTook old.log log e → e.incarnation ≡ suc (length old.log.stops.items) → batches_of (said_by e.body) ≡ []
+      → IsLogged (IsTold (told (disk_in m.journal))) (backed log) (marks_of old) old.own old.before old.durable
+  said_logged old log e m took is none =
+      subst (λ (b : Backed). IsLogged (IsTold (told (disk_in m.journal))) b (marks_of old) old.own old.before old.durable) (sym took.taken)
+      (logged_said (IsTold (told (disk_in m.journal))) (IsTold (told (disk_in m.journal))) (λ tells. tells) (backed old.log) (marks_of old) old.own old.before old.durable e m.safe.room.logs is m.safe.room.own none m.logged)
 
   took_counts : (old : Back D) (log : BackLog) (e : Entry) (m : IsMounted moment_of left_since told image faults_of start opening sound old) (later : D) → later ≡ disk_in m.journal
       → LogTook old.log log e → AreCounted (IsTold (told later)) (backed log) (faults_of later)
@@ -422,21 +423,21 @@ module _ {D : Type 0} (moment_of : D → ℕ) (left_since : D → ℕ → List �
       counts_stay told faults_of (disk_in m.journal) later (backed old.log) (backed log) disk (ap (λ (b : Backed). b.stops) took.taken) (ap (λ (b : Backed). b.downs) took.taken) m.counts
 
   -- All of it, over any disk.
-  pub mounted_batch : (old : Back D) (log : BackLog) (number : ℕ) (ops : List Op) (tail : Option ℕ) (later : Journal D) (cache : Contents) (bytes : ℕ) (object : Object)
-      (m : IsMounted moment_of left_since told image faults_of start opening sound old) → LogTook old.log log (batch_entry old number ops tail) → old.identity ≡ Some object
-      → comes_behind (last_of old.log.taken.items) (batch_entry old number ops tail) ≡ true
+  pub mounted_batch : (old : Back D) (log : BackLog) (number : ℕ) (ops : List Op) (tail : Option ℕ) (confirmed : Bool) (later : Journal D) (cache : Contents) (bytes needs : ℕ) (object : Object)
+      (m : IsMounted moment_of left_since told image faults_of start opening sound old) → LogTook old.log log (batch_entry old number ops tail confirmed) → old.identity ≡ Some object
+      → comes_behind (last_of old.log.taken.items) (batch_entry old number ops tail confirmed) ≡ true
       → ((batches : List (List Op)) → IsStaged m.journal object batches → IsStaged later object (batches ++ ops ∷ []))
       → ((frames : List Frame) → IsAtRest told image m.journal frames → IsAtRest told image later frames)
-      → disk_in later ≡ disk_in m.journal → cache ≡ apply old.cache ops → bytes ≡ old.unflushed + length (batch_bytes ops)
-      → IsMounted moment_of left_since told image faults_of start opening sound (with_batch old log later cache bytes)
-  mounted_batch old log number ops tail later cache bytes object m took named comes staged frames disk wrote is = record {
+      → disk_in later ≡ disk_in m.journal → cache ≡ apply old.cache ops → bytes ≡ old.unflushed + length (batch_bytes ops) → needs ≡ follows old.before old.needs confirmed
+      → IsMounted moment_of left_since told image faults_of start opening sound (with_batch old log later cache bytes needs)
+  mounted_batch old log number ops tail confirmed later cache bytes needs object m took named comes staged frames disk wrote is is_needs = record {
     journal = later;
-    safe = safe_batch told image old log number ops tail m.journal later cache bytes object m.safe took named comes staged frames is;
-    serves = λ tells. serves_batch old log number ops tail m.journal later cache bytes object (m.serves (subst (λ (d : D). IsTold (told d)) disk tells)) took named staged frames disk wrote is;
-    logged = subst (λ (b : Backed). IsLogged (IsTold (told (disk_in later))) b old.settled (old.own + 1) (old.before + 1) old.durable) (sym took.taken)
-        (logged_took (IsTold (told (disk_in m.journal))) (IsTold (told (disk_in later))) (λ tells. subst (λ (d : D). IsTold (told d)) disk tells) (backed old.log) old.settled old.own old.before old.durable
-        (batch_entry old number ops tail) 1 m.safe.room.logs m.safe.room.number m.logged);
-    counts = took_counts old log (batch_entry old number ops tail) m (disk_in later) disk took;
+    safe = safe_batch told image old log number ops tail confirmed m.journal later cache bytes needs object m.safe took named comes staged frames is;
+    serves = λ tells. serves_batch old log number ops tail confirmed m.journal later cache bytes needs object (m.serves (subst (λ (d : D). IsTold (told d)) disk tells)) took named staged frames disk wrote is;
+    logged = subst (λ (b : Backed). IsLogged (IsTold (told (disk_in later))) b (record (marks_of old) { needs = needs }) (old.own + 1) (old.before + 1) old.durable) (sym took.taken)
+        (logged_took (IsTold (told (disk_in m.journal))) (IsTold (told (disk_in later))) (λ tells. subst (λ (d : D). IsTold (told d)) disk tells) (backed old.log) (marks_of old) old.own old.before old.durable
+        (batch_entry old number ops tail confirmed) 1 needs m.safe.room.logs m.safe.room.number m.safe.room.own is_needs m.logged);
+    counts = took_counts old log (batch_entry old number ops tail confirmed) m (disk_in later) disk took;
   }
 
   pub mounted_silent : (old : Back D) (log : BackLog) (held : VecDeque Held Global) (e : Entry) (m : IsMounted moment_of left_since told image faults_of start opening sound old)
@@ -447,20 +448,20 @@ module _ {D : Type 0} (moment_of : D → ℕ) (left_since : D → ℕ → List �
     journal = m.journal;
     safe = safe_said told image old log held e [] m.journal m.safe took own comes none holds;
     serves = λ tells. serves_silent old log held e m.journal (m.serves tells) took own other silent none (waits_as old.held.items held.items e old.before [] holds);
-    logged = said_logged old log e m took (own ∙ m.safe.room.number);
+    logged = said_logged old log e m took (own ∙ m.safe.room.number) none;
     counts = took_counts old log e m (disk_in m.journal) refl took;
   }
 
   pub mounted_message : (old : Back D) (log : BackLog) (held : VecDeque Held Global) (e : Entry) (sent : Message) (m : IsMounted moment_of left_since told image faults_of start opening sound old)
       → LogTook old.log log e → e.incarnation ≡ old.number → comes_behind (last_of old.log.taken.items) e ≡ true → e.body ≡ body.Message sent
-      → HoldsMore old.held.items held.items e old.before (record { message = sent; needs = old.before; since = old.number } ∷ [])
+      → HoldsMore old.held.items held.items e old.before (record { message = sent; needs = old.needs; since = old.number } ∷ [])
       → IsMounted moment_of left_since told image faults_of start opening sound (record old { held = held; log = log })
   mounted_message old log held e sent m took own comes says holds = record {
     journal = m.journal;
-    safe = safe_said told image old log held e (record { message = sent; needs = old.before; since = old.number } ∷ []) m.journal m.safe took own comes (ap (λ b. batches_of (said_by b)) says) holds;
-    serves = λ tells. serves_message old log held e sent m.journal (m.serves tells) took own says
-        (waits_as old.held.items held.items e old.before (record { message = sent; needs = old.before; since = old.number } ∷ []) holds);
-    logged = said_logged old log e m took (own ∙ m.safe.room.number);
+    safe = safe_said told image old log held e (record { message = sent; needs = old.needs; since = old.number } ∷ []) m.journal m.safe took own comes (ap (λ b. batches_of (said_by b)) says) holds;
+    serves = λ tells. serves_message old log held e sent m.journal (m.serves tells) took own says (λ front. (m.logged.placed front).reach)
+        (waits_as old.held.items held.items e old.before (record { message = sent; needs = old.needs; since = old.number } ∷ []) holds);
+    logged = said_logged old log e m took (own ∙ m.safe.room.number) (ap (λ b. batches_of (said_by b)) says);
     counts = took_counts old log e m (disk_in m.journal) refl took;
   }
 
@@ -471,7 +472,7 @@ module _ {D : Type 0} (moment_of : D → ℕ) (left_since : D → ℕ → List �
     journal = m.journal;
     safe = safe_bind told image old log number object m.journal m.safe took nobody comes;
     serves = λ tells. serves_bind old log number object m.journal (m.serves tells) took nobody;
-    logged = said_logged old log (bind_entry old number object) m took m.safe.room.number;
+    logged = said_logged old log (bind_entry old number object) m took m.safe.room.number refl;
     counts = took_counts old log (bind_entry old number object) m (disk_in m.journal) refl took;
   }
 
@@ -485,8 +486,8 @@ module _ {D : Type 0} (moment_of : D → ℕ) (left_since : D → ℕ → List �
     journal = later;
     safe = safe_same told image old log held m.journal later cache stuck m.safe same items staged frames;
     serves = λ tells. serves_same out old log held m.journal later cache stuck (m.serves (subst (λ (d : D). IsTold (told d)) disk tells)) same items staged frames disk keeps;
-    logged = subst (λ (b : Backed). IsLogged (IsTold (told (disk_in later))) b old.settled old.own old.before old.durable) (sym same.same)
-        (logged_same (IsTold (told (disk_in m.journal))) (IsTold (told (disk_in later))) (λ tells. subst (λ (d : D). IsTold (told d)) disk tells) (backed old.log) old.settled old.own old.before old.durable
+    logged = subst (λ (b : Backed). IsLogged (IsTold (told (disk_in later))) b (marks_of old) old.own old.before old.durable) (sym same.same)
+        (logged_same (IsTold (told (disk_in m.journal))) (IsTold (told (disk_in later))) (λ tells. subst (λ (d : D). IsTold (told d)) disk tells) (backed old.log) (marks_of old) old.own old.before old.durable
         (backed old.log) refl refl refl (λ front. refl) m.logged);
     counts = counts_stay told faults_of (disk_in m.journal) (disk_in later) (backed old.log) (backed log) disk (ap (λ (b : Backed). b.stops) same.same) (ap (λ (b : Backed). b.downs) same.same) m.counts;
   }

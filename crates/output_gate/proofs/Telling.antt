@@ -138,13 +138,13 @@ not_given same = subst is_given (sym same) tt
 same_given : {n m : Notice} → Some n ≡ Some m → m ≡ n
 same_given {n} {m} same = ap (λ (o : Option Notice). given o m) (sym same)
 
-batch_answers : (number : ℕ) (m : Contents) (ops : List Op) (tail : Option ℕ) (n : Notice) → notice_of number m (body.Batch ops tail) ≡ Some n → answer_in n ≡ stored_answer m (body.Batch ops tail) ∷ []
-batch_answers number m ops None n is = absurd (not_given is)
-batch_answers number m ops (Some tail) n is = ap answer_in (same_given is)
+batch_answers : (number : ℕ) (m : Contents) (ops : List Op) (tail : Option ℕ) (confirmed : Bool) (n : Notice) → notice_of number m (body.Batch ops tail confirmed) ≡ Some n → answer_in n ≡ stored_answer m (body.Batch ops tail confirmed) ∷ []
+batch_answers number m ops None confirmed n is = absurd (not_given is)
+batch_answers number m ops (Some tail) confirmed n is = ap answer_in (same_given is)
 
 pub answers : (number : ℕ) (m : Contents) (b : Body) (n : Notice) → notice_of number m b ≡ Some n → answer_in n ≡ stored_answer m b ∷ []
-answers number m (body.Batch ops tail) n is = batch_answers number m ops tail n is
-answers number m (body.Ask ask) n is = ap answer_in (same_given is)
+answers number m (body.Batch ops tail confirmed) n is = batch_answers number m ops tail confirmed n is
+answers number m (body.Ask ask free) n is = ap answer_in (same_given is)
 answers number m (body.Bind identity) n is = absurd (not_given is)
 answers number m body.Sync n is = absurd (not_given is)
 answers number m (body.Message sent) n is = absurd (not_given is)
@@ -153,8 +153,8 @@ answers number m body.Mend n is = absurd (not_given is)
 
 -- what entries write is the fold of their batches
 one_written : (m : Contents) (b : Body) → written_by m b ≡ apply m (flat_map (λ ops. ops) (batches_of (said_by b)))
-one_written m (body.Batch ops tail) = ap (apply m) (sym (append-nil ops))
-one_written m (body.Ask ask) = refl
+one_written m (body.Batch ops tail confirmed) = ap (apply m) (sym (append-nil ops))
+one_written m (body.Ask ask free) = refl
 one_written m (body.Bind identity) = refl
 one_written m body.Sync = refl
 one_written m (body.Message sent) = refl

@@ -72,8 +72,8 @@ unfit_identity fit.Late identity b is = refl
 
 bound_by : (b : Body) (identity : Option Object) → (identity_by b identity ≡ identity) ⊎ ((bound : Object) × (b ≡ body.Bind bound) × (identity_by b identity ≡ Some bound))
 bound_by (body.Bind bound) identity = inr (bound, refl, refl)
-bound_by (body.Batch batch tail) identity = inl refl
-bound_by (body.Ask ask) identity = inl refl
+bound_by (body.Batch batch tail confirmed) identity = inl refl
+bound_by (body.Ask ask free) identity = inl refl
 bound_by body.Sync identity = inl refl
 bound_by (body.Message message) identity = inl refl
 bound_by (body.Halt cause) identity = inl refl

@@ -8,7 +8,7 @@ use Rattle.storage_map.specs.Limits.{Object}
 use Rattle.storage_map.specs.declared.op.Op.{Op}
 use Rattle.timeline.specs.History.{Incarnation, History, batches_in, durable, kept_before, line, said_in}
 use Rattle.timeline.specs.Logs.{Fronted}
-use Rattle.timeline.specs.Passed.{Passed, Held, held_in, passed, bound_by, is_mend, is_followed}
+use Rattle.timeline.specs.Passed.{Passed, Held, held_in, follows as batch_follows, passed, bound_by, is_mend, is_followed}
 use Rattle.timeline.specs.Told.{said_by, batches_of}
 use Rattle.timeline.specs.declared.back_log.Stop.{Stop}
 use Rattle.timeline.specs.declared.entry.Body.{Body}
@@ -35,21 +35,21 @@ any_mend (x ∷ entries) e is = ap (λ (b : Bool). is_mend x.body || b) (any_men
 abbrev IsMarked : Held → Type 0
 IsMarked h = h.mended ≡ true
 
-mended_behind : (b : Body) (bodies : List Body) → list_any is_mend bodies ≡ true → ((n : ℕ) → All IsMarked (held_in n bodies)) → (n : ℕ) → All IsMarked (held_in n (b ∷ bodies))
-mended_behind (body.Batch ops tail) bodies any rest n = rest (n + 1)
-mended_behind (body.Message sent) bodies any rest n = All-cons IsMarked _ (held_in n bodies) any (rest n)
-mended_behind (body.Bind identity) bodies any rest n = rest n
-mended_behind (body.Ask ask) bodies any rest n = rest n
-mended_behind body.Sync bodies any rest n = rest n
-mended_behind (body.Halt cause) bodies any rest n = rest n
-mended_behind body.Mend bodies any rest n = rest n
+mended_behind : (b : Body) (bodies : List Body) → list_any is_mend bodies ≡ true → ((n k : ℕ) → All IsMarked (held_in n k bodies)) → (n k : ℕ) → All IsMarked (held_in n k (b ∷ bodies))
+mended_behind (body.Batch ops tail confirmed) bodies any rest n k = rest (n + 1) (batch_follows n k confirmed)
+mended_behind (body.Message sent) bodies any rest n k = All-cons IsMarked _ (held_in n k bodies) any (rest n k)
+mended_behind (body.Bind identity) bodies any rest n k = rest n k
+mended_behind (body.Ask ask free) bodies any rest n k = rest n k
+mended_behind body.Sync bodies any rest n k = rest n k
+mended_behind (body.Halt cause) bodies any rest n k = rest n k
+mended_behind body.Mend bodies any rest n k = rest n k
 
-marks : (entries : List Entry) (e : Entry) → e.body ≡ body.Mend → (n : ℕ) → All IsMarked (held_in n (said_in (entries ++ e ∷ [])))
-marks [] e is n = subst (λ (b : Body). All IsMarked (held_in n (b ∷ []))) (sym is) (All-nil IsMarked)
-marks (x ∷ entries) e is n = mended_behind x.body (said_in (entries ++ e ∷ [])) (any_mend entries e is) (marks entries e is) n
+marks : (entries : List Entry) (e : Entry) → e.body ≡ body.Mend → (n k : ℕ) → All IsMarked (held_in n k (said_in (entries ++ e ∷ [])))
+marks [] e is n k = subst (λ (b : Body). All IsMarked (held_in n k (b ∷ []))) (sym is) (All-nil IsMarked)
+marks (x ∷ entries) e is n k = mended_behind x.body (said_in (entries ++ e ∷ [])) (any_mend entries e is) (marks entries e is) n k
 
 pub are_mended : (entries : List Entry) (e : Entry) → e.body ≡ body.Mend → AreMended (entries ++ e ∷ [])
-are_mended entries e is = marks entries e is 0
+are_mended entries e is = marks entries e is 0 0
 
 module _ {D : Type 0} (moment_of : D → ℕ) (left_since : D → ℕ → List ℕ → Type 0) (object : Option Object) (start : List (List Op)) (opening : ℕ) (front : Fronted) where
   -- something is taken that writes nothing

@@ -22,7 +22,7 @@ use Rattle.output_gate.specs.Held.{passed_of, waiting_in, is_held_halt, has_halt
 use Rattle.output_gate.specs.Kept.{RecoversToPrefix}
 use Rattle.output_gate.specs.Passing.{AreMended}
 use Rattle.output_gate.specs.Releasing.{release_at}
-use Rattle.output_gate.specs.Serving.{IsEnded, IsUnmounted, IsAtEnd}
+use Rattle.output_gate.specs.Serving.{IsEnded, IsUnmounted, IsAtEnd, marks_of}
 use Rattle.output_gate.specs.Standing.{AreLogs, own_entries}
 use Rattle.output_gate.specs.Taking.{LogTook}
 use Rattle.output_gate.specs.declared.back.Back.{Back}
@@ -129,8 +129,8 @@ module _ {D : Type 0} (moment_of : D → ℕ) (left_since : D → ℕ → List �
     logged =
         let all : List Release = old.log.released.items ++ map (release_at (moment_of u.disk)) (passed_of h) in
         let tells : Type 0 = IsTold (told u.disk) in
-        subst (λ (b : Backed). IsLoggedDown tells b u.ending old.settled old.durable) (sym is)
-        (down_same tells tells (λ yes. yes) (backed old.log) u.ending old.settled old.durable (record (backed old.log) { released = all }) refl refl refl (λ front. released_place front (backed old.log) all) u.logged);
+        subst (λ (b : Backed). IsLoggedDown tells b u.ending (marks_of old) old.durable) (sym is)
+        (down_same tells tells (λ yes. yes) (backed old.log) u.ending (marks_of old) old.durable (record (backed old.log) { released = all }) refl refl refl (λ front. released_place front (backed old.log) all) u.logged);
     counts = counts_stay told faults_of u.disk u.disk (backed old.log) (backed log) refl (ap (λ (b : Backed). b.stops) is) (ap (λ (b : Backed). b.downs) is) u.counts;
   }
 
@@ -181,7 +181,7 @@ module _ {D : Type 0} (moment_of : D → ℕ) (left_since : D → ℕ → List �
       number = s.number ∙ ap (λ (b : Backed). suc (length b.stops)) (sym is);
       full = s.full;
     };
-    logged = subst (λ (b : Backed). IsLoggedDown (IsTold (told u.disk)) b u.ending old.settled old.durable) (sym is) u.logged;
+    logged = subst (λ (b : Backed). IsLoggedDown (IsTold (told u.disk)) b u.ending (marks_of old) old.durable) (sym is) u.logged;
     counts = counts_stay told faults_of u.disk u.disk (backed old.log) (backed log) refl (ap (λ (b : Backed). b.stops) is) (ap (λ (b : Backed). b.downs) is) u.counts;
   }
 
@@ -246,8 +246,8 @@ module _ {D : Type 0} (moment_of : D → ℕ) (left_since : D → ℕ → List �
         };
         logged =
             let tells : Type 0 = IsTold (told u.disk) in
-            subst (λ (b : Backed). IsLoggedDown tells b u.ending old.settled old.durable) (sym took.taken)
-            (down_took tells tells (λ yes. yes) (backed old.log) u.ending old.settled old.durable e u.safe.logs number u.logged);
+            subst (λ (b : Backed). IsLoggedDown tells b u.ending (marks_of old) old.durable) (sym took.taken)
+            (down_took tells tells (λ yes. yes) (backed old.log) u.ending (marks_of old) old.durable e u.safe.logs number u.logged);
         counts = counts_stay told faults_of u.disk u.disk (backed old.log) (backed log) refl (ap (λ (b : Backed). b.stops) took.taken) (ap (λ (b : Backed). b.downs) took.taken) u.counts;
       }
 

@@ -31,7 +31,7 @@ use Rattle.output_gate.specs.Held.{HaltsLast, halts_well, has_halt, is_held_halt
 use Rattle.output_gate.specs.Logs.{no_log}
 use Rattle.output_gate.specs.Mending.{HasBegun, HasMissed, Remounts, kept_at}
 use Rattle.output_gate.specs.Releasing.{Releases, Stays, released_log}
-use Rattle.output_gate.specs.Serving.{IsAsBefore, IsAtEnd, IsBackAs, IsEnded, IsMounted, IsServing, IsUnmounted, stop_of}
+use Rattle.output_gate.specs.Serving.{IsAsBefore, IsAtEnd, IsBackAs, IsEnded, IsMounted, IsServing, IsUnmounted, marks_of, stop_of}
 use Rattle.output_gate.specs.Standing.{AreLogs, older_of, own_entries, own_flights}
 use Rattle.output_gate.specs.Storing.{HasLimit, IsCauseOf, IsDiskOf, KeepsEnd}
 use Rattle.output_gate.specs.Taking.{fit_of, is_mounted_mode, is_wanted}
@@ -61,15 +61,15 @@ use Rattle.output_gate.proofs.Stored.{in_it, same_disk, same_journal, still_end}
 mounted_by : (f : Fit) (mode : Mode) (b : Body) → mode_after f mode b ≡ Mounted → mode ≡ Mounted
 mounted_by f Mounted b is = refl
 mounted_by fit.Down (Wanted e) body.Mend is = is
-mounted_by fit.Down (Wanted e) (body.Batch ops tail) is = is
-mounted_by fit.Down (Wanted e) (body.Ask ask) is = is
+mounted_by fit.Down (Wanted e) (body.Batch ops tail confirmed) is = is
+mounted_by fit.Down (Wanted e) (body.Ask ask free) is = is
 mounted_by fit.Down (Wanted e) (body.Bind object) is = is
 mounted_by fit.Down (Wanted e) body.Sync is = is
 mounted_by fit.Down (Wanted e) (body.Message sent) is = is
 mounted_by fit.Down (Wanted e) (body.Halt c) is = is
 mounted_by fit.Down (Down e) body.Mend is = absurd (true_false (sym (ap is_mounted_mode is)))
-mounted_by fit.Down (Down e) (body.Batch ops tail) is = is
-mounted_by fit.Down (Down e) (body.Ask ask) is = is
+mounted_by fit.Down (Down e) (body.Batch ops tail confirmed) is = is
+mounted_by fit.Down (Down e) (body.Ask ask free) is = is
 mounted_by fit.Down (Down e) (body.Bind object) is = is
 mounted_by fit.Down (Down e) body.Sync is = is
 mounted_by fit.Down (Down e) (body.Message sent) is = is
@@ -94,8 +94,8 @@ asked_at (Down e) ending (inr down) = absurd (true_false (ap is_wanted down))
 
 at_end_by : (f : Fit) (mode : Mode) (b : Body) (ending : Ending) → IsAtEnd ending (mode_after f mode b) → IsAtEnd ending mode
 at_end_by fit.Down mode body.Mend ending at = asked_at mode ending at
-at_end_by fit.Down mode (body.Batch ops tail) ending at = at
-at_end_by fit.Down mode (body.Ask ask) ending at = at
+at_end_by fit.Down mode (body.Batch ops tail confirmed) ending at = at
+at_end_by fit.Down mode (body.Ask ask free) ending at = at
 at_end_by fit.Down mode (body.Bind object) ending at = at
 at_end_by fit.Down mode body.Sync ending at = at
 at_end_by fit.Down mode (body.Message sent) ending at = at
@@ -108,8 +108,8 @@ at_end_by fit.Late mode b ending at = at
 may_bind : (identity : Option Object) (b : Body) (object : Object) → fits_mounted b (is_some identity) ≡ true → MayBe (identity_by b identity) object → MayBe identity object
 may_bind None b object fits may = tt
 may_bind (Some known) (body.Bind bound) object fits may = absurd (true_false (sym fits))
-may_bind (Some known) (body.Batch ops tail) object fits may = may
-may_bind (Some known) (body.Ask ask) object fits may = may
+may_bind (Some known) (body.Batch ops tail confirmed) object fits may = may
+may_bind (Some known) (body.Ask ask free) object fits may = may
 may_bind (Some known) body.Sync object fits may = may
 may_bind (Some known) (body.Message sent) object fits may = may
 may_bind (Some known) (body.Halt c) object fits may = may
@@ -177,9 +177,9 @@ module _ {D : Type 0} (moment_of : D → ℕ) (left_since : D → ℕ → List �
   order_of back (inr u) = u.logged.ordered
 
   ended_of : (back : Back D) → Known back → (e : Entry) (c : Comes (backed back.log) e) (front : Fronted)
-      → HasEnded back.settled (incarnation_at front (backed back.log) c.last) (incarnations front (backed back.log) c.last)
-  ended_of back (inl m) e c front = ended_at (backed back.log) e c front back.settled (m.logged.placed front).ended
-  ended_of back (inr u) e c front = (ending_at (backed back.log) e c front u.ending back.settled (u.logged.ended front)).ended
+      → HasEnded (marks_of back) (incarnation_at front (backed back.log) c.last) (incarnations front (backed back.log) c.last)
+  ended_of back (inl m) e c front = ended_at (backed back.log) e c front (marks_of back) (m.logged.placed front).ended
+  ended_of back (inr u) e c front = (ending_at (backed back.log) e c front u.ending (marks_of back) (u.logged.ended front)).ended
 
   -- The batches of a mounted incarnation that have not flown are staged.
   staged_is : (back : Back D) (m : IsMounted moment_of left_since told image faults_of start opening sound back)
@@ -220,10 +220,10 @@ module _ {D : Type 0} (moment_of : D → ℕ) (left_since : D → ℕ → List �
         let filled = subst (AreFilled limit end object) (ap (history_at front) before) w.filled in
         written_on limit end old new front object
         (ap (λ (p : Place). frames_in object (history_at front p)) behind_it
-        ∙ late_frames limit end object front (suc c.last) [] (own_flights b) old.settled i rest e ended filled
+        ∙ late_frames limit end object front (suc c.last) [] (own_flights b) (marks_of old) i rest e ended filled
         ∙ sym (ap (λ (p : Place). frames_in object (history_at front p)) before))
         (subst (λ (p : Place). AreFilled limit end object (history_at front p)) (sym behind_it)
-        (late_filled limit end object front (suc c.last) [] (own_flights b) old.settled i rest e ended filled))
+        (late_filled limit end object front (suc c.last) [] (own_flights b) (marks_of old) i rest e ended filled))
         (λ now. sym mode ∙ now) (λ ending now. subst (IsAtEnd ending) mode now) (λ now. keeps) w
 
     enters_as : (known : Known old) (e : Entry) → Enters old new e → KeepsEnd old.store new.store → (f : Fit) → fit_of old e ≡ f → AreWritten limit end new
@@ -480,8 +480,8 @@ module _ {D : Type 0} (moment_of : D → ℕ) (left_since : D → ℕ → List �
           at = ap (place_of front) begun.begins.log
               ∙ place_followed front (backed old.log) (record { kept = kept_now; cause = ending.cause }) u.safe.logs (length old.log.ends.items) u.safe.gone refl ended.ended ended.taken last rest (ended.place front)
 
-          how : IsEnding u.ending old.settled last rest
-          how = subst (AreEnding u.ending old.settled) (ap (λ (p : Place). p.older) (ended.place front)) (u.logged.ended front)
+          how : IsEnding u.ending (marks_of old) last rest
+          how = subst (AreEnding u.ending (marks_of old)) (ap (λ (p : Place). p.older) (ended.place front)) (u.logged.ended front)
 
           flown_is : ending.flown ≡ sum last.flights
           flown_is = ap (λ (x : Ending). x.flown) (sym e_is) ∙ how.is_flown ∙ ap (λ (o : Option Stop). durable_by o last.flights) how.ended.stopped

@@ -5,9 +5,12 @@ use Rattle.storage_map.specs.Contents.{Contents}
 use Rattle.storage_map.specs.Limits.{Object}
 use Rattle.storage_map.specs.declared.op.Op.{Op}
 use Rattle.timeline.specs.Logs.{Backed, backed}
+use Rattle.timeline.specs.Passed.{follows}
 use Rattle.timeline.specs.declared.back_log.Stop.{Stop}
+use Rattle.timeline.specs.declared.caller.Cause.{Cause}
 use Rattle.timeline.specs.declared.caller.Failure.TheVariants as failure
 use Rattle.timeline.specs.declared.entry.Body.TheVariants as body
+use Rattle.timeline.specs.declared.message.Message.{Message}
 use Rattle.timeline.specs.declared.message.Message.TheVariants as message
 use Rattle.output_gate.specs.declared.held.Held.{Held}
 use Rattle.output_gate.specs.declared.held.HeldBody.TheVariants as held
@@ -44,27 +47,39 @@ notice_as _ e m = None
 abbrev pub notice_at : {D : Type 0} → Back D → Entry → Option Notice
 notice_at back e = notice_as (fit_of back e) e back.cache
 
--- What is held of an entry of the newest incarnation, by the batches before it and the incarnation of whose line they are.
-abbrev pub held_by : (needs since number : ℕ) → Body → List Held
-held_by needs since number (body.Message sent) = record { body = held.Message sent; needs = needs; since = since } ∷ []
-held_by needs since number body.Sync = record { body = held.Sync number; needs = needs; since = since } ∷ []
-held_by needs since number (body.Halt cause) = record { body = held.Halt cause; needs = needs; since = since } ∷ []
-held_by needs since number _ = []
+-- What is held of an entry of the newest incarnation, by the batches before it, those up to the last confirmed one, and the incarnation
+-- of whose line they are: a message needs the latter, a sync and a halt need all.
+abbrev pub held_by : (before needs since number : ℕ) → Body → List Held
+held_by before needs since number (body.Message sent) = record { body = held.Message sent; needs = needs; since = since } ∷ []
+held_by before needs since number body.Sync = record { body = held.Sync number; needs = before; since = since } ∷ []
+held_by before needs since number (body.Halt cause) = record { body = held.Halt cause; needs = before; since = since } ∷ []
+held_by before needs since number _ = []
 
--- Of a reply of an incarnation that has ended at an append the failure is held, which needs what was durable at that end.
-abbrev pub late_by : Option Stop → (settled : ℕ) → (incarnation : ℕ) → Body → List Held
-late_by (Some stop) settled incarnation (body.Message (message.Reply to result)) =
-    record { body = held.Message (message.Reply to (Err (failure.Reset stop.cause))); needs = settled; since = incarnation } ∷ []
-late_by _ settled incarnation b = []
+-- A message of an incarnation that has ended at an append is held where it still passes; else, of a reply, the failure, which needs what
+-- was durable at that end.
+abbrev pub late_message : (late : Option ℕ) → Cause → (settled incarnation : ℕ) → Message → List Held
+late_message (Some needs) c settled incarnation sent = record { body = held.Message sent; needs = needs; since = incarnation } ∷ []
+late_message None c settled incarnation (message.Reply to result) =
+    record { body = held.Message (message.Reply to (Err (failure.Reset c))); needs = settled; since = incarnation } ∷ []
+late_message None c settled incarnation sent = []
+
+abbrev pub late_by : Option Stop → (late : Option ℕ) → (settled incarnation : ℕ) → Body → List Held
+late_by (Some stop) late settled incarnation (body.Message sent) = late_message late stop.cause settled incarnation sent
+late_by _ late settled incarnation b = []
+
+-- Behind a confirmed batch that comes late none passes.
+abbrev pub late_after : Body → Option ℕ → Option ℕ
+late_after (body.Batch ops tail true) late = None
+late_after _ late = late
 
 abbrev pub late_held : {D : Type 0} → Back D → Entry → List Held
-late_held back e = late_by (slice_get back.log.stops.items (length back.log.stops.items - 1)) back.settled e.incarnation e.body
+late_held back e = late_by (slice_get back.log.stops.items (length back.log.stops.items - 1)) back.late back.settled e.incarnation e.body
 
 -- what is held of an entry
 abbrev pub held_as : {D : Type 0} → Fit → Back D → Entry → List Held
 held_as fit.Unfit back e = []
-held_as fit.Own back e = held_by back.before back.number e.number e.body
-held_as fit.Down back e = held_by back.before (back.number - 1) e.number e.body
+held_as fit.Own back e = held_by back.before back.needs back.number e.number e.body
+held_as fit.Down back e = held_by back.before back.before (back.number - 1) e.number e.body
 held_as fit.Late back e = late_held back e
 
 -- A `Mend` of an incarnation that is down asks for a mounting; nothing else that is taken changes how a back stands.
@@ -82,12 +97,25 @@ mode_after _ mode b = mode
 
 -- A batch of the newest incarnation is one more before the next message.
 abbrev pub before_by : Body → ℕ → ℕ
-before_by (body.Batch ops tail) before = before + 1
+before_by (body.Batch ops tail confirmed) before = before + 1
 before_by _ before = before
 
 abbrev pub before_after : Fit → ℕ → Body → ℕ
 before_after fit.Own before b = before_by b before
 before_after _ before b = before
+
+abbrev pub needs_behind : Bool → (before needs : ℕ) → ℕ
+needs_behind true before needs = before
+needs_behind false before needs = needs
+
+-- A confirmed one is needed by the next message, with all before it.
+abbrev pub needs_by : Body → (before needs : ℕ) → ℕ
+needs_by (body.Batch ops tail confirmed) before needs = follows before needs confirmed
+needs_by _ before needs = needs
+
+abbrev pub needs_after : Fit → (before needs : ℕ) → Body → ℕ
+needs_after fit.Own before needs b = needs_by b before needs
+needs_after _ before needs b = needs
 
 -- A `Bind` makes the slot's object known.
 abbrev pub identity_by : Body → Option Object → Option Object
@@ -105,6 +133,7 @@ pub record Enters {D : Type 0} (old new : Back D) (e : Entry) : Type 0 where
   pub held : new.held.items ≡ old.held.items ++ held_as (fit_of old e) old e
   pub mode : new.mode ≡ mode_after (fit_of old e) old.mode e.body
   pub before : new.before ≡ before_after (fit_of old e) old.before e.body
+  pub needs : new.needs ≡ needs_after (fit_of old e) old.before old.needs e.body
   pub identity : new.identity ≡ identity_after (fit_of old e) old.identity e.body
   pub durable : new.durable ≡ old.durable
   pub limit : new.limit ≡ old.limit
@@ -147,9 +176,10 @@ pub record TakesOwn {D : Type 0} (moment_of : D → ℕ) (left_since : D → ℕ
     (old new : Back D) (number : ℕ) (b : Body) : Type 0 where
   pub log : backed new.log ≡ record (backed old.log) { taken = old.log.taken.items ++ record { incarnation = old.number; number = number; body = b } ∷ [] }
   pub stuck : new.stuck ≡ old.stuck
-  pub holds : new.held.items ≡ old.held.items ++ held_by old.before old.number number b
+  pub holds : new.held.items ≡ old.held.items ++ held_by old.before old.needs old.number number b
   pub mode : new.mode ≡ old.mode
   pub before : new.before ≡ before_by b old.before
+  pub needs : new.needs ≡ needs_by b old.before old.needs
   pub identity : new.identity ≡ identity_by b old.identity
   pub durable : new.durable ≡ old.durable
   pub limit : new.limit ≡ old.limit
@@ -179,9 +209,10 @@ pub record TakesDown {D : Type 0} (moment_of : D → ℕ) (left_since : D → �
     (old new : Back D) (number : ℕ) (b : Body) : Type 0 where
   pub log : backed new.log ≡ record (backed old.log) { taken = old.log.taken.items ++ record { incarnation = old.number; number = number; body = b } ∷ [] }
   pub stuck : new.stuck ≡ old.stuck
-  pub holds : new.held.items ≡ old.held.items ++ held_by old.before (old.number - 1) number b
+  pub holds : new.held.items ≡ old.held.items ++ held_by old.before old.before (old.number - 1) number b
   pub mode : new.mode ≡ mode_by b old.mode
   pub before : new.before ≡ old.before
+  pub needs : new.needs ≡ old.needs
   pub identity : new.identity ≡ old.identity
   pub durable : new.durable ≡ old.durable
   pub limit : new.limit ≡ old.limit
@@ -199,4 +230,4 @@ pub record FailsDown {D : Type 0} (moment_of : D → ℕ) (left_since : D → �
 pub record TakesLate {D : Type 0} (old new : Back D) (e : Entry) : Type 0 where
   pub log : backed new.log ≡ record (backed old.log) { taken = old.log.taken.items ++ e ∷ [] }
   pub holds : new.held.items ≡ old.held.items ++ late_held old e
-  pub same : new ≡ record old { held = new.held; log = new.log }
+  pub same : new ≡ record old { held = new.held; late = late_after e.body old.late; log = new.log }

@@ -1,5 +1,5 @@
 -- Logs that no back has, for the examples.
-use Rattle.std.specs.Prelude.{ℕ, false, List, [], ◌∷◌, Option, None}
+use Rattle.std.specs.Prelude.{ℕ, true, false, List, [], ◌∷◌, Option, None}
 use Rattle.batch_journal.specs.Frames.{header_end}
 use Rattle.storage_map.specs.Limits.{Object}
 use Rattle.storage_map.specs.declared.op.Op.{Op}
@@ -38,7 +38,7 @@ abbrev pub early : Stop
 early = record { cause = cause.Full 4097 4096; flights = 0; batches = 1; read = false }
 
 abbrev pub full_early : Backed
-full_early = record no_log { taken = record { incarnation = 1; number = 1; body = body.Batch (DeleteAll ∷ []) None } ∷ []; stops = early ∷ [] }
+full_early = record no_log { taken = record { incarnation = 1; number = 1; body = body.Batch (DeleteAll ∷ []) None true } ∷ []; stops = early ∷ [] }
 
 -- The object a of the class C.
 abbrev pub some_object : Object

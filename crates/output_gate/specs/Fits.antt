@@ -24,7 +24,7 @@ comes_behind (Some last) e = if last.incarnation == e.incarnation then not (is_h
 -- a turn ends an incarnation.
 abbrev pub fits_mounted : Body → (is_known : Bool) → Bool
 fits_mounted (body.Bind identity) is_known = not is_known
-fits_mounted (body.Batch ops tail) is_known = is_known
+fits_mounted (body.Batch ops tail confirmed) is_known = is_known
 fits_mounted (body.Halt c) is_known = is_halting c
 fits_mounted body.Mend is_known = false
 fits_mounted _ is_known = true

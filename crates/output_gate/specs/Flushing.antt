@@ -29,6 +29,7 @@ pub record FliesAll {D : Type 0} (old new : Back D) : Type 0 where
   pub held : new.held ≡ old.held
   pub cache : new.cache ≡ old.cache
   pub before : new.before ≡ old.before
+  pub needs : new.needs ≡ old.needs
   pub durable : new.durable ≡ old.before
   pub limit : new.limit ≡ old.limit
   pub identity : new.identity ≡ old.identity
@@ -49,6 +50,7 @@ pub record Ends {D : Type 0} (faults_of : D → ℕ) (old new : Back D) : Type 0
   pub end : (ending : Ending) → new.mode ≡ Wanted ending → ending.end ≡ end_of journal
   pub held : new.held.items ≡ flat_map (stays old.durable old.number cause) old.held.items
   pub before : new.before ≡ old.durable
+  pub needs : new.needs ≡ old.durable
   pub durable : new.durable ≡ old.durable
   pub limit : new.limit ≡ old.limit
   pub identity : new.identity ≡ old.identity

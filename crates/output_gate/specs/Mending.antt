@@ -45,6 +45,7 @@ pub record Begins {D : Type 0} (old new : Back D) (ending : Ending) (journal : J
     mode = Mounted;
     durable = old.durable + (kept_at ending (end_of journal) - ending.flown);
     before = old.durable + (kept_at ending (end_of journal) - ending.flown);
+    needs = old.durable + (kept_at ending (end_of journal) - ending.flown);
     log = new.log;
   }
 

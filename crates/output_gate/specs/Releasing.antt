@@ -48,6 +48,11 @@ abbrev pub released_messages : HeldBody → List Sent
 released_messages (Message sent) = sent ∷ []
 released_messages _ = []
 
+-- Behind a halt the next message needs the batches of the incarnations so far.
+abbrev pub needs_released : {D : Type 0} → Back D → HeldBody → ℕ
+needs_released back (Halt cause) = back.before
+needs_released back _ = back.needs
+
 -- The first of what is held goes; the back stands and counts as before, over the same disk and map.
 pub record Releases {D : Type 0} (moment_of : D → ℕ) (old new : Back D) (sent_before sent : List Notice) (out_before out : List Sent) : Type 0 where
   pub first : Held
@@ -63,6 +68,7 @@ pub record Releases {D : Type 0} (moment_of : D → ℕ) (old new : Back D) (sen
   pub stuck : new.stuck ≡ old.stuck
   pub mode : new.mode ≡ old.mode
   pub before : new.before ≡ old.before
+  pub needs : new.needs ≡ needs_released old first.body
   pub durable : new.durable ≡ old.durable
   pub limit : new.limit ≡ old.limit
   pub settled : new.settled ≡ old.settled

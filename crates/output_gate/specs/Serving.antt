@@ -1,5 +1,5 @@
 -- A back that serves, and one whose incarnation has ended at an append.
-use Rattle.std.specs.Prelude.{◌≡◌, ◌≢◌, ◌⊎◌, ℕ, suc, ◌+◌, ◌-◌, ◌≤◌, Bool, true, false, not, List, [], ◌∷◌, ◌++◌, length, Option, Some, None, Result, OnOk, OnErr, vec_len}
+use Rattle.std.specs.Prelude.{◌≡◌, ◌≢◌, ◌⊎◌, ℕ, suc, ◌+◌, ◌-◌, ◌≤◌, nat_lt, Bool, true, false, not, List, [], ◌∷◌, ◌++◌, length, Option, Some, None, Result, OnOk, OnErr, vec_len}
 use Rattle.std.specs.List.{flat_map}
 use Rattle.std.specs.Vec.{vec_capacity}
 use Rattle.batch_journal.specs.Frames.{Frame, journal_bytes, batches_in}
@@ -21,7 +21,7 @@ use Rattle.timeline.specs.declared.back_log.Stop.{Stop}
 use Rattle.timeline.specs.declared.caller.Cause.{Cause}
 use Rattle.output_gate.specs.Counted.{AreCounted}
 use Rattle.output_gate.specs.Down.{place_down, IsDown}
-use Rattle.output_gate.specs.Ended.{IsLogged, IsLoggedDown}
+use Rattle.output_gate.specs.Ended.{IsLogged, IsLoggedDown, Marks, late_if}
 use Rattle.output_gate.specs.Fits.{is_halt, last_of}
 use Rattle.output_gate.specs.Gate.{place_of, IsGate}
 use Rattle.output_gate.specs.Held.{stays, waiting_in, has_halt, HaltsLast}
@@ -85,13 +85,16 @@ pub record IsServing {D : Type 0} (moment_of : D → ℕ) (left_since : D → �
   pub nameless : back.identity ≡ None → (staged ≡ []) × ((object : Object) → IsStaged journal object [])
   pub cache : sound ≡ true → back.cache ≡ apply nothing (flat_map (λ ops. ops) (start ++ flown ++ staged))
 
+abbrev pub marks_of : {D : Type 0} → Back D → Marks
+marks_of back = record { settled = back.settled; late = back.late; needs = back.needs }
+
 -- The newest incarnation is mounted.
 pub record IsMounted {D : Type 0} (moment_of : D → ℕ) (left_since : D → ℕ → List ℕ → Type 0) (told : D → Option (List ℕ)) (image : D → List ℕ → Type 0) (faults_of : D → ℕ)
     (start : List (List Op)) (opening : ℕ) (sound : Bool) (back : Back D) : Type 0 where
   pub journal : Journal D
   pub safe : IsSafe told image journal back
   pub serves : IsTold (told (disk_in journal)) → IsServing moment_of left_since told image start opening sound journal back
-  pub logged : IsLogged (IsTold (told (disk_in journal))) (backed back.log) back.settled back.own back.before back.durable
+  pub logged : IsLogged (IsTold (told (disk_in journal))) (backed back.log) (marks_of back) back.own back.before back.durable
   pub counts : AreCounted (IsTold (told (disk_in journal))) (backed back.log) (faults_of (disk_in journal))
 
 -- It isn't mounted, since an end of which this is known.
@@ -148,7 +151,7 @@ pub record IsUnmounted {D : Type 0} (moment_of : D → ℕ) (left_since : D → 
   pub ending : Ending
   pub safe : IsSafeEnded disk ending back
   pub ended : IsTold (told disk) → IsEnded moment_of left_since image start opening disk ending back
-  pub logged : IsLoggedDown (IsTold (told disk)) (backed back.log) ending back.settled back.durable
+  pub logged : IsLoggedDown (IsTold (told disk)) (backed back.log) ending (marks_of back) back.durable
   pub counts : AreCounted (IsTold (told disk)) (backed back.log) (faults_of disk)
 
 -- What holds of a back whose cache is sound, or needn't be; and a step from such a back to such.
@@ -226,8 +229,10 @@ pub record Stops {D : Type 0} (old new : Back D) (fault : Fault) : Type 0 where
     held = new.held;
     mode = Wanted (ending_of old fault);
     before = old.durable;
+    needs = old.durable;
     own = 0;
     settled = old.durable;
+    late = late_if (nat_lt old.durable old.needs) old.needs;
     unflushed = 0;
     number = old.number + 1;
   }

@@ -20,8 +20,8 @@ use Rattle.output_gate.specs.declared.fit.Fit.TheVariants as fit
 
 -- What the front is told at once of an entry that is taken while storage stands so.
 abbrev pub notice_of : ℕ → Contents → Body → Option Notice
-notice_of number m (body.Batch ops (Some tail)) = Some (notice.Taken number (counted m ops tail))
-notice_of number m (body.Ask ask) = Some (notice.Read number (reading m ask))
+notice_of number m (body.Batch ops (Some tail) confirmed) = Some (notice.Taken number (counted m ops tail))
+notice_of number m (body.Ask ask free) = Some (notice.Read number (reading m ask))
 notice_of number m _ = None
 
 -- no more is taken while so many bytes, or more, are unflushed

@@ -61,8 +61,12 @@ pub struct Back<D> {
     pub(crate) before: u64,
     pub(crate) durable: u64,
     pub(crate) own: u64,
+    // of the batches before the next message those up to the last confirmed one, which it needs
+    pub(crate) needs: u64,
     // the batches that were durable at the last end at an append
     pub(crate) settled: u64,
+    // what a message of the incarnation that ended then needs, where it still leaves as it is
+    pub(crate) late: Option<u64>,
     // the encoded bytes of the batches that are taken and not durable
     pub(crate) unflushed: u64,
     // the number of the newest incarnation
@@ -85,7 +89,9 @@ impl<D: Drop> Drop for Back<D> {
             before: _,
             durable: _,
             own: _,
+            needs: _,
             settled: _,
+            late: _,
             unflushed: _,
             number: _,
             log,
@@ -135,7 +141,9 @@ impl<D: Disk> Back<D> {
             before: 0,
             durable: 0,
             own: 0,
+            needs: 0,
             settled: 0,
+            late: None,
             unflushed: 0,
             number: 1,
             log: BackLog {
@@ -175,7 +183,9 @@ impl<D: Disk> Back<D> {
             before: _,
             durable: _,
             own: _,
+            needs: _,
             settled: _,
+            late: _,
             unflushed: _,
             number: _,
             log,

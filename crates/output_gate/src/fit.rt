@@ -45,7 +45,7 @@ pub(crate) fn fits_mounted(body: &Body, is_known: bool) -> bool
         Body::Batch { .. } => is_known,
         Body::Halt(cause) => is_halting(*cause),
         Body::Mend => false,
-        Body::Ask(_) | Body::Sync | Body::Message(_) => true,
+        Body::Ask { .. } | Body::Sync | Body::Message(_) => true,
     }
 }
 

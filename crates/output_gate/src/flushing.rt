@@ -1,5 +1,6 @@
 //! Appending what was taken.
-ghost use Rattle.std.specs.Prelude.{◌≡◌, ◌≢◌};
+ghost use Rattle.std.specs.Prelude.{◌≡◌, ◌≢◌, ◌==◌, not, nat_lt};
+ghost use Rattle.output_gate.specs.Ended.{late_if};
 ghost use Rattle.timeline.specs.declared.notice.Stepped.TheVariants.{Did, Nothing};
 ghost use Rattle.output_gate.specs.Serving.{CanServe, KeepsBack, is_stopped, CanLand, Lands, CanStop, Stops};
 ghost use Rattle.output_gate.specs.Flushing.{Flushes};
@@ -33,6 +34,13 @@ impl<D: Disk> Back<D> {
         Stepped::Did
     }
 
+    /// Whether batches were taken that no flush has made durable.
+    pub fn has_unflushed(&self) -> bool
+        ensures { result ≡ not (self.now.before == self.now.durable) }
+    {
+        self.before != self.durable
+    }
+
     // The append wrote all that was staged.
     fn land(&mut self)
         requires { CanLand self.old }
@@ -49,6 +57,7 @@ impl<D: Disk> Back<D> {
         ensures { Stops self.old self.new fault }
     {
         let Fault { cause, end } = fault;
+        self.late = self.late_needs();
         let flights = self.log.flights.as_slice().len() as u64;
         let stop = Stop {
             cause,
@@ -67,8 +76,20 @@ impl<D: Disk> Back<D> {
         self.mode = Mode::Wanted(ending);
         self.settled = self.durable;
         self.before = self.durable;
+        self.needs = self.durable;
         self.own = 0;
         self.unflushed = 0;
         self.number += 1;
+    }
+
+    // What a message behind the end of this incarnation needs, where it still passes.
+    fn late_needs(&self) -> Option<u64>
+        ensures { result ≡ late_if (nat_lt self.now.durable self.now.needs) self.now.needs }
+    {
+        if self.durable < self.needs {
+            None
+        } else {
+            Some(self.needs)
+        }
     }
 }

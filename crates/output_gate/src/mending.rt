@@ -154,6 +154,7 @@ impl<D: Disk> Back<D> {
         self.mode = Mode::Mounted;
         self.durable += kept - ending.flown;
         self.before = self.durable;
+        self.needs = self.durable;
         let cause = ending.cause;
         self.log.ends.push(End { kept, cause }).unwrap();
         Notice::Fresh {

@@ -147,6 +147,7 @@ impl<D: Disk> Back<D> {
         drop_first(&mut self.held);
         log_halt(&mut self.log, cause, self.own);
         self.own = 0;
+        self.needs = self.before;
         self.number = incarnation;
         Ok(())
     }

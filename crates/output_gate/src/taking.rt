@@ -6,7 +6,8 @@ ghost use Rattle.storage_map.specs.Limits.{Object, IsObject};
 ghost use Rattle.batch_journal.specs.Rest.{CanStage};
 ghost use Rattle.batch_journal.specs.declared.journal.Journal.{Journal};
 ghost use Rattle.timeline.specs.declared.notice.Stepped.TheVariants.{Did, Nothing};
-ghost use Rattle.output_gate.specs.Entering.{Enters, IsIdle, Takes, LosesEntry, CanTake, TakesOwn, FailsOwn, CanTakeDown, TakesDown, FailsDown, TakesLate, late_held, notice_at};
+ghost use Rattle.output_gate.specs.Entering.{Enters, IsIdle, Takes, LosesEntry, CanTake, TakesOwn, FailsOwn, CanTakeDown, TakesDown, FailsDown, TakesLate, notice_at};
+ghost use Rattle.output_gate.specs.Entering as entering;
 ghost use Rattle.output_gate.specs.Serving.{CanServe, CanServeAs, KeepsBack, KeepsBackAs, StopsBy, is_stopped, IsAsBefore};
 ghost use Rattle.output_gate.specs.Storing.{Stages, KeepsDisk};
 ghost use Rattle.output_gate.specs.Taking as taking;
@@ -216,9 +217,13 @@ impl<D: Disk> Back<D> {
                 self.take_bind(number, identity)?;
                 Ok(None)
             }
-            Body::Batch { batch, tail } => self.take_batch(number, batch, tail),
-            Body::Ask(ask) => {
-                let notice = self.take_ask(number, ask)?;
+            Body::Batch {
+                batch,
+                tail,
+                confirmed,
+            } => self.take_batch(number, batch, tail, confirmed),
+            Body::Ask { ask, free } => {
+                let notice = self.take_ask(number, ask, free)?;
                 Ok(Some(notice))
             }
             Body::Message(message) => {
@@ -242,7 +247,7 @@ impl<D: Disk> Back<D> {
         ensures took { OnOk result (TakesOwn D.moment_of D.left_since D.told D.image D.faults_of self.old self.new number Body.Sync) }
         ensures failed { OnErr result (FailsOwn D.moment_of D.left_since D.told D.image D.faults_of self.old self.new) }
     {
-        self.hold(HeldBody::Sync { number }, self.number)?;
+        self.hold(HeldBody::Sync { number }, self.before, self.number)?;
         self.add(number, Body::Sync);
         Ok(())
     }
@@ -252,7 +257,7 @@ impl<D: Disk> Back<D> {
         ensures took { OnOk result (TakesOwn D.moment_of D.left_since D.told D.image D.faults_of self.old self.new number (Body.Halt cause)) }
         ensures failed { OnErr result (FailsOwn D.moment_of D.left_since D.told D.image D.faults_of self.old self.new) }
     {
-        self.hold(HeldBody::Halt(cause), self.number)?;
+        self.hold(HeldBody::Halt(cause), self.before, self.number)?;
         self.add(number, Body::Halt(cause));
         Ok(())
     }
@@ -268,33 +273,54 @@ impl<D: Disk> Back<D> {
         Ok(())
     }
 
-    fn take_batch(&mut self, number: u64, batch: Batch, tail: Option<u32>) -> Mem<Option<Notice>>
-        requires { CanTake D.moment_of D.left_since D.told D.image D.faults_of self.old number (Body.Batch batch tail) }
-        ensures notice { IfOk result (λ notice. notice ≡ notice_of number self.old.cache (Body.Batch batch tail)) }
-        ensures took { OnOk result (TakesOwn D.moment_of D.left_since D.told D.image D.faults_of self.old self.new number (Body.Batch batch tail)) }
+    fn take_batch(
+        &mut self,
+        number: u64,
+        batch: Batch,
+        tail: Option<u32>,
+        confirmed: bool,
+    ) -> Mem<Option<Notice>>
+        requires { CanTake D.moment_of D.left_since D.told D.image D.faults_of self.old number (Body.Batch batch tail confirmed) }
+        ensures notice { IfOk result (λ notice. notice ≡ notice_of number self.old.cache (Body.Batch batch tail confirmed)) }
+        ensures took { OnOk result (TakesOwn D.moment_of D.left_since D.told D.image D.faults_of self.old self.new number (Body.Batch batch tail confirmed)) }
         ensures failed { OnErr result (FailsOwn D.moment_of D.left_since D.told D.image D.faults_of self.old self.new) }
     {
         let count = self.cache.take(&batch, tail.unwrap_or(0))?;
         let size = batch_size(&batch);
         self.stage(&batch)?;
-        self.add(number, Body::Batch { batch, tail });
+        let body = Body::Batch {
+            batch,
+            tail,
+            confirmed,
+        };
+        self.add(number, body);
         self.before += 1;
         self.own += 1;
         self.unflushed += size;
+        self.follow(confirmed);
         match tail {
             Some(_) => Ok(Some(Notice::Taken { number, count })),
             None => Ok(None),
         }
     }
 
-    fn take_ask(&mut self, number: u64, ask: StoreAsk) -> Mem<Notice>
-        requires { CanTake D.moment_of D.left_since D.told D.image D.faults_of self.old number (Body.Ask ask) }
-        ensures notice { IfOk result (λ notice. Some notice ≡ notice_of number self.old.cache (Body.Ask ask)) }
-        ensures took { OnOk result (TakesOwn D.moment_of D.left_since D.told D.image D.faults_of self.old self.new number (Body.Ask ask)) }
+    // The next message needs the batch that was taken just now, and all before it, where it is confirmed.
+    fn follow(&mut self, confirmed: bool)
+        ensures { self.new ≡ record self.old { needs = entering.needs_behind confirmed self.old.before self.old.needs } }
+    {
+        if confirmed {
+            self.needs = self.before;
+        }
+    }
+
+    fn take_ask(&mut self, number: u64, ask: StoreAsk, free: bool) -> Mem<Notice>
+        requires { CanTake D.moment_of D.left_since D.told D.image D.faults_of self.old number (Body.Ask ask free) }
+        ensures notice { IfOk result (λ notice. Some notice ≡ notice_of number self.old.cache (Body.Ask ask free)) }
+        ensures took { OnOk result (TakesOwn D.moment_of D.left_since D.told D.image D.faults_of self.old self.new number (Body.Ask ask free)) }
         ensures failed { OnErr result (FailsOwn D.moment_of D.left_since D.told D.image D.faults_of self.old self.new) }
     {
         let reading = self.cache.answer(&ask)?;
-        self.add(number, Body::Ask(ask));
+        self.add(number, Body::Ask { ask, free });
         Ok(Notice::Read { number, reading })
     }
 
@@ -304,7 +330,7 @@ impl<D: Disk> Back<D> {
         ensures failed { OnErr result (FailsOwn D.moment_of D.left_since D.told D.image D.faults_of self.old self.new) }
     {
         let copy = message.copy()?;
-        self.hold(HeldBody::Message(copy), self.number)?;
+        self.hold(HeldBody::Message(copy), self.needs, self.number)?;
         self.add(number, Body::Message(message));
         Ok(())
     }
@@ -322,7 +348,7 @@ impl<D: Disk> Back<D> {
             }
             Body::Message(message) => {
                 let copy = message.copy()?;
-                self.hold(HeldBody::Message(copy), self.number - 1)?;
+                self.hold(HeldBody::Message(copy), self.before, self.number - 1)?;
                 self.add(number, Body::Message(message));
                 Ok(())
             }
@@ -330,7 +356,8 @@ impl<D: Disk> Back<D> {
         }
     }
 
-    // An entry of an incarnation that has ended at an append: a reply becomes a failure, and everything else is dropped.
+    // An entry of an incarnation that has ended at an append: a message that follows nothing that was lost is held, another reply becomes
+    // a failure, and everything else is dropped.
     fn take_late(&mut self, entry: Entry) -> Mem<()>
         requires { LogRoom self.old.log }
         ensures took { OnOk result (TakesLate self.old self.new entry) }
@@ -339,28 +366,54 @@ impl<D: Disk> Back<D> {
         if self.held.reserve(1).is_err() {
             return Err(NoMemory);
         }
-        if let Some(held) = self.late_reply(&entry) {
+        if let Some(held) = self.late_held(&entry)? {
             self.held.push_back_reserved(held);
         }
+        self.pass_late(&entry.body);
         self.log.taken.push(entry).unwrap();
         Ok(())
     }
 
-    // What is held of such an entry.
-    fn late_reply(&self, entry: &Entry) -> Option<Held>
-        ensures { option_to_list result ≡ late_held self.now entry.now }
+    // No message passes behind a confirmed batch that comes late.
+    fn pass_late(&mut self, body: &Body)
+        ensures { self.new ≡ record self.old { late = entering.late_after body.now self.old.late } }
     {
-        let cause = self.log.stops.as_slice().last()?.cause;
-        match &entry.body {
-            Body::Message(Message::Reply { to, result: _ }) => Some(Held {
+        if let Body::Batch {
+            batch: _,
+            tail: _,
+            confirmed: true,
+        } = body
+        {
+            self.late = None;
+        }
+    }
+
+    // What is held of such an entry.
+    fn late_held(&self, entry: &Entry) -> Mem<Option<Held>>
+        ensures { IfOk result (λ held. option_to_list held ≡ entering.late_held self.now entry.now) }
+    {
+        let Some(stop) = self.log.stops.as_slice().last() else {
+            return Ok(None);
+        };
+        let Body::Message(message) = &entry.body else {
+            return Ok(None);
+        };
+        let since = entry.incarnation;
+        match (self.late, message) {
+            (Some(needs), message) => Ok(Some(Held {
+                body: HeldBody::Message(message.copy()?),
+                needs,
+                since,
+            })),
+            (None, Message::Reply { to, result: _ }) => Ok(Some(Held {
                 body: HeldBody::Message(Message::Reply {
                     to: *to,
-                    result: Err(Failure::Reset(cause)),
+                    result: Err(Failure::Reset(stop.cause)),
                 }),
                 needs: self.settled,
-                since: entry.incarnation,
-            }),
-            _ => None,
+                since,
+            })),
+            (None, _) => Ok(None),
         }
     }
 
@@ -373,20 +426,16 @@ impl<D: Disk> Back<D> {
         }
     }
 
-    // Holds this behind the batches so far.
-    fn hold(&mut self, body: HeldBody, since: u64) -> Mem<()>
-        ensures held { OnOk result (self.new.held.items ≡ self.old.held.items ++ record { body = body; needs = self.old.before; since = since } ∷ []) }
+    // Holds this until so many batches are durable.
+    fn hold(&mut self, body: HeldBody, needs: u64, since: u64) -> Mem<()>
+        ensures held { OnOk result (self.new.held.items ≡ self.old.held.items ++ record { body = body; needs = needs; since = since } ∷ []) }
         ensures kept { OnErr result (self.new.held.items ≡ self.old.held.items) }
         ensures same { self.new ≡ record self.old { held = self.new.held } }
     {
         if self.held.reserve(1).is_err() {
             return Err(NoMemory);
         }
-        self.held.push_back_reserved(Held {
-            body,
-            needs: self.before,
-            since,
-        });
+        self.held.push_back_reserved(Held { body, needs, since });
         Ok(())
     }
 

@@ -89,8 +89,8 @@ outside_keeps m again kept o t (Some a) message same = kept (resumed o t a)
 ask_keeps : (m : Contents) (again : OpenTask → Step) (l : Life) (o : Object) (t : OpenTask) (batches : List Made) (a : Ask)
     → o.alarm ≡ alarm_after m.alarm (all batches) → ((u : OpenTask) → Keeps (written m (map batch batches)) (again u))
     → Keeps m (on_ask again l o t batches a)
-ask_keeps m again l o t batches (ask.Store a) same kept = before_keeps m (map batch batches) (asks o t (body.Ask a)) (same ∙ sym (batches_alarm m batches))
-ask_keeps m again l o t batches (ask.Open a) same kept = before_keeps m (map batch batches) (asks o t (body.Ask a)) (same ∙ sym (batches_alarm m batches))
+ask_keeps m again l o t batches (ask.Store a) same kept = before_keeps m (map batch batches) (asks o t (body.Ask a false)) (same ∙ sym (batches_alarm m batches))
+ask_keeps m again l o t batches (ask.Open a) same kept = before_keeps m (map batch batches) (asks o t (body.Ask a false)) (same ∙ sym (batches_alarm m batches))
 ask_keeps m again l o t batches (ask.Written tail) same kept = written_keeps m o t tail batches same
 ask_keeps m again l o t batches ask.Sync same kept = before_keeps m (map batch batches) (asks o t body.Sync) (same ∙ sym (batches_alarm m batches))
 ask_keeps m again l o t batches (ask.Call to method args) same kept =

@@ -16,4 +16,5 @@ pub mod FewMethods
 pub mod Asking
 pub mod Refused
 pub mod Bounds
+pub mod Needs
 mod Refuting

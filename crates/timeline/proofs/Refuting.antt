@@ -114,7 +114,7 @@ is_thrown =
         (λ stop is by. absurd (none_there stop is)),
         (
           (λ stop is by. subst (λ (s : Stop). IsHalted the_goes 0 nothing (incarnation_at thrown_front thrown_back 0) [] s.cause) (one_stop stop is)
-              (refl, Contains-push (body.Batch (puts "k" 1 ∷ []) None ∷ []) (body.Halt cause.BlockThrew))),
+              (refl, Contains-push (body.Batch (puts "k" 1 ∷ []) None true ∷ []) (body.Halt cause.BlockThrew))),
           tt,
         ),
       );

@@ -68,12 +68,12 @@ failed_disk = cause.Disk 0 1
 
 -- `two` is served, and then the object is called no more.
 abbrev pub acknowledged : History
-acknowledged = let entries = entry 1 1 (body.Batch (puts "x" 1 ∷ puts "y" 2 ∷ []) None) ∷ entry 1 2 (sends 1 (Ok (number 3))) ∷ [] in
+acknowledged = let entries = entry 1 1 (body.Batch (puts "x" 1 ∷ puts "y" 2 ∷ []) None true) ∷ entry 1 2 (sends 1 (Ok (number 3))) ∷ [] in
     history (fronts ((1, calls 1 0 []) ∷ []) entries []) (backs entries (1 ∷ []) [] [] [])
 
 -- The flight of `two` fails, the object can't be mounted again, and a second call finds it down.
 abbrev pub downed_entries : List Entry
-downed_entries = entry 1 1 (body.Batch (puts "x" 1 ∷ puts "y" 2 ∷ []) None) ∷ entry 1 2 (sends 1 (Ok (number 3)))
+downed_entries = entry 1 1 (body.Batch (puts "x" 1 ∷ puts "y" 2 ∷ []) None true) ∷ entry 1 2 (sends 1 (Ok (number 3)))
     ∷ entry 2 1 body.Mend ∷ entry 2 2 (sends 2 (Err (failure.Down 2 3))) ∷ []
 
 abbrev pub downed_front : Fronted
@@ -93,7 +93,7 @@ abbrev pub the_goes : Script
 the_goes = script_of (goes ∷ [])
 
 abbrev pub thrown_entries : List Entry
-thrown_entries = entry 1 1 (body.Batch (puts "k" 1 ∷ []) None) ∷ entry 1 2 (body.Halt cause.BlockThrew)
+thrown_entries = entry 1 1 (body.Batch (puts "k" 1 ∷ []) None true) ∷ entry 1 2 (body.Halt cause.BlockThrew)
     ∷ entry 2 1 (sends 1 (Err (failure.Reset cause.BlockThrew))) ∷ []
 
 abbrev pub thrown_front : Fronted
@@ -104,16 +104,39 @@ thrown_back = backs thrown_entries (1 ∷ []) (stops cause.BlockThrew 1 1 ∷ []
 
 -- `add` twice. The first flight fails, and so many of its batches are found.
 abbrev pub added_again : ℕ → ℕ → History
-added_again kept n = let entries = entry 1 1 (body.Ask (Get (codes "n"))) ∷ entry 1 2 (body.Batch (puts "n" 1 ∷ []) None) ∷ entry 1 3 (sends 1 (Ok (number 1)))
-    ∷ entry 2 1 (body.Ask (Get (codes "n"))) ∷ entry 2 2 (body.Batch (puts "n" n ∷ []) None) ∷ entry 2 3 (sends 2 (Ok (number n))) ∷ [] in
+added_again kept n = let entries = entry 1 1 (body.Ask (Get (codes "n")) false) ∷ entry 1 2 (body.Batch (puts "n" 1 ∷ []) None true) ∷ entry 1 3 (sends 1 (Ok (number 1)))
+    ∷ entry 2 1 (body.Ask (Get (codes "n")) false) ∷ entry 2 2 (body.Batch (puts "n" n ∷ []) None true) ∷ entry 2 3 (sends 2 (Ok (number n))) ∷ [] in
     history (fronts ((1, calls 1 0 []) ∷ (2, calls 2 0 []) ∷ []) entries (failed_disk ∷ []))
     (backs entries (1 ∷ []) (stops failed_disk 0 1 ∷ []) (keeps kept failed_disk ∷ []) [])
 
 -- A long `set` would pass the journal's limit; then a key is read.
 abbrev pub filled : History
-filled = let entries = entry 1 1 (body.Batch (puts "k" 5 ∷ []) None) ∷ entry 1 2 (sends 1 (Ok (number 5))) ∷ entry 2 1 (sends 2 (Ok value.Undefined)) ∷ [] in
+filled = let entries = entry 1 1 (body.Batch (puts "k" 5 ∷ []) None true) ∷ entry 1 2 (sends 1 (Ok (number 5))) ∷ entry 2 1 (sends 2 (Ok value.Undefined)) ∷ [] in
     history (fronts ((1, calls 1 0 []) ∷ (2, calls 2 1 []) ∷ []) entries (cause.Full 5082 4096 ∷ []))
     (backs entries [] (stops (cause.Full 5082 4096) 0 1 ∷ []) (keeps 0 (cause.Full 5082 4096) ∷ []) [])
+
+-- `quick` is served, whose batch is unconfirmed; and `both`, whose batch is confirmed.
+abbrev pub early : History
+early = let entries = entry 1 1 (body.Batch (puts "n" 5 ∷ []) (Some 1) false) ∷ entry 1 2 (sends 1 (Ok (number 5))) ∷ [] in
+    history (fronts ((1, calls 1 1 (number 5 ∷ [])) ∷ []) entries []) (backs entries [] [] [] [])
+
+abbrev pub sure : History
+sure = let entries = entry 1 1 (body.Batch (puts "n" 5 ∷ puts "m" 5 ∷ []) None true) ∷ entry 1 2 (sends 1 (Ok (number 5))) ∷ [] in
+    history (fronts ((1, calls 1 2 (number 5 ∷ [])) ∷ []) entries []) (backs entries [] [] [] [])
+
+-- Three batches, of which the second alone is confirmed, with a reply behind each; so many flights of one batch have succeeded.
+abbrev pub middle_entries : List Entry
+middle_entries = entry 1 1 (body.Batch (puts "a" 1 ∷ []) None false) ∷ entry 1 2 (sends 1 (Ok (number 1)))
+    ∷ entry 1 3 (body.Batch (puts "b" 2 ∷ []) None true) ∷ entry 1 4 (sends 2 (Ok (number 2)))
+    ∷ entry 1 5 (body.Batch (puts "c" 3 ∷ []) None false) ∷ entry 1 6 (sends 3 (Ok (number 3))) ∷ []
+
+abbrev pub middle : History
+middle = history (fronts ((1, calls 1 0 []) ∷ (1, calls 2 0 []) ∷ (1, calls 3 0 []) ∷ []) middle_entries []) (backs middle_entries [] [] [] [])
+
+-- The same where the flight of the first succeeded and that of the other two failed, and nothing of it was found.
+abbrev pub middle_failed : History
+middle_failed = history (fronts ((1, calls 1 0 []) ∷ (1, calls 2 0 []) ∷ (1, calls 3 0 []) ∷ []) middle_entries [])
+    (backs middle_entries (1 ∷ []) (stops failed_disk 1 3 ∷ []) (keeps 1 failed_disk ∷ []) [])
 
 -- An object that is idle defers the event; and what it then leaves.
 abbrev pub defers : State → Event → Bool

@@ -161,8 +161,8 @@ ends_in = logged (λ f t. ends_by f.mode t)
 
 -- The number of the entry that is waited for is that of the last one.
 abbrev pub FitsNotice : List Body → State → Notice → Type 0
-FitsNotice said (waiting o t (body.Ask a)) (notice.Read number r) = (number ≡ length said) × (is_answer a r ≡ true)
-FitsNotice said (waiting o t (body.Batch ops tail)) (notice.Taken number count) = number ≡ length said
+FitsNotice said (waiting o t (body.Ask a free)) (notice.Read number r) = (number ≡ length said) × (is_answer a r ≡ true)
+FitsNotice said (waiting o t (body.Batch ops tail confirmed)) (notice.Taken number count) = number ≡ length said
 FitsNotice said (waiting o t body.Sync) (notice.Synced number) = number ≡ length said
 FitsNotice said state (notice.Fresh incarnation alarm cause) = Unit {0}
 FitsNotice said state (notice.Down cause before after) = Unit {0}

@@ -17,6 +17,7 @@ use Rattle.timeline.specs.History.{incarnations}
 use Rattle.timeline.specs.Logs.{Fronted, Backed}
 use Rattle.timeline.specs.declared.entry.Entry.{Entry}
 use Rattle.timeline.specs.Intake.{Kind, Front, life, Mode, serves, Taken, delivered, noticed, front_after, sent_by, IsIntake, answer_in, events_in, answers_in, StaysIn}
+use Rattle.timeline.specs.Passed.{held_in, batches_to, reaches, is_mend}
 use Rattle.timeline.specs.Object.{Life, Object, OpenTask, State, idle, waiting, ended}
 use Rattle.timeline.specs.Steps.{delivers, answers, resumed, latest_turn, on_turn, runs, goes_on, most_refused}
 use Rattle.timeline.specs.Told.{Storage, Run, by_map, by_answers, settles, settled, stored_answer, written, written_by, told_from, told_on, after_saying, asking, all_said, most_waits}
@@ -219,3 +220,13 @@ AreTheMaps l m state (t ∷ taken) = ⊥
 
 abbrev pub MapsAnswersFit : Type 0
 MapsAnswersFit = (n : ℕ) (l : Life) (m : Contents) (o : Object) (taken : List Taken) → AreTheMaps l m (idle o) taken → FitsMap n l m (idle o) taken
+
+-- What is held and what it needs grows at its end, but where a mounting is asked for: two counters tell what the next message needs, of
+-- which the one that reaches to the last confirmed batch is at most the other.
+pub record NeedsGrow : Type 0 where
+  pub held : (bodies : List Body) (b : Body) (count behind : ℕ) → is_mend b ≡ false
+      → held_in count behind (bodies ++ b ∷ []) ≡ held_in count behind bodies ++ held_in (batches_to count bodies) (reaches count behind bodies) (b ∷ [])
+  pub batches : (bodies : List Body) (b : Body) (count : ℕ) → batches_to count (bodies ++ b ∷ []) ≡ batches_to (batches_to count bodies) (b ∷ [])
+  pub reach : (bodies : List Body) (b : Body) (count behind : ℕ)
+      → reaches count behind (bodies ++ b ∷ []) ≡ reaches (batches_to count bodies) (reaches count behind bodies) (b ∷ [])
+  pub within : (bodies : List Body) (count behind : ℕ) → behind ≤ count → reaches count behind bodies ≤ batches_to count bodies

@@ -1,5 +1,5 @@
 -- Logs that no host may be let through with, for the negative examples.
-use Rattle.std.specs.Prelude.{ℕ, List, [], ◌∷◌, ◌++◌, codes, None, Ok, Err}
+use Rattle.std.specs.Prelude.{ℕ, true, false, List, [], ◌∷◌, ◌++◌, codes, None, Ok, Err}
 use Rattle.do_value.specs.declared.value.Value.TheVariants as value
 use Rattle.do_tree.specs.Tree.{Script}
 use Rattle.script_mean.specs.Examples.{puts}
@@ -27,7 +27,7 @@ IsNeverQuiet front back = (script : Script) (class : ℕ) (opened : Contents) (p
 
 -- `two` is served.
 abbrev pub two_entries : List Entry
-two_entries = entry 1 1 (body.Batch (puts "x" 1 ∷ puts "y" 2 ∷ []) None) ∷ entry 1 2 (sends 1 (Ok (number 3))) ∷ []
+two_entries = entry 1 1 (body.Batch (puts "x" 1 ∷ puts "y" 2 ∷ []) None true) ∷ entry 1 2 (sends 1 (Ok (number 3))) ∷ []
 
 -- Its flight failed and the file was mounted again, but the front was never told: the object is dead for good.
 abbrev pub untold_front : Fronted
@@ -58,7 +58,7 @@ halted_back = backs halted_entries (1 ∷ []) (stops cause.BlockThrew 1 1 ∷ []
 
 -- What was durable and acknowledged is read as `undefined`, behind an end that no mounting followed.
 abbrev pub gone_entries : List Entry
-gone_entries = two_entries ++ entry 1 3 (body.Halt cause.BlockThrew) ∷ entry 2 1 (body.Ask (Get (codes "x"))) ∷ entry 2 2 (sends 2 (Ok value.Undefined)) ∷ []
+gone_entries = two_entries ++ entry 1 3 (body.Halt cause.BlockThrew) ∷ entry 2 1 (body.Ask (Get (codes "x")) false) ∷ entry 2 2 (sends 2 (Ok value.Undefined)) ∷ []
 
 abbrev pub gone_front : Fronted
 gone_front = fronts ((1, calls 1 0 []) ∷ (2, calls 2 1 (word "x" ∷ [])) ∷ []) gone_entries (cause.BlockThrew ∷ [])

@@ -45,10 +45,9 @@ rests o = record { says = []; state = idle o }
 abbrev pub before : List Body → Step → Step
 before bodies s = record { says = bodies ++ s.says; state = s.state }
 
--- A batch is told without its mark: what the options of reads and writes allow is part of the script's meaning, and the halves don't
--- use it yet.
+-- A batch is told with its mark.
 abbrev pub batch : Made → Body
-batch made = body.Batch made.batch None
+batch made = body.Batch made.batch None made.confirmed
 
 abbrev pub confirmed : List Op → Made
 confirmed ops = record { batch = ops; confirmed = true }
@@ -103,13 +102,13 @@ asks o t b = record { says = []; state = waiting o t b }
 -- The last batch is the one whose completion is awaited.
 abbrev pub asks_written : Object → OpenTask → ℕ → List Made → Step
 asks_written o t tail [] = rests o
-asks_written o t tail (made ∷ []) = asks o t (body.Batch made.batch (Some tail))
+asks_written o t tail (made ∷ []) = asks o t (body.Batch made.batch (Some tail) made.confirmed)
 asks_written o t tail (made ∷ next ∷ batches) = before (batch made ∷ []) (asks_written o t tail (next ∷ batches))
 
 -- A turn ended with an ask, after these batches. An open ask is asked as another read.
 abbrev pub on_ask : (OpenTask → Step) → Life → Object → OpenTask → List Made → Ask → Step
-on_ask again l o t batches (ask.Store a) = before (map batch batches) (asks o t (body.Ask a))
-on_ask again l o t batches (ask.Open a) = before (map batch batches) (asks o t (body.Ask a))
+on_ask again l o t batches (ask.Store a) = before (map batch batches) (asks o t (body.Ask a false))
+on_ask again l o t batches (ask.Open a) = before (map batch batches) (asks o t (body.Ask a false))
 on_ask again l o t batches (ask.Written tail) = asks_written o t tail batches
 on_ask again l o t batches ask.Sync = before (map batch batches) (asks o t body.Sync)
 on_ask again l o t batches (ask.Call to method args) = before (map batch batches) (outside again o t (refusal (t.depth + 1) t.made)

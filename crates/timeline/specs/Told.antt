@@ -1,6 +1,6 @@
 -- What an object says to the events that are delivered to it: each is run to its end or to a call or a fetch, and a storage
 -- await is answered at once by the map as it then is. Source: the article on input and output gates.
-use Rattle.std.specs.Prelude.{ℕ, zero, suc, ◌*◌, ◌-◌, List, [], ◌∷◌, ◌++◌, length, take, drop, Option, Some, None}
+use Rattle.std.specs.Prelude.{ℕ, zero, suc, ◌*◌, ◌-◌, Bool, List, [], ◌∷◌, ◌++◌, length, take, drop, Option, Some, None}
 use Rattle.std.specs.List.{flat_map}
 use Rattle.do_value.specs.declared.value.Value.TheVariants as value
 use Rattle.storage_map.specs.Contents.{Contents, apply, removed}
@@ -18,16 +18,16 @@ use Rattle.timeline.specs.declared.entry.Entry.{Entry}
 use Rattle.timeline.specs.declared.event.Event.{Event}
 use Rattle.timeline.specs.declared.message.Message.{Message}
 
--- One thing that an object says to others or writes: a batch, as its operations, or a message.
+-- One thing that an object says to others or writes: a batch, as its operations, confirmed or not; or a message.
 pub data Said : Type 0 where
-  batch : List Op → Said
+  batch : List Op → (confirmed : Bool) → Said
   message : Message → Said
 
 abbrev pub said_by : Body → List Said
-said_by (body.Batch ops tail) = batch ops ∷ []
+said_by (body.Batch ops tail confirmed) = batch ops confirmed ∷ []
 said_by (body.Message sent) = message sent ∷ []
 said_by (body.Bind identity) = []
-said_by (body.Ask ask) = []
+said_by (body.Ask ask free) = []
 said_by body.Sync = []
 said_by (body.Halt cause) = []
 said_by body.Mend = []
@@ -41,12 +41,12 @@ spoken entries = flat_map (λ entry. said_by entry.body) entries
 
 abbrev pub batches_of : List Said → List (List Op)
 batches_of [] = []
-batches_of (batch ops ∷ said) = ops ∷ batches_of said
+batches_of (batch ops confirmed ∷ said) = ops ∷ batches_of said
 batches_of (message sent ∷ said) = batches_of said
 
 -- The map after what was said.
 abbrev pub written_by : Contents → Body → Contents
-written_by m (body.Batch ops tail) = apply m ops
+written_by m (body.Batch ops tail confirmed) = apply m ops
 written_by m _ = m
 
 abbrev pub written : Contents → List Body → Contents
@@ -59,8 +59,8 @@ abbrev pub counted : Contents → List Op → ℕ → ℕ
 counted m ops tail = let first = length ops - tail in removed (apply m (take first ops)) (drop first ops)
 
 abbrev pub stored_answer : Contents → Body → Answer
-stored_answer m (body.Ask ask) = answer.Read (reading m ask)
-stored_answer m (body.Batch ops (Some tail)) = answer.Read (Count (counted m ops tail))
+stored_answer m (body.Ask ask free) = answer.Read (reading m ask)
+stored_answer m (body.Batch ops (Some tail) confirmed) = answer.Read (Count (counted m ops tail))
 stored_answer m _ = answer.Value value.Undefined
 
 -- How a storage that stands so answers: what it is after what was said; its answer to an entry that is waited for, with what it is

@@ -11,13 +11,21 @@ use storage_map::{Batch, Identity, StoreAsk};
 pub enum Body {
     /// The slot has this object from here on.
     Bind(Identity),
-    /// Writes that take effect together. A number of its last operations is there where the write is awaited.
-    Batch { batch: Batch, tail: Option<u32> },
-    /// A read that a task waits for.
-    Ask(StoreAsk),
+    /// Writes that take effect together. A number of its last operations is there where the write is awaited. What is said behind
+    /// a confirmed one leaves once it is durable.
+    Batch {
+        batch: Batch,
+        tail: Option<u32>,
+        confirmed: bool,
+    },
+    /// A read that a task waits for; a free one leaves other events in meanwhile. Fronts send none that is free yet.
+    Ask {
+        ask: StoreAsk,
+        free: bool,
+    },
     /// The task waits until all that was written before is durable.
     Sync,
-    /// A message that leaves once all that was written before it is durable.
+    /// A message that leaves once the last confirmed batch before it is durable.
     Message(Message),
     /// The incarnation ends by this cause.
     Halt(Cause),
@@ -40,11 +48,19 @@ impl Body {
     {
         match self {
             Body::Bind(identity) => Ok(Body::Bind(identity.copy()?)),
-            Body::Batch { batch, tail } => Ok(Body::Batch {
+            Body::Batch {
+                batch,
+                tail,
+                confirmed,
+            } => Ok(Body::Batch {
                 batch: batch.copy()?,
                 tail: *tail,
+                confirmed: *confirmed,
             }),
-            Body::Ask(ask) => Ok(Body::Ask(ask.copy()?)),
+            Body::Ask { ask, free } => Ok(Body::Ask {
+                ask: ask.copy()?,
+                free: *free,
+            }),
             Body::Sync => Ok(Body::Sync),
             Body::Message(message) => Ok(Body::Message(message.copy()?)),
             Body::Halt(cause) => Ok(Body::Halt(*cause)),

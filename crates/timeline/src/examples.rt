@@ -3,12 +3,12 @@
 ghost use Rattle.std.specs.Prelude.{◌≡◌, pos, false, true, [], ◌∷◌, codes, Some, None, Err};
 ghost use Rattle.do_value.specs.Tree as tree;
 ghost use Rattle.do_value.specs.declared.value.Value.TheVariants as value;
-ghost use Rattle.script_mean.specs.Examples.{puts, own_write, slow, undo, over, alarm, arm, counter, counts, sets, soft, quick};
+ghost use Rattle.script_mean.specs.Examples.{puts, own_write, slow, undo, over, alarm, arm, counter, counts, sets, soft, quick, both_marked};
 ghost use Rattle.script_ops.specs.Errors.{fetch_failed, no_number};
 ghost use Rattle.script_mean.specs.Storing.{value_of};
 ghost use Rattle.storage_map.specs.declared.ask.StoreAsk.TheVariants.{Get, Alarm};
 ghost use Rattle.storage_map.specs.declared.op.Op.TheVariants.{SetAlarm, ClearAlarm, Put};
-ghost use Rattle.timeline.specs.Examples.{calls, calls_at, fetched, ticks, evicts, number, word, writes, replies, fails, fetches, arms, reads};
+ghost use Rattle.timeline.specs.Examples.{calls, calls_at, fetched, ticks, evicts, number, word, writes, writes_early, replies, fails, fetches, arms, reads};
 ghost use Rattle.timeline.specs.Examples.{unless_bad, goes, rearms, looks, request, starts_by_fetch, shows, succeeds, lives, runs_to, replies_body};
 ghost use Rattle.timeline.specs.Examples.{says};
 ghost use Rattle.timeline.specs.Histories.{defers, left_of};
@@ -63,7 +63,7 @@ pub fn handler_is_tried_again()
 #[tactic(auto, unfolding(crate::specs::Examples::unless_bad, crate::specs::Examples::goes, crate::specs::Examples::reads, script_ops::specs::Binary::binary, script_mean::specs::Limits::most_helpers, crate::specs::Steps::most_refused, crate::specs::Told::most_waits))]
 pub fn block_that_throws_ends_the_incarnation()
     ensures { (runs_to (unless_bad ∷ goes ∷ reads ∷ []) [] (calls 1 1 [] ∷ calls 2 2 (word "k" ∷ []) ∷ [])).says
-        ≡ body.Ask (Get (codes "bad")) ∷ body.Batch (puts "k" 1 ∷ []) None ∷ body.Halt cause.BlockThrew ∷ [] }
+        ≡ body.Ask (Get (codes "bad")) false ∷ body.Batch (puts "k" 1 ∷ []) None true ∷ body.Halt cause.BlockThrew ∷ [] }
 {}
 
 /// The next incarnation reads it. A constructor that throws ends that one, and the call that started it isn't answered.
@@ -71,16 +71,16 @@ pub fn block_that_throws_ends_the_incarnation()
 pub fn constructor_that_throws_ends_the_incarnation()
     ensures { (runs_to (unless_bad ∷ sets ∷ reads ∷ []) (puts "k" 1 ∷ [])
         (calls 2 2 (word "k" ∷ []) ∷ calls 3 1 (word "bad" ∷ value.Bool true ∷ []) ∷ evicts ∷ calls 4 2 (word "k" ∷ []) ∷ [])).says
-        ≡ body.Ask (Get (codes "bad")) ∷ body.Ask (Get (codes "k")) ∷ replies_body 2 (number 1)
-        ∷ body.Batch (Put (codes "bad") (value.Bool true) ∷ []) None ∷ replies_body 3 (value.Bool true)
-        ∷ body.Ask (Get (codes "bad")) ∷ body.Halt cause.StartThrew ∷ [] }
+        ≡ body.Ask (Get (codes "bad")) false ∷ body.Ask (Get (codes "k")) false ∷ replies_body 2 (number 1)
+        ∷ body.Batch (Put (codes "bad") (value.Bool true) ∷ []) None true ∷ replies_body 3 (value.Bool true)
+        ∷ body.Ask (Get (codes "bad")) false ∷ body.Halt cause.StartThrew ∷ [] }
 {}
 
 /// A running handler sees no alarm until it sets one, and what it set stays. A tick before its time does nothing.
 #[tactic(auto, unfolding(script_mean::specs::Examples::arm, crate::specs::Examples::rearms, crate::specs::Examples::looks, script_ops::specs::Binary::binary, script_mean::specs::Limits::most_helpers, crate::specs::Steps::most_refused, crate::specs::Told::most_waits))]
 pub fn handler_arms_itself_again()
     ensures { says (arm ∷ rearms ∷ looks ∷ []) [] (calls 1 0 (number 10 ∷ []) ∷ ticks 10 ∷ calls_at 10 2 2 [] ∷ ticks 49 ∷ calls_at 49 3 2 [] ∷ [])
-        ≡ arms 10 0 ∷ replies 1 (number 10) ∷ batch (Put (codes "g") (value.Bool true) ∷ SetAlarm (pos 50) 0 ∷ [])
+        ≡ arms 10 0 ∷ replies 1 (number 10) ∷ batch (Put (codes "g") (value.Bool true) ∷ SetAlarm (pos 50) 0 ∷ []) true
         ∷ replies 2 (value.List (tree.boolean true ∷ tree.number (pos 50) ∷ [])) ∷ replies 3 (value.List (tree.boolean true ∷ tree.number (pos 50) ∷ [])) ∷ [] }
 {}
 
@@ -98,8 +98,8 @@ pub fn constructor_waits_for_its_fetch()
 /// nothing.
 #[tactic(auto, unfolding(crate::specs::Examples::succeeds, crate::specs::Examples::starts_by_fetch, script_mean::specs::Limits::most_helpers, crate::specs::Steps::most_refused, crate::specs::Told::most_waits))]
 pub fn alarm_is_cleared()
-    ensures handler { says (succeeds ∷ []) (SetAlarm (pos 5) 0 ∷ []) (ticks 5 ∷ ticks 6 ∷ []) ≡ writes "n" 1 ∷ batch (ClearAlarm ∷ []) ∷ [] }
-    ensures none { says (starts_by_fetch ∷ []) (SetAlarm (pos 5) 0 ∷ []) (ticks 4 ∷ ticks 5 ∷ ticks 6 ∷ []) ≡ batch (ClearAlarm ∷ []) ∷ [] }
+    ensures handler { says (succeeds ∷ []) (SetAlarm (pos 5) 0 ∷ []) (ticks 5 ∷ ticks 6 ∷ []) ≡ writes "n" 1 ∷ batch (ClearAlarm ∷ []) true ∷ [] }
+    ensures none { says (starts_by_fetch ∷ []) (SetAlarm (pos 5) 0 ∷ []) (ticks 4 ∷ ticks 5 ∷ ticks 6 ∷ []) ≡ batch (ClearAlarm ∷ []) true ∷ [] }
 {}
 
 /// A fetch that fails throws, and so ends a task that doesn't catch it.
@@ -109,10 +109,17 @@ pub fn failed_fetch_is_thrown()
         ≡ fetches 1 ∷ fails 1 (failure.Thrown (value_of fetch_failed)) ∷ [] }
 {}
 
-/// An open read is asked as another, so that no update is lost, and an unconfirmed batch is told as another.
-#[tactic(auto, unfolding(script_mean::specs::Examples::soft, script_mean::specs::Examples::quick, script_ops::specs::Binary::binary, script_mean::specs::Limits::most_helpers, crate::specs::Steps::most_refused, crate::specs::Told::most_waits))]
-pub fn options_are_not_used_yet()
-    ensures soft { says (soft ∷ []) [] (calls 1 0 [] ∷ calls 2 0 [] ∷ [])
+/// An open read is asked as another, so that no update is lost.
+#[tactic(auto, unfolding(script_mean::specs::Examples::soft, script_ops::specs::Binary::binary, script_mean::specs::Limits::most_helpers, crate::specs::Steps::most_refused, crate::specs::Told::most_waits))]
+pub fn open_reads_are_asked_as_others()
+    ensures { says (soft ∷ []) [] (calls 1 0 [] ∷ calls 2 0 [] ∷ [])
         ≡ writes "n" 1 ∷ replies 1 (number 1) ∷ writes "n" 2 ∷ replies 2 (number 2) ∷ [] }
-    ensures quick { says (quick ∷ []) [] (calls 1 0 (number 5 ∷ []) ∷ []) ≡ writes "n" 5 ∷ replies 1 (number 5) ∷ [] }
+{}
+
+/// A batch of writes with `allowUnconfirmed` alone is said as unconfirmed.
+#[tactic(auto, unfolding(script_mean::specs::Examples::quick, script_mean::specs::Examples::both_marked, script_mean::specs::Limits::most_helpers, crate::specs::Steps::most_refused, crate::specs::Told::most_waits))]
+pub fn batches_are_said_with_their_marks()
+    ensures quick { says (quick ∷ []) [] (calls 1 0 (number 5 ∷ []) ∷ []) ≡ writes_early "n" 5 ∷ replies 1 (number 5) ∷ [] }
+    ensures both { says (both_marked ∷ []) [] (calls 1 0 (number 5 ∷ []) ∷ [])
+        ≡ batch (puts "n" 5 ∷ puts "m" 5 ∷ []) true ∷ replies 1 (number 5) ∷ [] }
 {}

@@ -8,7 +8,7 @@ ghost use Rattle.script_mean.specs.Task as task;
 ghost use Rattle.storage_map.specs.declared.ask.StoreAsk.TheVariants.{Get};
 ghost use Rattle.storage_map.specs.declared.answer.Reading.TheVariants.{One};
 ghost use Rattle.timeline.specs.Examples.{lives, request, calls, number, word, held, ping, runs_to};
-ghost use Rattle.timeline.specs.Histories.{entry, reply, sends, leaves, failed_disk, acknowledged, downed, added_again, filled, defers, left_of};
+ghost use Rattle.timeline.specs.Histories.{entry, reply, sends, leaves, failed_disk, acknowledged, downed, added_again, filled, early, sure, middle, middle_failed, defers, left_of};
 ghost use Rattle.timeline.specs.Histories.{sent_for, task_for, two_slots, line_calls, script_c, with_a, fetching, line_fails, line_ticks};
 ghost use Rattle.timeline.specs.History.{line, lines, resets};
 ghost use Rattle.timeline.specs.Intake.{delivered, noticed};
@@ -70,11 +70,11 @@ pub fn block_holds_a_call_back()
 #[tactic(auto, unfolding(script_mean::specs::Examples::own_write, script_mean::specs::Limits::most_helpers, crate::specs::Steps::most_refused))]
 pub fn front_waits_for_its_storage()
     ensures asks { sent_for (own_write ∷ []) (delivered (calls 1 0 []) ∷ [])
-        ≡ entry 1 1 (body.Batch (puts "n" 1 ∷ []) None) ∷ entry 1 2 (body.Ask (Get (codes "n"))) ∷ [] }
+        ≡ entry 1 1 (body.Batch (puts "n" 1 ∷ []) None true) ∷ entry 1 2 (body.Ask (Get (codes "n")) false) ∷ [] }
     ensures goes_on { sent_for (own_write ∷ []) (delivered (calls 1 0 []) ∷ noticed (Read 2 (One (number 1))) ∷ [])
-        ≡ entry 1 1 (body.Batch (puts "n" 1 ∷ []) None) ∷ entry 1 2 (body.Ask (Get (codes "n"))) ∷ entry 1 3 (sends 1 (Ok (number 1))) ∷ [] }
+        ≡ entry 1 1 (body.Batch (puts "n" 1 ∷ []) None true) ∷ entry 1 2 (body.Ask (Get (codes "n")) false) ∷ entry 1 3 (sends 1 (Ok (number 1))) ∷ [] }
     ensures ends { sent_for (own_write ∷ []) (delivered (calls 1 0 []) ∷ noticed (Fresh 2 None failed_disk) ∷ [])
-        ≡ entry 1 1 (body.Batch (puts "n" 1 ∷ []) None) ∷ entry 1 2 (body.Ask (Get (codes "n"))) ∷ entry 2 1 (sends 1 (Err (failure.Reset failed_disk))) ∷ [] }
+        ≡ entry 1 1 (body.Batch (puts "n" 1 ∷ []) None true) ∷ entry 1 2 (body.Ask (Get (codes "n")) false) ∷ entry 2 1 (sends 1 (Err (failure.Reset failed_disk))) ∷ [] }
 {}
 
 /// The switch gives a new object the least free slot, and names what is missing.
@@ -98,4 +98,20 @@ pub fn switch_answers_fetches_once()
     ensures later { (accepts script_c with_a (line_ticks 5 6)).posts ≡ (0, event.Tick (pos 6)) ∷ [] }
     ensures reply { (routes script_c with_a (0, reply 1 (Ok (number 3)))).lines ≡ line_out.reply (pos 1) (number 3) ∷ [] }
     ensures unfit { (routes script_c with_a (1, reply 1 (Ok (number 3)))).lines ≡ [] }
+{}
+
+/// A reply behind an unconfirmed batch needs nothing; one behind a confirmed batch needs it.
+pub fn unconfirmed_batch_is_not_needed()
+    ensures early { passed early ≡ leaves (reply 1 (Ok (number 5))) 0 1 ∷ [] }
+    ensures line { line early ≡ (puts "n" 5 ∷ []) ∷ [] }
+    ensures sure { passed sure ≡ leaves (reply 1 (Ok (number 5))) 1 1 ∷ [] }
+{}
+
+/// An unconfirmed batch before a confirmed one is needed with it; one behind it isn't. Where the flight fails, the reply before the
+/// confirmed batch passes, and those behind it don't, though the last follows an unconfirmed one.
+pub fn needs_reach_to_the_last_confirmed_batch()
+    ensures passed { passed middle ≡ leaves (reply 1 (Ok (number 1))) 0 1 ∷ leaves (reply 2 (Ok (number 2))) 2 1 ∷ leaves (reply 3 (Ok (number 3))) 2 1 ∷ [] }
+    ensures failed { passed middle_failed ≡ leaves (reply 1 (Ok (number 1))) 0 1 ∷ leaves (reply 2 (Err (failure.Reset failed_disk))) 1 1
+        ∷ leaves (reply 3 (Err (failure.Reset failed_disk))) 1 1 ∷ [] }
+    ensures line { line middle_failed ≡ (puts "a" 1 ∷ []) ∷ [] }
 {}

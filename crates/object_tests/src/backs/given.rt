@@ -1,4 +1,5 @@
-//! What the cases have an object say: `[incarnation, number, word, ..]`. It is the object a of class C.
+//! What the cases have an object say: `[incarnation, number, word, ..]`. It is the object a of class C. A batch is confirmed unless the
+//! step ends with `unconfirmed`.
 ghost use Rattle.std.specs.Prelude.{IfOk};
 ghost use Rattle.storage_map.specs.Ops.{IsOp};
 
@@ -86,20 +87,35 @@ fn fetch(step: &Json) -> Message {
     }
 }
 
-fn batch(alloc: Global, op: Op, tail: Option<u32>) -> Result<Body, Fail>
+// The batch of one operation, which is confirmed unless the word says `unconfirmed`.
+fn batch(alloc: Global, op: Op, tail: Option<u32>, mark: &str) -> Result<Body, Fail>
     requires { IsOp op }
 {
     let batch = one(alloc, op)?;
-    Ok(Body::Batch { batch, tail })
+    let confirmed = mark != "unconfirmed";
+    Ok(Body::Batch {
+        batch,
+        tail,
+        confirmed,
+    })
+}
+
+// A read that is not free.
+fn get(alloc: Global, step: &Json) -> Result<Body, Fail> {
+    let key = Key::new(alloc, word(step, 3))?;
+    Ok(Body::Ask {
+        ask: StoreAsk::Get(key),
+        free: false,
+    })
 }
 
 fn body_of(alloc: Global, step: &Json) -> Result<Body, Fail> {
     match word(step, 2) {
         "bind" => Ok(Body::Bind(object(alloc)?)),
-        "put" => batch(alloc, put(alloc, step)?, None),
-        "long" => batch(alloc, long(alloc, step)?, None),
-        "delete" => batch(alloc, delete(alloc, step)?, Some(1)),
-        "get" => Ok(Body::Ask(StoreAsk::Get(Key::new(alloc, word(step, 3))?))),
+        "put" => batch(alloc, put(alloc, step)?, None, word(step, 5)),
+        "long" => batch(alloc, long(alloc, step)?, None, word(step, 5)),
+        "delete" => batch(alloc, delete(alloc, step)?, Some(1), word(step, 4)),
+        "get" => get(alloc, step),
         "sync" => Ok(Body::Sync),
         "reply" => Ok(Body::Message(reply(step)?)),
         "down" => Ok(Body::Message(down(step))),

@@ -22,8 +22,12 @@ pub(crate) fn tell_entry(line: &mut Telling, entry: &Entry) {
     tell_number(line, ".", entry.number);
     match &entry.body {
         Body::Bind(_) => line.say(" bind"),
-        Body::Batch { batch, tail } => tell_batch(line, batch, *tail),
-        Body::Ask(ask) => tell_ask(line, ask),
+        Body::Batch {
+            batch,
+            tail,
+            confirmed,
+        } => tell_batch(line, batch, *tail, *confirmed),
+        Body::Ask { ask, free: _ } => tell_ask(line, ask),
         Body::Sync => line.say(" sync"),
         Body::Message(message) => tell_message(line, message),
         Body::Halt(_) => line.say(" halt"),
@@ -31,12 +35,16 @@ pub(crate) fn tell_entry(line: &mut Telling, entry: &Entry) {
     }
 }
 
-fn tell_batch(line: &mut Telling, batch: &Batch, tail: Option<u32>) {
+// An unconfirmed one has that word behind it.
+fn tell_batch(line: &mut Telling, batch: &Batch, tail: Option<u32>, confirmed: bool) {
     for op in batch.as_slice() {
         tell_op(line, op);
     }
     if let Some(tail) = tail {
         tell_number(line, " awaited ", u64::from(tail));
+    }
+    if !confirmed {
+        line.say(" unconfirmed");
     }
 }
 

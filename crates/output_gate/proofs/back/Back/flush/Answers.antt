@@ -37,6 +37,7 @@ returns-in-Ok g c = record {
       mode = ap (λ (b : Back g.row.D.Denot). b.mode) c.land.ensures.same;
       held = ap (λ (b : Back g.row.D.Denot). b.held) c.land.ensures.same;
       before = ap (λ (b : Back g.row.D.Denot). b.before) c.land.ensures.same;
+      needs = ap (λ (b : Back g.row.D.Denot). b.needs) c.land.ensures.same;
       durable = ap (λ (b : Back g.row.D.Denot). b.durable) c.land.ensures.same;
       limit = ap (λ (b : Back g.row.D.Denot). b.limit) c.land.ensures.same;
       identity = ap (λ (b : Back g.row.D.Denot). b.identity) c.land.ensures.same;
@@ -91,6 +92,7 @@ returns-in-Err g c =
               (ap (λ (b : Back g.row.D.Denot). b.mode) c.stop.ensures.same) is a.ended.end;
           held = c.stop.ensures.held;
           before = ap (λ (b : Back g.row.D.Denot). b.before) c.stop.ensures.same;
+          needs = ap (λ (b : Back g.row.D.Denot). b.needs) c.stop.ensures.same;
           durable = ap (λ (b : Back g.row.D.Denot). b.durable) c.stop.ensures.same;
           limit = ap (λ (b : Back g.row.D.Denot). b.limit) c.stop.ensures.same;
           identity = ap (λ (b : Back g.row.D.Denot). b.identity) c.stop.ensures.same;

@@ -9,5 +9,5 @@ returns-in_err-reading-clause-failed g c =
 
 pub returns-clause-took : goal.returns-clause-took
 returns-clause-took g c =
-    took_only g.D.Disk.moment_of g.D.Disk.left_since g.D.Disk.told g.D.Disk.image g.D.Disk.faults_of c.args.self.now c.add.new.self c.args.number (body.Ask c.args.ask)
-    c.requires.comes refl (λ n. refl) refl refl c.add.ensures.log c.add.ensures.same refl refl refl
+    took_only g.D.Disk.moment_of g.D.Disk.left_since g.D.Disk.told g.D.Disk.image g.D.Disk.faults_of c.args.self.now c.add.new.self c.args.number (body.Ask c.args.ask c.args.free)
+    c.requires.comes refl (λ n k. refl) refl refl c.add.ensures.log c.add.ensures.same refl refl refl

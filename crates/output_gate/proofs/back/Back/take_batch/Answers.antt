@@ -1,7 +1,7 @@
-use Rattle.std.proofs.Common.{ap, arith}
+use Rattle.std.proofs.Common.{◌∙◌, ap, arith}
 use Rattle.output_gate.specs.declared.back.Back.{Back}
 use Rattle.output_gate.proofs.Batches.{fits_frame}
-use Rattle.output_gate.proofs.Entered.{on_err, somebody, failed_cache, failed_stage, took_batch}
+use Rattle.output_gate.proofs.Entered.{on_err, somebody, failed_cache, failed_stage, follows_so, took_batch}
 use Rattle.output_gate.proofs.back.Back.take_batch.Goals as goal
 
 pub stage-requires : goal.stage-requires
@@ -35,11 +35,19 @@ returns-in_err-stage-clause-failed g c =
 pub returns-in-Some-clause-took : goal.returns-in-Some-clause-took
 returns-in-Some-clause-took g c =
     let o = somebody g.D.Disk.moment_of g.D.Disk.left_since g.D.Disk.told g.D.Disk.image g.D.Disk.faults_of c.args.self.now.identity c.requires.fits in
-    took_batch g.D.Disk.moment_of g.D.Disk.left_since g.D.Disk.told g.D.Disk.image g.D.Disk.faults_of c.args.self.now c.stage.new.self c.add.new.self c.args.number c.args.batch c.args.tail c.take.new.self c.batch_size-size.result o.0 o.1
-    c.requires.back.journal c.requires.back.safe.store c.requires.comes c.in_ok-count.ensures.taken c.batch_size-size.ensures.size (λ journal at. c.in_ok-stage.ensures.staged o.0 journal o.1 at) c.stage.ensures.same c.add.ensures.log c.add.ensures.same
+    took_batch g.D.Disk.moment_of g.D.Disk.left_since g.D.Disk.told g.D.Disk.image g.D.Disk.faults_of c.args.self.now c.stage.new.self c.add.new.self c.args.number c.args.batch c.args.tail c.args.confirmed c.take.new.self c.batch_size-size.result _ o.0 o.1
+    c.requires.back.journal c.requires.back.safe.store c.requires.comes c.in_ok-count.ensures.taken c.batch_size-size.ensures.size
+    (follows_so g.D.Disk.moment_of g.D.Disk.left_since g.D.Disk.told g.D.Disk.image g.D.Disk.faults_of c.args.self.now c.add.new.self c.args.confirmed
+    (ap (λ (b : Back g.row.D.Denot). b.before) c.add.ensures.same ∙ ap (λ (b : Back g.row.D.Denot). b.before) c.stage.ensures.same)
+    (ap (λ (b : Back g.row.D.Denot). b.needs) c.add.ensures.same ∙ ap (λ (b : Back g.row.D.Denot). b.needs) c.stage.ensures.same))
+    (λ journal at. c.in_ok-stage.ensures.staged o.0 journal o.1 at) c.stage.ensures.same c.add.ensures.log c.add.ensures.same c.follow.new.self c.follow.ensures
 
 pub returns-in-None-clause-took : goal.returns-in-None-clause-took
 returns-in-None-clause-took g c =
     let o = somebody g.D.Disk.moment_of g.D.Disk.left_since g.D.Disk.told g.D.Disk.image g.D.Disk.faults_of c.args.self.now.identity c.requires.fits in
-    took_batch g.D.Disk.moment_of g.D.Disk.left_since g.D.Disk.told g.D.Disk.image g.D.Disk.faults_of c.args.self.now c.stage.new.self c.add.new.self c.args.number c.args.batch c.args.tail c.take.new.self c.batch_size-size.result o.0 o.1
-    c.requires.back.journal c.requires.back.safe.store c.requires.comes c.in_ok-count.ensures.taken c.batch_size-size.ensures.size (λ journal at. c.in_ok-stage.ensures.staged o.0 journal o.1 at) c.stage.ensures.same c.add.ensures.log c.add.ensures.same
+    took_batch g.D.Disk.moment_of g.D.Disk.left_since g.D.Disk.told g.D.Disk.image g.D.Disk.faults_of c.args.self.now c.stage.new.self c.add.new.self c.args.number c.args.batch c.args.tail c.args.confirmed c.take.new.self c.batch_size-size.result _ o.0 o.1
+    c.requires.back.journal c.requires.back.safe.store c.requires.comes c.in_ok-count.ensures.taken c.batch_size-size.ensures.size
+    (follows_so g.D.Disk.moment_of g.D.Disk.left_since g.D.Disk.told g.D.Disk.image g.D.Disk.faults_of c.args.self.now c.add.new.self c.args.confirmed
+    (ap (λ (b : Back g.row.D.Denot). b.before) c.add.ensures.same ∙ ap (λ (b : Back g.row.D.Denot). b.before) c.stage.ensures.same)
+    (ap (λ (b : Back g.row.D.Denot). b.needs) c.add.ensures.same ∙ ap (λ (b : Back g.row.D.Denot). b.needs) c.stage.ensures.same))
+    (λ journal at. c.in_ok-stage.ensures.staged o.0 journal o.1 at) c.stage.ensures.same c.add.ensures.log c.add.ensures.same c.follow.new.self c.follow.ensures
