@@ -252,8 +252,9 @@ fn make_turns<'s, T: Wait + Copy>(alloc: Global, cell: &mut FrontCell<'s, T>) ->
     Found::more()
 }
 
-// Takes all that has come, lets go what follows unconfirmed batches alone, appends all as one flight, and lets go what may go. What that makes room for is taken by the next worker. Where
-// its front waits for what it was answered now, the flight may be left to the next look: so what the front writes next goes along.
+// Takes all that has come, lets go what follows unconfirmed batches alone, appends all as one flight, and lets go what may go. What that
+// makes room for is taken by the next worker. Where its front waits for what it was answered now, the flight may be left to the next
+// look: so what the front writes next goes along. So it is where something could go before the flight: that doesn't wait for the disk.
 //
 // The front was told something where an entry was answered that a front waits for, where what was let go isn't a message, and by a mounting.
 fn step_back<D: Disk, T: Wait + Copy>(alloc: Global, cell: &mut BackCell<D, T>, waits: u8) -> Found

@@ -104,6 +104,7 @@ abbrev pub before_after : Fit → ℕ → Body → ℕ
 before_after fit.Own before b = before_by b before
 before_after _ before b = before
 
+-- What the next message needs behind a batch that was counted just now.
 abbrev pub needs_behind : Bool → (before needs : ℕ) → ℕ
 needs_behind true before needs = before
 needs_behind false before needs = needs
