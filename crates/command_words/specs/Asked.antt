@@ -1,6 +1,7 @@
 -- What the words ask for.
 use Rattle.std.specs.Prelude.{ℕ, ◌^◌, List, [], ◌∷◌, Option, Some, None, if◌then◌else◌, codes}
 use Rattle.std.specs.Str.{bytes_eq}
+use Rattle.do_disk.specs.Slots.{most_slots}
 use Rattle.command_words.specs.Numbers.{number_or}
 use Rattle.command_words.specs.Words.{Text, Named, under, is_once, told}
 
@@ -12,7 +13,7 @@ pub data Asked : Type 0 where
   usage : Asked
 
 abbrev pub slots_in : Option Text → Option ℕ
-slots_in = number_or 16 1 256
+slots_in = number_or 16 1 most_slots
 
 abbrev pub workers_in : Option Text → Option ℕ
 workers_in = number_or 4 1 16

@@ -1,5 +1,6 @@
 -- What a command asks for, whatever holds its texts.
 use Rattle.std.specs.Prelude.{◌≤◌, ◌^◌, ℕ, ⊤, string_bytes}
+use Rattle.do_disk.specs.Slots.{most_slots}
 use Rattle.command_words.specs.Asked.{Asked, serves, checks, dumps, usage}
 use Rattle.command_words.specs.declared.command.Command.{Command}
 use Rattle.command_words.specs.declared.command.Command.TheVariants.{Serve, Check, Dump, Usage}
@@ -15,6 +16,6 @@ IsWithin least most n = (least ≤ n) × (n ≤ most)
 
 -- each number of a command lies in the range of its option
 abbrev pub IsInRanges : Command → Type 0
-IsInRanges (Serve told) = IsWithin 1 256 told.slots × IsWithin 1 16 told.workers × IsWithin 4096 (2 ^ 40) told.journal
-IsInRanges (Dump folder slots) = IsWithin 1 256 slots
+IsInRanges (Serve told) = IsWithin 1 most_slots told.slots × IsWithin 1 16 told.workers × IsWithin 4096 (2 ^ 40) told.journal
+IsInRanges (Dump folder slots) = IsWithin 1 most_slots slots
 IsInRanges _ = ⊤

@@ -7,7 +7,7 @@ pub struct ServeWords {
     pub script: String,
     /// The folder of the slots.
     pub folder: String,
-    /// How many slots the folder has, 1 to 256; 16 where `--slots` isn't given.
+    /// How many slots the folder has, 1 to [`do_disk::MOST_SLOTS`]; 16 where `--slots` isn't given.
     pub slots: u32,
     /// How many workers turn the objects, 1 to 16; 4 where `--workers` isn't given.
     pub workers: u32,

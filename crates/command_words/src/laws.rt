@@ -1,6 +1,8 @@
-//! What the definition of the words says of words without options.
+//! What the definition of the words says of words without options, and which number the most slots are.
 ghost use Rattle.std.specs.Prelude.{◌≡◌, ◌∷◌, [], List, false, codes};
 ghost use Rattle.std.specs.List.{AllByRecursion};
+ghost use Rattle.do_disk.specs.Slots.{most_slots};
+ghost use Rattle.do_disk.specs.declared.depot.TheConstants.{MOST_SLOTS};
 ghost use Rattle.command_words.specs.Words.{Text, is_flag, told_places};
 ghost use Rattle.command_words.specs.Asked.{asked, asked_once, places_of, serves, checks, dumps};
 
@@ -12,4 +14,9 @@ pub fn words_without_options()
         → asked (codes "serve" ∷ script ∷ folder ∷ []) ≡ serves script folder 16 4 1073741824 }
     ensures check { (script : Text) → is_flag script ≡ false → asked (codes "check" ∷ script ∷ []) ≡ checks script }
     ensures dump { (folder : Text) → is_flag folder ≡ false → asked (codes "dump" ∷ folder ∷ []) ≡ dumps folder 16 }
+{}
+
+/// How many slots a folder has at most, by `do_disk`'s constant: what `--slots` takes, and what all above it count by.
+pub fn most_slots_are()
+    ensures { MOST_SLOTS ≡ most_slots }
 {}

@@ -9,12 +9,13 @@ ghost use Rattle.command_words.specs.Seen.{asked_of, IsInRanges};
 use crate::command::{Command, ServeWords};
 use crate::number::{Range, number_or};
 use clap::ArgMatches;
+use do_disk::MOST_SLOTS;
 use do_value::{Mem, NoMemory};
 use std::alloc::Global;
 
 const SLOTS: Range = Range {
     least: 1,
-    most: 256,
+    most: MOST_SLOTS as u64,
     otherwise: 16,
 };
 

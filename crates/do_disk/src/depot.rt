@@ -8,6 +8,9 @@ use crate::Disk;
 /// The most bytes of a text that a depot reads: one more than a script may have, so that a longer one shows.
 pub const MOST_TEXT_BYTES: usize = 262_145;
 
+/// The most slots that a run takes of a folder: numbers 0 to 255.
+pub const MOST_SLOTS: u32 = 256;
+
 /// Why a depot gives nothing.
 #[derive(Clone, Copy, Debug, Drop, PartialEq, Eq)]
 pub enum DepotFault {
