@@ -1,0 +1,5 @@
+pub mod Going
+pub mod Stays
+pub mod Answered
+pub mod Counting
+pub mod Standing

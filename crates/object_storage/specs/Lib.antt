@@ -1,0 +1,4 @@
+pub mod Stored
+pub mod Reads
+pub mod Steps
+pub mod Storage
