@@ -1,5 +1,5 @@
 -- What went to one object so far, and what came from it.
-use Rattle.std.proofs.Common.{◌≡◌, ◌∙◌, ap, sym, subst, refl, ℕ, List, [], ◌∷◌, ◌++◌, append-nil, append_assoc}
+use Rattle.std.proofs.Common.{◌≡◌, ◌∙◌, ap, sym, subst, refl, ℕ, List, [], ◌∷◌, ◌++◌, append-nil, append_assoc, Option}
 use Rattle.std.specs.Prelude.{Bool, Result, Ok, Err, IsErr}
 use Rattle.do_tree.specs.Tree.{Script}
 use Rattle.do_value.specs.declared.fault.NoMemory.{NoMemory}
@@ -34,9 +34,9 @@ gave_none core inbox = record {
   out = refl;
 }
 
-module _ {D : Type 0} (moment_of faults_of : D → ℕ) (script : Script) (a b c : Core D) (i j k : Both Event) (event : Event) (step : Result Bool NoMemory) where
+module _ {D : Type 0} (moment_of : D → ℕ) (told : D → Option (List ℕ)) (faults_of : D → ℕ) (script : Script) (a b c : Core D) (i j k : Both Event) (event : Event) (step : Result Bool NoMemory) where
   abbrev Given : Result Bool NoMemory → Type 0
-  Given = Steps moment_of faults_of script b c (Give event)
+  Given = Steps moment_of told faults_of script b c (Give event)
 
   pub gave_more : (did : Bool) → step ≡ Ok did → GaveSoFar a b i j → Took j k event → Given step → GaveSoFar a c i k
   gave_more did is gave took stepped =

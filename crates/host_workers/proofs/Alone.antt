@@ -1,5 +1,5 @@
 -- What is known of a back that runs alone is kept by each of its steps.
-use Rattle.std.proofs.Common.{◌≡◌, ◌≢◌, ◌∙◌, ap, sym, refl, subst, inl, inr, ⊎_elim, true≢false, ℕ, ℤ, List, [], ◌∷◌, ◌++◌, append-nil, length, arith, Option}
+use Rattle.std.proofs.Common.{◌≡◌, ◌≢◌, ◌∙◌, ap, sym, refl, subst, inl, inr, ⊎_elim, true≢false, ℕ, ℤ, List, [], ◌∷◌, ◌++◌, append-nil, length, arith, Option, None}
 use Rattle.std.proofs.lemmas.Bool.{cases_eq}
 use Rattle.std.specs.Prelude.{Bool, true, false, not, ◌&&◌, ◌⊎◌, option_to_list, is_some, Result, Ok, Err}
 use Rattle.std.specs.List.{Contains}
@@ -16,13 +16,13 @@ use Rattle.timeline.specs.declared.notice.Stepped.{Stepped}
 use Rattle.timeline.specs.declared.notice.Stepped.TheVariants.{Did, Nothing}
 use Rattle.output_gate.proofs.Stored.{still_end, still_tells}
 use Rattle.output_gate.proofs.Written.{written_fresh}
-use Rattle.output_gate.proofs.Unfit.{fit_taken, unfit_identity, unfit_log, unfit_notice}
-use Rattle.output_gate.specs.Entering.{Enters, is_unfit, notice_at}
+use Rattle.output_gate.proofs.Unfit.{fit_taken, unfit_identity, unfit_log}
+use Rattle.output_gate.specs.Entering.{Enters, Failed, is_unfit}
 use Rattle.output_gate.specs.Flushing.{Flushes}
 use Rattle.output_gate.specs.Mending.{Remounts}
 use Rattle.output_gate.specs.Releasing.{is_ready}
 use Rattle.output_gate.specs.Serving.{IsAsBefore, IsBack, KeepsBack, is_stopped}
-use Rattle.output_gate.specs.Storing.{HasLimit, KeepsDisk, KeepsLimit, KeepsTelling}
+use Rattle.output_gate.specs.Storing.{HasLimit, KeepsLimit, KeepsTelling, ReadsDisk}
 use Rattle.output_gate.specs.Taking.{fit_of, is_wanted, may_take}
 use Rattle.output_gate.specs.Telling.{opened_map}
 use Rattle.output_gate.specs.declared.back.Back.{Back}
@@ -139,20 +139,20 @@ module _ {D : Type 0} (moment_of : D → ℕ) (left_since : D → ℕ → List �
       off_not off is goes = absurd (true≢false (sym off ∙ goes))
 
       -- ---- an entry is taken
-      module _ (e : Entry) (none : one.lost ≡ []) (same_disk : KeepsDisk old.store new.store) (took : later_got ≡ got ++ e ∷ []) (on : is_stopped old ≡ false)
+      module _ (e : Entry) (none : one.lost ≡ []) (same_disk : ReadsDisk told old.store new.store) (took : later_got ≡ got ++ e ∷ []) (on : is_stopped old ≡ false)
           (may : may_take old ≡ true) (now : Over new later_got later later_out) where
         took_all : later_got ≡ old.log.taken.items ++ e ∷ []
         took_all = took ∙ ap (λ (l : List Entry). l ++ e ∷ []) (one.took ∙ ap (λ (l : List Entry). old.log.taken.items ++ l) none ∙ append-nil old.log.taken.items)
 
-        limited_so : Enters old new e → IsLimitedBy told extent new
-        limited_so enters = limited_enters moment_of left_since told image faults_of start opening (not (is_stopped old)) extent old new one.stands (still_tells told old.store new.store same_disk) one.limited e enters same_disk
+        limited_so : (failed : Failed) → Enters failed old new e → IsLimitedBy told extent new
+        limited_so failed enters = limited_enters moment_of left_since told image faults_of start opening (not (is_stopped old)) extent old new one.stands same_disk.telling one.limited e failed enters same_disk
 
         -- It doesn't fit.
-        unfit_so : (enters : Enters old new e) → is_unfit (fit_of old e) ≡ true → (is_stopped new ≡ false → later ≡ notices) → After
-        unfit_so enters is said =
+        unfit_so : (failed : Failed) (enters : Enters failed old new e) → is_unfit (fit_of old e) ≡ true → (is_stopped new ≡ false → later ≡ notices) → After
+        unfit_so failed enters is said =
             let taken : new.log.taken.items ≡ old.log.taken.items = ap (λ (x : Backed). x.taken) (enters.log ∙ unfit_log (fit_of old e) (backed old.log) e is) in
             let same : new.identity ≡ old.identity = enters.identity ∙ unfit_identity (fit_of old e) old.identity e.body is in
-            alone_by new later_got later later_out now (named_still object old new same taken one.named) (limited_so enters) (opened_at (still_tells told old.store new.store same_disk)) (knows_still object old new same taken one.knows)
+            alone_by new later_got later later_out now (named_still object old new same taken one.named) (limited_so failed enters) (opened_at same_disk.telling) (knows_still object old new same taken one.knows)
             (λ so goes. (
               e,
               took_all ∙ ap (λ (l : List Entry). l ++ e ∷ []) (sym taken),
@@ -164,35 +164,35 @@ module _ {D : Type 0} (moment_of : D → ℕ) (left_since : D → ℕ → List �
                 taken = sym taken;
                 knows = one.knows;
                 runs = λ tells.
-                    let t = one.tells (earlier moment_of left_since told image faults_of start opening old new (still_tells told old.store new.store same_disk) one.stands tells) in
+                    let t = one.tells (earlier moment_of left_since told image faults_of start opening old new same_disk.telling one.stands tells) in
                     subst (λ (ns : List Notice). BackRuns (opened_map start) (seen_of (opened_map start) old) old.log.taken.items ns)
                     (ap (λ (ns : List Notice). notices ++ ns) (t.none_unheard on) ∙ append-nil notices ∙ sym (said goes)) t.runs;
               },
             ))
 
         -- It fits.
-        fits_so : Enters old new e → is_unfit (fit_of old e) ≡ false → After
-        fits_so enters is =
+        fits_so : (failed : Failed) → Enters failed old new e → is_unfit (fit_of old e) ≡ false → After
+        fits_so failed enters is =
             let taken : new.log.taken.items ≡ old.log.taken.items ++ e ∷ [] = ap (λ (x : Backed). x.taken) enters.log ∙ fit_taken (fit_of old e) (backed old.log) e is in
-            alone_by new later_got later later_out now (named_enters object old new e taken one.named enters) (limited_so enters)
-            (opened_at (still_tells told old.store new.store same_disk)) (knows_enters moment_of left_since told image faults_of start opening (not (is_stopped old)) object old new e one.stands enters is one.knows)
+            alone_by new later_got later later_out now (named_enters object old new e taken one.named failed enters) (limited_so failed enters)
+            (opened_at same_disk.telling) (knows_enters moment_of left_since told image faults_of start opening (not (is_stopped old)) object old new e failed one.stands enters is one.knows)
             (λ so goes. absurd (true≢false (sym so ∙ enters.stuck ∙ is)))
 
-        entered : (unfit : Bool) → is_unfit (fit_of old e) ≡ unfit → Enters old new e → (is_stopped new ≡ false → later ≡ notices ++ option_to_list (notice_at old e)) → After
-        entered true is enters said =
-            unfit_so enters is
-            (λ goes. said goes ∙ ap (λ (n : Option Notice). notices ++ option_to_list n) (unfit_notice (fit_of old e) e old.cache is) ∙ append-nil notices)
-        entered false is enters said = fits_so enters is
+        entered : (failed : Failed) (answered : Option Notice) (unfit : Bool) → is_unfit (fit_of old e) ≡ unfit → Enters failed old new e
+            → (is_stopped new ≡ false → later ≡ notices ++ option_to_list answered) → (is_unfit (fit_of old e) ≡ true → answered ≡ None) → After
+        entered failed answered true is enters said none =
+            unfit_so failed enters is (λ goes. said goes ∙ ap (λ (n : Option Notice). notices ++ option_to_list n) (none is) ∙ append-nil notices)
+        entered failed answered false is enters said none = fits_so failed enters is
 
         -- Memory was wanting.
-        loses : is_stopped new ≡ true → IsAsBefore old new ⊎ Enters old new e → After
+        loses : is_stopped new ≡ true → IsAsBefore old new ⊎ ((failed : Failed) × Enters failed old new e) → After
         loses off (inl same) =
             let taken : new.log.taken.items ≡ old.log.taken.items = ap (λ (x : Backed). x.taken) same.log in
             alone_by new later_got later later_out now (named_still object old new same.identity taken one.named)
-            (limited_as_before moment_of left_since told image faults_of start opening (not (is_stopped old)) extent old new one.stands (still_tells told old.store new.store same_disk) one.limited
-            same (same_disk.limit old.limit) (λ mounted. same_disk.end)) (opened_at (still_tells told old.store new.store same_disk)) (knows_still object old new same.identity taken one.knows) (off_not off)
-        loses off (inr enters) =
-            entered (is_unfit (fit_of old e)) refl enters (λ goes. absurd (true≢false (sym off ∙ goes)))
+            (limited_as_before moment_of left_since told image faults_of start opening (not (is_stopped old)) extent old new one.stands same_disk.telling one.limited
+            same (same_disk.limit old.limit) (λ mounted. same_disk.end)) (opened_at same_disk.telling) (knows_still object old new same.identity taken one.knows) (off_not off)
+        loses off (inr (failed, enters)) =
+            entered failed None (is_unfit (fit_of old e)) refl enters (λ goes. absurd (true≢false (sym off ∙ goes))) (λ is. refl)
 
       abbrev Takes : Result Stepped NoMemory → Type 0
       Takes = TakesBy moment_of left_since told image faults_of start opening old new got later_got notices later out later_out over
@@ -204,7 +204,7 @@ module _ {D : Type 0} (moment_of : D → ℕ) (left_since : D → ℕ → List �
       take_as false false on is (Err fault) by now = err_not fault (by.barred on is).nothing
       take_as false true on is (Ok Did) by now =
           let t = by.took refl in
-          entered t.entry (one.none_lost (free_of old.stuck _ _ is) on) by.disk t.took on is now (is_unfit (fit_of old t.entry)) refl t.enters (λ goes. t.told)
+          entered t.entry (one.none_lost (free_of old.stuck _ _ is) on) by.disk t.took on is now t.failed t.answer (is_unfit (fit_of old t.entry)) refl t.enters (λ goes. t.sends) t.unfit
       take_as false true on is (Err fault) by now =
           let l = by.lost on in
           loses l.entry (one.none_lost (free_of old.stuck _ _ is) on) by.disk l.took on is now by.stops.wanting l.entered

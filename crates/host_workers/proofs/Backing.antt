@@ -1,9 +1,10 @@
 -- The cell of a back is kept by each of its steps.
-use Rattle.std.proofs.Common.{◌≡◌, ◌≢◌, ◌∙◌, ap, sym, refl, subst, inl, inr, ⊎_elim, true≢false, ℕ, List, [], ◌∷◌, ◌++◌, append-nil, Option}
+use Rattle.std.proofs.Common.{◌≡◌, ◌≢◌, ◌∙◌, ap, sym, refl, subst, inl, inr, ⊎_elim, true≢false, ℕ, List, [], ◌∷◌, ◌++◌, append-nil, Option, None}
 use Rattle.std.proofs.lemmas.Bool.{cases_eq}
 use Rattle.std.proofs.lemmas.List.{map-append}
 use Rattle.std.specs.Prelude.{Bool, true, false, not, ◌&&◌, ◌⊎◌, option_to_list, Result, Ok, Err, OnOk, OnErr}
 use Rattle.do_value.specs.declared.fault.NoMemory.{NoMemory}
+use Rattle.batch_journal.specs.Moments.{IsTold}
 use Rattle.storage_map.specs.declared.op.Op.{Op}
 use Rattle.timeline.specs.Logs.{Backed, backed}
 use Rattle.timeline.specs.declared.back_log.Release.{Release}
@@ -14,13 +15,13 @@ use Rattle.timeline.specs.declared.notice.Notice.{Notice}
 use Rattle.timeline.specs.declared.notice.Stepped.{Stepped}
 use Rattle.timeline.specs.declared.notice.Stepped.TheVariants.{Did, Nothing}
 use Rattle.output_gate.proofs.Stored.{still_tells}
-use Rattle.output_gate.proofs.Unfit.{unfit_log, unfit_held, unfit_notice, unfit_mode, unfit_before, fit_taken, released_still}
-use Rattle.output_gate.specs.Entering.{Enters, IsIdle, LosesEntry, Takes, is_unfit, notice_at}
+use Rattle.output_gate.proofs.Unfit.{unfit_log, unfit_holds, unfit_mode, unfit_before, fit_taken, released_still}
+use Rattle.output_gate.specs.Entering.{Enters, Failed, IsIdle, LosesEntry, Takes, is_unfit, notice_at}
 use Rattle.output_gate.specs.Flushing.{Flushes}
 use Rattle.output_gate.specs.Mending.{IsIdleMend, LosesMend, Mends, Remounts, may_mend}
 use Rattle.output_gate.specs.Releasing.{IsIdleRelease, Releases, Stays, may_release, released_log, released_messages, released_notices}
 use Rattle.output_gate.specs.Serving.{IsAsBefore, IsBack, KeepsBack, StopsBy, is_stopped}
-use Rattle.output_gate.specs.Storing.{KeepsDisk, KeepsTelling}
+use Rattle.output_gate.specs.Storing.{IsDiskOf, KeepsDisk, KeepsTelling, ReadsDisk}
 use Rattle.output_gate.specs.Written.{FindsEnd}
 use Rattle.output_gate.specs.Taking.{fit_of, may_take}
 use Rattle.output_gate.specs.Telling.{opened_map}
@@ -38,7 +39,7 @@ use Rattle.object_history.specs.Seen.{rear_of, stand_of}
 use Rattle.object_history.specs.Stepping.{BackSteps}
 use Rattle.object_core.proofs.Rebuilding.{seen_same}
 use Rattle.object_core.specs.One.{messages}
-use Rattle.host_workers.proofs.Stepping.{disk_of, heard, none_is_few, one_is_few, silent_by, unheard_by, unseen_by}
+use Rattle.host_workers.proofs.Stepping.{disk_of, earlier, heard, none_is_few, one_is_few, silent_by, unheard_by, unseen_by}
 use Rattle.host_workers.specs.Backs.{IsBackOver}
 use Rattle.host_workers.specs.Runs.{Tells}
 
@@ -131,10 +132,10 @@ module _ {D : Type 0} (moment_of : D → ℕ) (left_since : D → ℕ → List �
   }
 
   -- ---- an entry is taken
-  module _ (e : Entry) (none : one.lost ≡ []) (known : Known) (same_disk : KeepsDisk old.store new.store) (took : later_got ≡ got ++ e ∷ []) (on : is_stopped old ≡ false)
+  module _ (e : Entry) (none : one.lost ≡ []) (known : Known) (same_disk : ReadsDisk told old.store new.store) (took : later_got ≡ got ++ e ∷ []) (on : is_stopped old ≡ false)
       (same_out : later_out ≡ out) where
     telling : KeepsTelling told old.store new.store
-    telling = still_tells told old.store new.store same_disk
+    telling = same_disk.telling
 
     took_all : later_got ≡ old.log.taken.items ++ e ∷ []
     took_all = took ∙ ap (λ (l : List Entry). l ++ e ∷ []) (one.took ∙ ap (λ (l : List Entry). old.log.taken.items ++ l) none ∙ append-nil old.log.taken.items)
@@ -157,17 +158,17 @@ module _ {D : Type 0} (moment_of : D → ℕ) (left_since : D → ℕ → List �
           (seen_same (opened_map start) old new log held mode before durable) said one.tells;
     }
 
-    unfit_enters : Enters old new e → is_unfit (fit_of old e) ≡ true → later ≡ notices → After
-    unfit_enters enters is said =
+    unfit_enters : (failed : Failed) → Enters failed old new e → is_unfit (fit_of old e) ≡ true → later ≡ notices → After
+    unfit_enters failed enters is said =
         unlogged (enters.log ∙ unfit_log (fit_of old e) (backed old.log) e is)
-        (enters.held ∙ ap (λ (x : List BackHeld). old.held.items ++ x) (unfit_held (fit_of old e) old e is) ∙ append-nil old.held.items)
+        (enters.held ∙ ap (λ (x : List BackHeld). old.held.items ++ x) (unfit_holds failed old e enters.may is) ∙ append-nil old.held.items)
         (enters.mode ∙ unfit_mode (fit_of old e) old.mode e.body is) (enters.before ∙ unfit_before (fit_of old e) old.before e.body is) enters.durable
         (λ free goes. true≢false (sym is ∙ sym enters.stuck ∙ free)) said
 
     -- It is logged.
-    logs : Enters old new e → is_unfit (fit_of old e) ≡ false
+    logs : (failed : Failed) → Enters failed old new e → is_unfit (fit_of old e) ≡ false
         → (new.log.taken.items ≡ old.log.taken.items ++ e ∷ [] → Tells told start new later) → After
-    logs enters is tells =
+    logs failed enters is tells =
         let taken : new.log.taken.items ≡ old.log.taken.items ++ e ∷ [] = ap (λ (x : Backed). x.taken) enters.log ∙ fit_taken (fit_of old e) (backed old.log) e is in
         record {
           stands = known;
@@ -179,42 +180,46 @@ module _ {D : Type 0} (moment_of : D → ℕ) (left_since : D → ℕ → List �
           tells = tells taken;
         }
 
-    steps_so : Enters old new e → is_unfit (fit_of old e) ≡ false → may_take old ≡ true
-        → BackSteps (rear_of old) (rear_of new) (e ∷ []) (option_to_list (notice_at old e))
-    steps_so enters is may = taking.take_steps moment_of left_since told image faults_of start opening (not (is_stopped old)) old new one.stands may e enters is
+    steps_so : (failed : Failed) → Enters failed old new e → is_unfit (fit_of old e) ≡ false → may_take old ≡ true
+        → BackSteps (rear_of old) (rear_of new) (e ∷ []) (option_to_list (notice_at failed old e))
+    steps_so failed enters is may = taking.take_steps moment_of left_since told image faults_of start opening (not (is_stopped old)) old new one.stands may e failed enters is
 
     -- It is taken, and the front is told.
-    entered_as : (unfit : Bool) → is_unfit (fit_of old e) ≡ unfit → Enters old new e → may_take old ≡ true → is_stopped new ≡ false
-        → later ≡ notices ++ option_to_list (notice_at old e) → After
-    entered_as true is enters may goes said =
-        unfit_enters enters is (said ∙ ap (λ (n : Option Notice). notices ++ option_to_list n) (unfit_notice (fit_of old e) e old.cache is) ∙ append-nil notices)
-    entered_as false is enters may goes said =
-        logs enters is
-        (λ taken. heard moment_of left_since told image faults_of start opening old new one.stands known telling (e ∷ []) taken notices later
-        (option_to_list (notice_at old e)) on goes (steps_so enters is may) said one.tells)
+    entered_as : (failed : Failed) (answered : Option Notice) (unfit : Bool) → is_unfit (fit_of old e) ≡ unfit → Enters failed old new e → may_take old ≡ true → is_stopped new ≡ false
+        → later ≡ notices ++ option_to_list answered → (is_unfit (fit_of old e) ≡ true → answered ≡ None)
+        → ((disk : D) → IsDiskOf old.store disk → IsTold (told disk) → answered ≡ notice_at failed old e) → After
+    entered_as failed answered true is enters may goes said none answers =
+        unfit_enters failed enters is (said ∙ ap (λ (n : Option Notice). notices ++ option_to_list n) (none is) ∙ append-nil notices)
+    entered_as failed answered false is enters may goes said none answers =
+        logs failed enters is
+        (λ taken tells.
+        let before = earlier moment_of left_since told image faults_of start opening old new telling one.stands tells in
+        heard moment_of left_since told image faults_of start opening old new one.stands known telling (e ∷ []) taken notices later
+        (option_to_list (notice_at failed old e)) on goes (steps_so failed enters is may)
+        (said ∙ ap (λ (n : Option Notice). notices ++ option_to_list n) (answers before.0 before.1 before.2)) one.tells tells)
 
     -- It is taken, and what the front is told is lost.
-    unheard_as : (unfit : Bool) → is_unfit (fit_of old e) ≡ unfit → Enters old new e → may_take old ≡ true → is_stopped new ≡ true → later ≡ notices → After
-    unheard_as true is enters may off said = unfit_enters enters is said
-    unheard_as false is enters may off said =
-        logs enters is
+    unheard_as : (failed : Failed) (unfit : Bool) → is_unfit (fit_of old e) ≡ unfit → Enters failed old new e → may_take old ≡ true → is_stopped new ≡ true → later ≡ notices → After
+    unheard_as failed true is enters may off said = unfit_enters failed enters is said
+    unheard_as failed false is enters may off said =
+        logs failed enters is
         (λ taken. unheard_by moment_of left_since told image faults_of start opening old new one.stands known telling (e ∷ []) taken notices later
-        (option_to_list (notice_at old e)) on off (steps_so enters is may) (λ stand empty. not_empty e empty) said one.tells)
+        (option_to_list (notice_at failed old e)) on off (steps_so failed enters is may) (λ stand empty. not_empty e empty) said one.tells)
 
     -- Memory was wanting.
-    loses : may_take old ≡ true → is_stopped new ≡ true → (IsAsBefore old new ⊎ Enters old new e) → later ≡ notices → After
+    loses : may_take old ≡ true → is_stopped new ≡ true → (IsAsBefore old new ⊎ ((failed : Failed) × Enters failed old new e)) → later ≡ notices → After
     loses may off (inl same) said = unlogged same.log same.held same.mode same.before same.durable (λ free goes. true≢false (sym off ∙ goes)) said
-    loses may off (inr enters) said = unheard_as (is_unfit (fit_of old e)) refl enters may off said
+    loses may off (inr (failed, enters)) said = unheard_as failed (is_unfit (fit_of old e)) refl enters may off said
 
   -- What the back's own contract says of a take.
   pub record TakesBy (result : Result Stepped NoMemory) : Type 0 where
     pub stopped : is_stopped old ≡ true → OnOk result ⊥ × (new ≡ old) × (later_got ≡ got) × (later ≡ notices)
     pub barred : is_stopped old ≡ false → may_take old ≡ false → IsIdle old new got later_got notices later result
     pub nothing : result ≡ Ok Nothing → IsIdle old new got later_got notices later result
-    pub took : result ≡ Ok Did → Takes old new got later_got notices later
+    pub took : result ≡ Ok Did → Takes told old new got later_got notices later
     pub lost : is_stopped old ≡ false → OnErr result (LosesEntry old new got later_got notices later)
     pub stops : StopsBy result new
-    pub disk : KeepsDisk old.store new.store
+    pub disk : ReadsDisk told old.store new.store
     pub back : KeepsBack moment_of left_since told image faults_of old new
     pub same_out : later_out ≡ out
 
@@ -224,7 +229,8 @@ module _ {D : Type 0} (moment_of : D → ℕ) (left_since : D → ℕ → List �
   taken_as false may on known (Err fault) by = err_not fault (by.barred on may).nothing
   taken_as true may on known (Ok Did) by =
       let t = by.took refl in
-      entered_as t.entry (one.none_lost (free_of old.stuck _ _ may) on) known by.disk t.took on by.same_out (is_unfit (fit_of old t.entry)) refl t.enters may by.stops.good t.told
+      entered_as t.entry (one.none_lost (free_of old.stuck _ _ may) on) known by.disk t.took on by.same_out t.failed t.answer (is_unfit (fit_of old t.entry)) refl t.enters may
+      by.stops.good t.sends t.unfit t.answers
   taken_as true may on known (Err fault) by =
       let l = by.lost on in
       loses l.entry (one.none_lost (free_of old.stuck _ _ may) on) known by.disk l.took on by.same_out may by.stops.wanting l.entered l.told

@@ -181,6 +181,27 @@ module _ {D R W T : Type 0} (run : Run) (moment_of : D → ℕ) (left_since : D 
   }
 
   -- the switch comes back
+  pub switch_leaves : (total more slots workers : ℕ) (cells : Cells D R W T) (switch : Option (SwitchCell W T)) (c : SwitchCell W T) → Board total slots workers cells
+      → cells.switch ≡ Some c → switch ≡ None → more ≡ total + 1 → Board more slots workers (record cells { switch = switch })
+  switch_leaves total more slots workers cells switch c h at is one = record {
+    counted =
+        let full : counts 1 (is_some cells.switch) ≡ 0 = ap (λ (p : Option (SwitchCell W T)). counts 1 (is_some p)) at in
+        let none : counts 1 (is_some switch) ≡ 1 = ap (λ (p : Option (SwitchCell W T)). counts 1 (is_some p)) is in
+        let r = h.counted in
+        omega arith;
+    many = h.many;
+    some = h.some;
+    named = record {
+      few = h.named.few;
+      each_front = h.named.each_front;
+      each_back = h.named.each_back;
+      fronts = h.named.fronts;
+      backs = h.named.backs;
+      switch = λ d e. let never : None ≡ Some d = sym is ∙ e in absurd cc;
+      lines = h.named.lines;
+    };
+  }
+
   pub switch_comes : (total less slots workers : ℕ) (cells : Cells D R W T) (switch : Option (SwitchCell W T)) (c : SwitchCell W T) → Board total slots workers cells
       → cells.switch ≡ None → IsSwitchOf taken write_faults run c → switch ≡ Some c → less + 1 ≡ total → Board less slots workers (record cells { switch = switch })
   switch_comes total less slots workers cells switch c h at named is one = record {

@@ -14,7 +14,7 @@ use Rattle.output_gate.specs.declared.back.Back.{Back}
 use Rattle.output_gate.specs.declared.store.Store.{Store}
 use Rattle.object_history.specs.Pair.{Rear, mounted}
 use Rattle.object_history.specs.Seen.{rear_of}
-use Rattle.object_history.specs.Stepping.{BackSteps, takes_own, takes_down, takes_late, flies, stops, sends, syncs, halts, begins, misses}
+use Rattle.object_history.specs.Stepping.{BackSteps, takes_own, read_fails, takes_down, takes_late, flies, stops, sends, syncs, halts, begins, misses}
 use Rattle.object_core.proofs.Due.{is_due, seen_is_rear, steps_as_due, steps_unheard}
 use Rattle.object_core.specs.Alone.{HasTold}
 use Rattle.object_core.specs.Apart.{BackRuns, goes_on as goes_by}
@@ -34,7 +34,8 @@ few_of (Some n) = one_is_few
 
 -- A step tells one notice at most.
 told_few : (r later : Rear) (got : List Entry) (told : List Notice) → BackSteps r later got told → length told ≤ 1
-told_few r _ _ _ (takes_own e map stand is) = few_of _
+told_few r _ _ _ (takes_own e map stand is unended) = few_of _
+told_few r _ _ _ (read_fails e a free counts_before counts_after map stand is unended asks) = none_is_few
 told_few r _ _ _ (takes_down e c map stand is fits) = none_is_few
 told_few r _ _ _ (takes_late e map is) = none_is_few
 told_few r _ _ _ (flies count map) = none_is_few
@@ -48,7 +49,8 @@ told_few r _ _ _ (misses c counts_before counts_after stand) = one_is_few
 -- A step that takes nothing and tells nothing is one whatever map the back has.
 silent : (opened : Contents) (r later : Rear) (got : List Entry) (told : List Notice) → BackSteps r later got told → got ≡ [] → told ≡ []
     → BackSteps (as_due opened r) (as_due opened later) [] []
-silent opened r _ _ _ (takes_own e map stand is) none empty = absurd cc
+silent opened r _ _ _ (takes_own e map stand is unended) none empty = absurd cc
+silent opened r _ _ _ (read_fails e a free counts_before counts_after map stand is unended asks) none empty = absurd cc
 silent opened r _ _ _ (takes_down e c map stand is fits) none empty = absurd cc
 silent opened r _ _ _ (takes_late e map is) none empty = absurd cc
 silent opened r _ _ _ (flies count map) none empty = flies count _

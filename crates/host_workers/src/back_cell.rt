@@ -79,7 +79,7 @@ impl<D: Disk, T: Wait + Copy> BackCell<D, T> {
         ensures nothing { result ≡ Ok Nothing → (self.new ≡ self.old)
             × (may_take self.old.back ≡ true → StartsWith self.old.line.got self.old.line.told) }
         ensures took { result ≡ Ok Did
-            → Takes self.old.back self.new.back self.old.line.got self.new.line.got self.old.notices.sent self.new.notices.sent }
+            → Takes D.told self.old.back self.new.back self.old.line.got self.new.line.got self.old.notices.sent self.new.notices.sent }
         ensures wanting { OnErr result (is_stopped self.new.back ≡ true) }
         ensures lanes { SameLanes self.old self.new }
         ensures cell { KeepsBackCell D.moment_of D.left_since D.told D.image D.faults_of self.old self.new }

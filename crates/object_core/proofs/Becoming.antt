@@ -32,7 +32,7 @@ use Rattle.front_half.specs.Taking.{Led, IsLedBy, fits, sticks_at, at_down, at_m
 use Rattle.front_half.specs.Turning.{IsEntered, IsTaken}
 use Rattle.object_front.specs.declared.evaluated.Evaluated.{Evaluated}
 use Rattle.front_half.specs.declared.half.Half.{Half}
-use Rattle.object_history.specs.Pair.{Held, IsPair, IsSilentAt, Rear, Stand, Together, answered, falls, halts, mends, misses, silent, syncs, unreached, wants}
+use Rattle.object_history.specs.Pair.{Held, IsPair, IsSilentAt, Rear, Stand, Together, answered, falls, halts, mends, misses, read_fails, silent, syncs, unreached, wants}
 use Rattle.front_half.specs.Kinds.{is_call}
 use Rattle.object_core.proofs.Sticking.{first_there}
 use Rattle.object_history.specs.Stepping as back
@@ -327,6 +327,7 @@ module _ (start : Contents) (f : Front) (front : Fronted) (back : Backed) where
   together_silent unread before _ _ _ s mode said (answered n is u) = said_not is.first is.asked (sym said ∙ is.said)
   together_silent unread before _ _ _ s mode said (syncs o t m u) = refl
   together_silent unread before _ _ _ s mode said (halts c m u some) = refl
+  together_silent unread before _ _ _ s mode said (read_fails o t a free counts_before counts_after m u) = refl
   together_silent unread before _ _ _ s mode said (falls call c m u count) = refl
   together_silent unread before _ _ _ s mode said (wants call c m u count) = refl
   together_silent unread before _ _ _ s mode said (mends call c i m u) = serves_not s (Some call) (sym mode ∙ m)
@@ -344,6 +345,7 @@ module _ (start : Contents) (f : Front) (front : Fronted) (back : Backed) where
   together_missed unread before _ _ _ mode (answered n is u) = serves_not is.state None (sym is.mode ∙ mode)
   together_missed unread before _ _ _ mode (syncs o t m u) = serves_not _ None (sym m ∙ mode)
   together_missed unread before _ _ _ mode (halts c m u some) = serves_not _ None (sym m ∙ mode)
+  together_missed unread before _ _ _ mode (read_fails o t a free counts_before counts_after m u) = serves_not _ None (sym m ∙ mode)
   together_missed unread before _ _ _ mode (falls call c m u count) = none_missed _ count
   together_missed unread before _ _ _ mode (wants call c m u count) = none_missed _ count
   together_missed unread before _ _ _ mode (mends call c i m u) = waits_not call (sym m ∙ mode)

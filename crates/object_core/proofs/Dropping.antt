@@ -243,7 +243,8 @@ pushed_not [] x is = absurd cc
 pushed_not (y ∷ xs) x is = absurd cc
 
 pub steps_downs : (r later : Rear) (entries : List Entry) (tell : List Notice) → BackSteps r later entries tell → KeepsDowns r.log.downs later.log.downs
-steps_downs r _ _ _ (back.takes_own e map mounted own) some = some
+steps_downs r _ _ _ (back.takes_own e map mounted own unended) some = some
+steps_downs r _ _ _ (back.read_fails e a free counts_before counts_after map mounted own unended asks) some = some
 steps_downs r _ _ _ (back.takes_down e c map stand own fits_it) some = some
 steps_downs r _ _ _ (back.takes_late e map late) some = some
 steps_downs r _ _ _ (back.flies count map) some = some

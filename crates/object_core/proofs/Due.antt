@@ -25,7 +25,7 @@ use Rattle.object_history.proofs.Alike.{same_start}
 use Rattle.object_history.proofs.BeingRear.{followed_as, mode_of}
 use Rattle.object_history.specs.Pair.{Rear, newest, mounted, fallen}
 use Rattle.object_history.specs.Seen.{rear_of}
-use Rattle.object_history.specs.Stepping.{IsRear, BackSteps, with_entry, holds, before_next, takes_own, takes_down, takes_late, flies, stops, sends, syncs, halts, begins, misses}
+use Rattle.object_history.specs.Stepping.{IsRear, BackSteps, with_entry, holds, before_next, takes_own, read_fails, takes_down, takes_late, flies, stops, sends, syncs, halts, begins, misses}
 use Rattle.object_core.specs.Seen.{due_map, as_due, seen_of}
 
 -- It is the same whatever the front has logged, and whatever mountings failed.
@@ -56,7 +56,7 @@ IsDue opened rear = rear.stand ≡ mounted → rear.map ≡ due_map opened rear.
 -- A step of a back is one of a back that has it.
 pub steps_as_due : (opened : Contents) (r later : Rear) (got : List Entry) (told : List Notice) → BackSteps r later got told → IsDue opened r → IsDue opened later
     → BackSteps (as_due opened r) (as_due opened later) got told
-steps_as_due opened r _ _ _ (takes_own e map stand is) due after =
+steps_as_due opened r _ _ _ (takes_own e map stand is unended) due after =
     let later : Rear = as_due opened (record r {
       log = with_entry r e;
       held = r.held ++ holds e.number r.before e.body;
@@ -64,7 +64,8 @@ steps_as_due opened r _ _ _ (takes_own e map stand is) due after =
       map = map;
     }) in
     subst (λ (m : Contents). BackSteps (as_due opened r) later (e ∷ []) (option_to_list (notice_of e.number m e.body))) (sym (due stand))
-    (takes_own e later.map stand is)
+    (takes_own e later.map stand is unended)
+steps_as_due opened r _ _ _ (read_fails e a free counts_before counts_after map stand is unended asks) due after = read_fails e a free counts_before counts_after _ stand is unended asks
 steps_as_due opened r _ _ _ (takes_down e c map stand is fits) due after = takes_down e c _ stand is fits
 steps_as_due opened r _ _ _ (takes_late e map is) due after = takes_late e _ is
 steps_as_due opened r _ _ _ (flies count map) due after = flies count _
@@ -91,7 +92,9 @@ steps_as_due opened r _ _ _ (misses c counts_before counts_after stand) due afte
 -- The same where what it tells is lost.
 pub steps_unheard : (opened : Contents) (r later : Rear) (got : List Entry) (told : List Notice) → BackSteps r later got told
     → (r.stand ≡ mounted → got ≡ [] → told ≡ []) → (heard : List Notice) × BackSteps (as_due opened r) (as_due opened later) got heard
-steps_unheard opened r _ _ _ (takes_own e map stand is) no_halt = (_, takes_own e _ stand is)
+steps_unheard opened r _ _ _ (takes_own e map stand is unended) no_halt = (_, takes_own e _ stand is unended)
+steps_unheard opened r _ _ _ (read_fails e a free counts_before counts_after map stand is unended asks) no_halt =
+    (_, read_fails e a free counts_before counts_after _ stand is unended asks)
 steps_unheard opened r _ _ _ (takes_down e c map stand is fits) no_halt = (_, takes_down e c _ stand is fits)
 steps_unheard opened r _ _ _ (takes_late e map is) no_halt = (_, takes_late e _ is)
 steps_unheard opened r _ _ _ (flies count map) no_halt = (_, flies count _)

@@ -5,6 +5,8 @@ use Rattle.std.proofs.lemmas.List.Elements.{All-nil, All-cons, All-append, All-f
 use Rattle.std.specs.Prelude.{Bool, true, false, cond, nat_le, option_to_list}
 use Rattle.std.specs.List.{All, filter}
 use Rattle.storage_map.specs.Contents.{Contents}
+use Rattle.timeline.specs.declared.caller.Cause.{Cause}
+use Rattle.timeline.specs.declared.caller.Cause.TheVariants as causes
 use Rattle.timeline.specs.declared.entry.Body.{Body}
 use Rattle.timeline.specs.declared.entry.Body.TheVariants as body
 use Rattle.timeline.specs.declared.entry.Entry.{Entry}
@@ -12,7 +14,7 @@ use Rattle.timeline.specs.declared.notice.Notice.{Notice}
 use Rattle.timeline.specs.declared.notice.Notice.TheVariants as notice
 use Rattle.output_gate.specs.Taking.{notice_of}
 use Rattle.object_history.specs.Pair.{Held, sync, halt, Rear}
-use Rattle.object_history.specs.Stepping.{BackSteps, IsRear, holds, before_next, with_entry, takes_own, takes_down, takes_late, flies, stops, sends, syncs, halts, begins, misses}
+use Rattle.object_history.specs.Stepping.{BackSteps, IsRear, IsUnended, is_end, holds, before_next, with_entry, takes_own, read_fails, takes_down, takes_late, flies, stops, sends, syncs, halts, begins, misses}
 use Rattle.object_core.proofs.Forward.{BackGoes, rests, steps, HasDue}
 use Rattle.object_core.proofs.Hearing.{not_none}
 use Rattle.object_core.specs.Heard.{is_news, IsWanted}
@@ -29,7 +31,8 @@ same_rest x y xs ys is = cc
 wanted_step : (rear next : Rear) (got : List Entry) (told : List Notice) → BackSteps rear next got told → IsWanted rear.stand → rear.held ≡ []
     → (n : Notice) (after rest : List Notice) → told ++ after ≡ n ∷ rest
     → (IsWanted next.stand → next.held ≡ [] → after ≡ n ∷ rest → is_news n ≡ true) → is_news n ≡ true
-wanted_step rear _ _ _ (takes_own e map stand is) want none n after rest told on = absurd (subst IsWanted stand want)
+wanted_step rear _ _ _ (takes_own e map stand is unended) want none n after rest told on = absurd (subst IsWanted stand want)
+wanted_step rear _ _ _ (read_fails e a free counts_before counts_after map stand is unended asks) want none n after rest told on = absurd (subst IsWanted stand want)
 wanted_step rear _ _ _ (takes_down e c map stand is fits) want none n after rest told on = absurd (subst IsWanted stand want)
 wanted_step rear _ _ _ (takes_late e map is) want none n after rest told on = on want none told
 wanted_step rear _ _ _ (flies count map) want none n after rest told on = on want none told
@@ -48,6 +51,60 @@ wanted_news opened last _ _ _ _ rests want none n rest is = absurd (not_none n r
 wanted_news opened last _ _ _ _ (steps count rear next got more told after known due step goes) want none n rest is =
     wanted_step rear next got told step want none n after rest is
     (λ wants frees comes. wanted_news opened last count next more after goes wants frees n rest comes)
+
+-- what is held that needs no more than is durable
+abbrev kept_at : ℕ → Held → Bool
+kept_at durable h = nat_le h.needs durable
+
+-- the end by a halt, as it is held
+abbrev pub halt_of : Cause → ℕ → Held
+halt_of c needs = record { hold = halt c; needs = needs }
+
+-- of what is held without such an end, the rest is without one
+unended_rest : (held : List Held) (h : Held) (rest : List Held) → held ≡ h ∷ rest → IsUnended held → IsUnended rest
+unended_rest held h rest is unended = All-tail (λ x. is_end x.hold ≡ false) h rest (subst IsUnended is unended)
+
+ended_not : {A : Type 0} (held : List Held) (c : Cause) (needs : ℕ) (rest : List Held) → held ≡ halt_of c needs ∷ rest → IsUnended held → A
+ended_not held c needs rest is unended = absurd (true≢false (All-head (λ x. is_end x.hold ≡ false) (halt_of c needs) rest (subst IsUnended is unended)))
+
+-- What a back tells first that holds such an end alone is of it, or of the mounting behind another.
+module _ (c : Cause) (needs : ℕ) (n : Notice) (after rest : List Notice) where
+  abbrev IsOn : Rear → Type 0
+  IsOn next = next.held ≡ halt_of c needs ∷ [] → after ≡ n ∷ rest → is_news n ≡ true
+
+  abbrev Mounts : Rear → Type 0
+  Mounts next = IsWanted next.stand → next.held ≡ [] → after ≡ n ∷ rest → is_news n ≡ true
+
+  halted_step : (rear next : Rear) (got : List Entry) (told : List Notice) → BackSteps rear next got told → rear.held ≡ halt_of c needs ∷ [] → told ++ after ≡ n ∷ rest
+      → IsOn next → Mounts next → is_news n ≡ true
+  halted_step rear _ _ _ (takes_own e map stand is unended) held told on mounts = ended_not rear.held c needs [] held unended
+  halted_step rear _ _ _ (read_fails e a free counts_before counts_after map stand is unended asks) held told on mounts = ended_not rear.held c needs [] held unended
+  halted_step rear _ _ _ (takes_down e d map stand is fits) held told on mounts = on held told
+  halted_step rear _ _ _ (takes_late e map is) held told on mounts = on held told
+  halted_step rear _ _ _ (flies count map) held told on mounts = on held told
+  halted_step rear _ _ _ (stops stop held_then map stand less flown by_append is_held) held told on mounts = kept_as (nat_le needs rear.durable) refl
+    where
+      is_then : held_then ≡ cond (nat_le needs rear.durable) (halt_of c needs ∷ []) []
+      is_then = is_held ∙ ap (λ (h : List Held). filter (kept_at rear.durable) h) held
+
+      kept_as : (kept : Bool) → nat_le needs rear.durable ≡ kept → is_news n ≡ true
+      kept_as true is = on (is_then ∙ ap (λ (b : Bool). cond b (halt_of c needs ∷ []) []) is) told
+      kept_as false is = mounts tt (is_then ∙ ap (λ (b : Bool). cond b (halt_of c needs ∷ []) []) is) told
+  halted_step rear _ _ _ (sends release map) held told on mounts = on held told
+  halted_step rear _ _ _ (syncs number needed others map is_held) held told on mounts =
+      absurd (true≢false (sym (ap (λ (h : Held). is_end h.hold)
+      (same_first (record { hold = sync number; needs = needed }) (halt_of c needs) others [] (sym is_held ∙ held)))))
+  halted_step rear _ _ _ (halts d needed others stop end is_held stand flown by_halt) held told on mounts = ap is_news (sym (same_first _ n after rest told))
+  halted_step rear _ _ _ (begins d end before map stand) held told on mounts = ap is_news (sym (same_first _ n after rest told))
+  halted_step rear _ _ _ (misses d counts_before counts_after stand) held told on mounts = ap is_news (sym (same_first _ n after rest told))
+
+pub halted_news : (opened : Contents) (last : Rear) (count : ℕ) (rear : Rear) (taken : List Entry) (told : List Notice) → BackGoes opened last count rear taken told
+    → (c : Cause) (needs : ℕ) → rear.held ≡ halt_of c needs ∷ [] → (n : Notice) (rest : List Notice) → told ≡ n ∷ rest → is_news n ≡ true
+halted_news opened last _ _ _ _ rests c needs held n rest is = absurd (not_none n rest (sym is))
+halted_news opened last _ _ _ _ (steps count rear next got more told after known due step goes) c needs held n rest is =
+    halted_step c needs n after rest rear next got told step held is
+    (λ held_then comes. halted_news opened last count next more after goes c needs held_then n rest comes)
+    (λ wants none comes. wanted_news opened last count next more after goes wants none n rest comes)
 
 -- Behind an entry nothing is told at once that answers a sync.
 no_sync : (number : ℕ) (m : Contents) (b : Body) (k : ℕ) (after rest : List Notice) → option_to_list (notice_of number m b) ++ after ≡ notice.Synced k ∷ rest
@@ -90,9 +147,6 @@ before_more needs before (body.Message sent) less = less
 before_more needs before (body.Bind identity) less = less
 before_more needs before (body.Halt c) less = less
 before_more needs before body.Mend less = less
-
-abbrev kept_at : ℕ → Held → Bool
-kept_at durable h = nat_le h.needs durable
 
 -- Where the first isn't kept, none is.
 none_kept : (needs durable : ℕ) (held : List Held) → durable < needs → NeedMore needs held → filter (kept_at durable) held ≡ []
@@ -140,15 +194,23 @@ module _ (opened : Contents) (last : Rear) (number needs : ℕ) (rest_told : Lis
       (after : List Notice) → IsRear opened next → HasDue opened next → BackGoes opened last count next more after → (rest : List Held)
       → rear.held ≡ sync_of number needs ∷ rest → NeedMore needs rest → needs ≤ rear.before → told ++ after ≡ notice.Synced number ∷ rest_told
       → FreesAfter count next more after → Freed (suc count) rear rest (got ++ more)
-  frees_step rear _ _ _ (takes_own e map stand is) due count more after known due_then goes rest held all less told on =
+  frees_step rear _ _ _ (takes_own e map stand is unended) due count more after known due_then goes rest held all less told on =
       let none = no_sync e.number rear.map e.body number after rest_told told in
       let behind : List Held = holds e.number rear.before e.body in
       frees_on rear _ (e ∷ []) count more rest (rest ++ behind) known due_then
       (subst (λ (t : List Notice). BackSteps (record rear { held = rest })
-      (record rear { log = with_entry rear e; held = rest ++ behind; before = before_next rear.before e.body; map = map }) (e ∷ []) t) none (takes_own e map stand is))
+      (record rear { log = with_entry rear e; held = rest ++ behind; before = before_next rear.before e.body; map = map }) (e ∷ []) t) none
+      (takes_own e map stand is (unended_rest rear.held (sync_of number needs) rest held unended)))
       (on (rest ++ behind) (ap (λ (h : List Held). h ++ behind) held)
       (All-append (λ h. needs ≤ h.needs) rest behind all (holds_more needs e.number rear.before e.body less)) (before_more needs rear.before e.body less)
       (ap (λ (t : List Notice). t ++ after) (sym none) ∙ told))
+  frees_step rear _ _ _ (read_fails e a free counts_before counts_after map stand is unended asks) due count more after known due_then goes rest held all less told on =
+      let behind : List Held = halt_of (causes.Disk counts_before counts_after) rear.before ∷ [] in
+      frees_on rear _ (e ∷ []) count more rest (rest ++ behind) known due_then
+      (read_fails e a free counts_before counts_after map stand is (unended_rest rear.held (sync_of number needs) rest held unended) asks)
+      (on (rest ++ behind) (ap (λ (h : List Held). h ++ behind) held)
+      (All-append (λ h. needs ≤ h.needs) rest behind all (All-cons (λ h. needs ≤ h.needs) (halt_of (causes.Disk counts_before counts_after) rear.before) [] less
+      (All-nil (λ h. needs ≤ h.needs)))) less told)
   frees_step rear _ _ _ (takes_down e c map stand is fits) due count more after known due_then goes rest held all less told on =
       frees_on rear _ (e ∷ []) count more rest rest known due_then (takes_down e c map stand is fits) (on rest held all less told)
   frees_step rear _ _ _ (takes_late e map is) due count more after known due_then goes rest held all less told on =

@@ -22,9 +22,9 @@ use Rattle.output_gate.specs.Taking.{notice_of}
 use Rattle.object_history.proofs.Asked.{is_asked_for}
 use Rattle.object_history.proofs.Entries.{entries_own, said_numbered}
 use Rattle.object_history.specs.Laws.{StepsSayWell}
-use Rattle.object_history.specs.Pair.{Held, Stand, mounted, fallen, Rear, newest, IsUnread, IsLine, Together, unreached, answered, syncs, halts, falls, wants, mends, misses, silent, IsPair, IsPhase}
+use Rattle.object_history.specs.Pair.{Held, Stand, mounted, fallen, Rear, newest, IsUnread, IsLine, Together, unreached, answered, syncs, halts, read_fails, falls, wants, mends, misses, silent, IsPair, IsPhase}
 use Rattle.object_history.specs.Saying.{is_asked}
-use Rattle.object_history.specs.Stepping.{BackSteps, holds, stands_after, takes_own, takes_down, takes_late, flies, stops, sends, syncs as gives_sync, halts as gives_halt, begins, misses as gives_miss}
+use Rattle.object_history.specs.Stepping.{BackSteps, holds, stands_after, takes_own, read_fails as fails_read, takes_down, takes_late, flies, stops, sends, syncs as gives_sync, halts as gives_halt, begins, misses as gives_miss}
 use Rattle.object_core.specs.Heard.{is_news, IsWanted, IsUnderWay, by_notice, by_hold, by_mounting, by_entry, IsHeard}
 use Rattle.object_core.specs.Seen.{as_due}
 
@@ -132,6 +132,7 @@ module _ (start : Contents) (f : Front) (front : Fronted) (back : Backed) (unrea
   own_gives number m now before asked stand held notices (answered n answers none) is = inl (not_none n [])
   own_gives number m now before asked stand held notices (syncs o t mode none) is = inr (inl (not_none _ []))
   own_gives number m now before asked stand held notices (halts c mode none some) is = inr (inl (not_none _ []))
+  own_gives number m now before asked stand held notices (read_fails o t a free counts_before counts_after mode none) is = inr (inl (not_none _ []))
   own_gives number m now before asked stand held notices (falls call c mode u length_is) is = absurd cc
   own_gives number m now before asked stand held notices (wants call c mode none length_is) is = absurd cc
   own_gives number m now before asked stand held notices (mends call c i mode none) is = inl (not_none _ [])
@@ -149,6 +150,7 @@ module _ (start : Contents) (f : Front) (front : Fronted) (back : Backed) (unrea
   down_mends c now stand held notices (answered n answers none) is = inl (not_none n [])
   down_mends c now stand held notices (syncs o t mode none) is = absurd cc
   down_mends c now stand held notices (halts d mode none some) is = absurd cc
+  down_mends c now stand held notices (read_fails o t a free counts_before counts_after mode none) is = absurd cc
   down_mends c now stand held notices (falls call d mode u length_is) is = inr (call_mends c call mode (subst (λ (x : Mode). IsUnread x unread) mode u))
   down_mends c now stand held notices (wants call d mode none length_is) is = absurd cc
   down_mends c now stand held notices (mends call d i mode none) is = inl (not_none _ [])
@@ -261,9 +263,13 @@ module _ (well : StepsSayWell) (k : Kind) (opened : Contents) (f : Front) (front
 pub back_heard : (well : StepsSayWell) (k : Kind) (opened : Contents) (f : Front) (front : Fronted) (r later : Rear) (got line : List Entry)
     (told notices : List Notice) → BackSteps r later got told → IsPair k opened f front (as_due opened r) (got ++ line) notices
     → IsHeard f (as_due opened r) (got ++ line) notices → IsHeard f (as_due opened later) line (notices ++ told)
-back_heard well k opened f front r _ _ line _ notices (takes_own e map stand is) pair heard = record {
+back_heard well k opened f front r _ _ line _ notices (takes_own e map stand is unended) pair heard = record {
   news = λ differs. news_stays notices _ r.stand (heard.news differs);
   answer = λ so. own_answer well k opened f front r line notices e pair heard so r.map stand is _ refl (heard.answer so);
+}
+back_heard well k opened f front r _ _ line _ notices (fails_read e a free counts_before counts_after map stand is unended asks) pair heard = record {
+  news = λ differs. news_stays notices [] r.stand (heard.news differs);
+  answer = λ so. by_hold (some_last r.held _ []);
 }
 back_heard well k opened f front r _ _ line _ notices (takes_down e c map stand is fits) pair heard = record {
   news = λ differs. down_news (heard.news differs);

@@ -26,7 +26,7 @@ use Rattle.timeline.specs.Intake.{answer_in}
 use Rattle.front_half.specs.Taking.{waits, waits_in}
 use Rattle.object_history.proofs.Entries.{entries_own}
 use Rattle.object_history.specs.Laws.{StepsSayWell}
-use Rattle.object_history.specs.Pair.{Held, Stand, Rear, newest, Together, unreached, answered, syncs, halts, falls, wants, mends, misses, silent, IsPair, IsPhase}
+use Rattle.object_history.specs.Pair.{Held, Stand, Rear, newest, Together, unreached, answered, syncs, halts, read_fails, falls, wants, mends, misses, silent, IsPair, IsPhase}
 use Rattle.object_history.specs.Saying.{LeadTo}
 use Rattle.object_history.specs.Stepping.{notices_with, said_before}
 use Rattle.object_core.proofs.Hearing.{some_first, some_last, not_none}
@@ -109,6 +109,7 @@ call_waits start f front back unread before stand held notices n rest (answered 
     absurd (no_answer m _ (ap is_news same ∙ news) answer.answer)
 call_waits start f front back unread before stand held notices n rest (syncs o t mode none) is news = absurd (not_none n rest (sym is))
 call_waits start f front back unread before stand held notices n rest (halts c mode none some) is news = absurd (not_none n rest (sym is))
+call_waits start f front back unread before stand held notices n rest (read_fails o t a free counts_before counts_after mode none) is news = absurd (not_none n rest (sym is))
 call_waits start f front back unread before stand held notices n rest (falls call c mode u length_is) is news = (call, mode)
 call_waits start f front back unread before stand held notices n rest (wants call c mode none length_is) is news = (Some call, mode)
 call_waits start f front back unread before stand held notices n rest (mends call c i mode none) is news = (Some call, mode)

@@ -19,7 +19,7 @@ use Rattle.front_half.specs.Standing.{Stood, IsClass, IsHalf, IsTakenBy, fresh, 
 use Rattle.object_front.specs.declared.evaluated.Evaluated.{Evaluated}
 use Rattle.front_half.specs.declared.half.Half.{Half}
 use Rattle.object_history.specs.Pair.{Rear, IsPair, newest}
-use Rattle.object_history.specs.Stepping.{BackSteps, IsRear, takes_own, takes_down, takes_late, flies, stops, sends, syncs, halts, begins, misses}
+use Rattle.object_history.specs.Stepping.{BackSteps, IsRear, takes_own, read_fails, takes_down, takes_late, flies, stops, sends, syncs, halts, begins, misses}
 use Rattle.front_history.specs.Turns.{BackStepsKeep, FrontBegins, TurnSteps}
 use Rattle.object_messages.specs.Dropped.{DropsAreAnswered}
 use Rattle.object_messages.specs.Laws.{EarlyIsUnasked}
@@ -44,7 +44,8 @@ Untaken rear = rear.log.taken ≡ [] → IsUntaken rear
 
 -- So each step of it leaves it.
 step_untaken : (opened : Contents) (r next : Rear) (got : List Entry) (told : List Notice) → BackSteps r next got told → IsRear opened r → Untaken r → Untaken next
-step_untaken opened r _ _ _ (takes_own e map stand is) known was none = absurd (some_last r.log.taken e [] none)
+step_untaken opened r _ _ _ (takes_own e map stand is unended) known was none = absurd (some_last r.log.taken e [] none)
+step_untaken opened r _ _ _ (read_fails e a free counts_before counts_after map stand is unended asks) known was none = absurd (some_last r.log.taken e [] none)
 step_untaken opened r _ _ _ (takes_down e c map stand is fits) known was none = absurd (some_last r.log.taken e [] none)
 step_untaken opened r _ _ _ (takes_late e map is) known was none = absurd (some_last r.log.taken e [] none)
 step_untaken opened r _ _ _ (flies count map) known was none = record { none_ended = (was none).none_ended; none_held = (was none).none_held }

@@ -18,10 +18,10 @@ use Rattle.front_half.specs.Turning.{IsTaken}
 use Rattle.object_front.specs.declared.evaluated.Evaluated.{Evaluated}
 use Rattle.front_half.specs.declared.half.Half.{Half}
 use Rattle.object_history.specs.Pair.{Rear}
-use Rattle.object_history.specs.Stepping.{BackSteps, IsRear, takes_own, takes_down, takes_late, flies, stops, sends, syncs, halts, begins, misses}
+use Rattle.object_history.specs.Stepping.{BackSteps, IsRear, takes_own, read_fails, takes_down, takes_late, flies, stops, sends, syncs, halts, begins, misses}
 use Rattle.front_history.specs.Paired.{ArePaired}
 use Rattle.object_core.proofs.Forward.{BackGoes, rests, steps, FrontGoes, stays, moves, FrontSteps, turned, halted, HasDue}
-use Rattle.object_core.proofs.Freeing.{frees, rear_holding, same_first, same_rest, wanted_news}
+use Rattle.object_core.proofs.Freeing.{frees, rear_holding, same_first, same_rest, wanted_news, halted_news}
 use Rattle.object_core.proofs.Hearing.{not_none}
 use Rattle.object_core.proofs.Numbers.{AreFrom, first_from, goes_class}
 use Rattle.object_core.proofs.Pairing.{pair_now, taken_now}
@@ -45,7 +45,8 @@ turn_heard script old new st _ events later heard (halted before got told came h
 -- A step of a back takes one entry, or none.
 step_takes : (rear next : Rear) (got : List Entry) (told : List Notice) → BackSteps rear next got told
     → (got ≡ []) ⊎ ((e : Entry) × (got ≡ e ∷ []) × TakesEntry rear e)
-step_takes rear _ _ _ (takes_own e map stand is) = inr (e, refl, own stand is)
+step_takes rear _ _ _ (takes_own e map stand is unended) = inr (e, refl, own stand is)
+step_takes rear _ _ _ (read_fails e a free counts_before counts_after map stand is unended asks) = inr (e, refl, own stand is)
 step_takes rear _ _ _ (takes_down e c map stand is fits) = inr (e, refl, fell c stand is)
 step_takes rear _ _ _ (takes_late e map is) = inr (e, refl, late is)
 step_takes rear _ _ _ (flies count map) = inl refl
@@ -167,7 +168,8 @@ module _ (script : Script) (class : ℕ) (opened : Contents) (Joint : JointOf) (
             freed_on
             (holds_answer k opened st.front (fronted old.log) rear m e (met.heard on) fits_from.0 takes_it
             (subst (λ (l : List Entry). AreFrom (takes k st.front (noticed m)).incarnation l) is_sent fits_from.1).0
-            (λ want none. wanted_news opened last_rear b rear taken told back want none m (more ++ rest) is) (pair_now k opened st old rear [] [] on met.paired))
+            (λ want none. wanted_news opened last_rear b rear taken told back want none m (more ++ rest) is)
+            (λ c needs held. halted_news opened last_rear b rear taken told back c needs held m (more ++ rest) is) (pair_now k opened st old rear [] [] on met.paired))
 
     -- The front waits for a notice that isn't told yet.
     waits_on : (m : Notice) → heard ≡ m ∷ [] → (b : ℕ) (rear : Rear) (taken : List Entry) (told : List Notice) → Back b rear taken told → suc n + b ≤ suc most

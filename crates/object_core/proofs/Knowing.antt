@@ -12,7 +12,7 @@ use Rattle.timeline.specs.declared.entry.Entry.{Entry}
 use Rattle.front_half.specs.Standing.{nothing_logged}
 use Rattle.output_gate.proofs.Unfit.{fit_taken}
 use Rattle.output_gate.specs.Ended.{newest_as, newest_of}
-use Rattle.output_gate.specs.Entering.{Enters, is_unfit, identity_by, identity_after}
+use Rattle.output_gate.specs.Entering.{Enters, Failed, is_unfit, identity_by, identity_after}
 use Rattle.output_gate.specs.Fits.{comes_behind, is_halt, last_of}
 use Rattle.output_gate.specs.Serving.{IsBackAs, marks_of}
 use Rattle.output_gate.specs.Taking.{fit_as, fits_so, fit_of, is_mounted_mode}
@@ -148,10 +148,10 @@ module _ {D : Type 0} (moment_of : D → ℕ) (left_since : D → ℕ → List �
 
 -- A back that takes an entry goes on knowing the slot's object.
 pub knows_enters : {D : Type 0} (moment_of : D → ℕ) (left_since : D → ℕ → List ℕ → Type 0) (told : D → Option (List ℕ)) (image : D → List ℕ → Type 0) (faults_of : D → ℕ)
-    (start : List (List Op)) (opening : ℕ) (sound : Bool) (object : Option Object) (old new : Back D) (e : Entry)
-    → IsBackAs moment_of left_since told image faults_of start opening sound old → Enters old new e → is_unfit (fit_of old e) ≡ false
+    (start : List (List Op)) (opening : ℕ) (sound : Bool) (object : Option Object) (old new : Back D) (e : Entry) (failed : Failed)
+    → IsBackAs moment_of left_since told image faults_of start opening sound old → Enters failed old new e → is_unfit (fit_of old e) ≡ false
     → KnowsObject object old → KnowsObject object new
-knows_enters moment_of left_since told image faults_of start opening sound object old new e known enters fits knows fit =
+knows_enters moment_of left_since told image faults_of start opening sound object old new e failed known enters fits knows fit =
     let taken : new.log.taken.items ≡ old.log.taken.items ++ e ∷ [] = ap (λ (x : Backed). x.taken) enters.log ∙ fit_taken (fit_of old e) (backed old.log) e fits in
     let first : Bool = is_some object in
     let here : FitsAt first None old.log.taken.items e =

@@ -20,14 +20,14 @@ use Rattle.output_gate.proofs.Steps.{can_append, flushed_back, has_disk, told_be
 use Rattle.output_gate.proofs.Stored.{same_journal, still_limit}
 use Rattle.output_gate.proofs.Unfit.{stops_still}
 use Rattle.output_gate.proofs.Written.{written_as_before, written_enters, written_flush, written_release, written_remounts, written_stays}
-use Rattle.output_gate.specs.Entering.{Enters}
+use Rattle.output_gate.specs.Entering.{Enters, Failed}
 use Rattle.timeline.specs.History.{is_halting}
 use Rattle.output_gate.specs.Flushing.{Ends, Flushes}
 use Rattle.output_gate.specs.Held.{HaltsLast, halts_well, has_halt, is_held_halt}
 use Rattle.output_gate.specs.Mending.{Remounts, may_mend}
 use Rattle.output_gate.specs.Releasing.{Releases, Stays, released_log}
 use Rattle.output_gate.specs.Serving.{IsAsBefore, IsBackAs, IsMounted, stop_of}
-use Rattle.output_gate.specs.Storing.{HasLimit, IsCauseOf, IsDiskOf, KeepsDisk, KeepsEnd, KeepsTelling}
+use Rattle.output_gate.specs.Storing.{HasLimit, IsCauseOf, IsDiskOf, KeepsEnd, KeepsTelling, ReadsDisk}
 use Rattle.output_gate.specs.Taking.{fit_of, is_wanted}
 use Rattle.output_gate.specs.Written.{AreWritten, FindsEnd}
 use Rattle.output_gate.specs.declared.back.Back.{Back}
@@ -99,10 +99,10 @@ module _ {D : Type 0} (moment_of : D → ℕ) (left_since : D → ℕ → List �
   limited_still same stops has written = limited_by same has (subst (AreFullAt extent.limit) (sym stops) by.full) written
 
   -- an entry was taken, or it wasn't for want of memory
-  pub limited_enters : (e : Entry) → Enters old new e → KeepsDisk old.store new.store → IsLimitedBy told extent new
-  limited_enters e enters disk =
+  pub limited_enters : (e : Entry) (failed : Failed) → Enters failed old new e → ReadsDisk told old.store new.store → IsLimitedBy told extent new
+  limited_enters e failed enters disk =
       limited_still enters.limit (ap (λ (x : Backed). x.stops) enters.log ∙ stops_still (fit_of old e) (backed old.log) e) (disk.limit old.limit)
-      (λ left at tells. written_enters moment_of left_since told image faults_of start opening sound extent.limit extent.end old new (was left at tells) known e enters disk.end)
+      (λ left at tells. written_enters moment_of left_since told image faults_of start opening sound extent.limit extent.end old new (was left at tells) known e failed enters disk.end)
 
   pub limited_as_before : IsAsBefore old new → (HasLimit old.limit old.store → HasLimit old.limit new.store) → (old.mode ≡ Mounted → KeepsEnd old.store new.store)
       → IsLimitedBy told extent new

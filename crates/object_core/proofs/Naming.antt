@@ -9,7 +9,7 @@ use Rattle.timeline.specs.declared.entry.Body.{Body}
 use Rattle.timeline.specs.declared.entry.Body.TheVariants as body
 use Rattle.timeline.specs.declared.entry.Entry.{Entry}
 use Rattle.output_gate.proofs.Unfit.{same_or_bound}
-use Rattle.output_gate.specs.Entering.{Enters, identity_after, identity_by}
+use Rattle.output_gate.specs.Entering.{Enters, Failed, identity_after, identity_by}
 use Rattle.output_gate.specs.Fits.{comes_behind, last_of}
 use Rattle.output_gate.specs.Taking.{fit_as, fit_in, is_mounted_mode}
 use Rattle.output_gate.specs.declared.back.Back.{Back}
@@ -95,8 +95,8 @@ module _ {D : Type 0} (object : Option Object) (old new : Back D) (e : Entry) (t
       )
 
   -- An entry that is taken and logged.
-  pub named_enters : Enters old new e → IsNamed object new
-  named_enters enters =
+  pub named_enters : (failed : Failed) → Enters failed old new e → IsNamed object new
+  named_enters failed enters =
       ⊎_elim
       (λ same. named_more object old new (e ∷ []) (enters.identity ∙ same) taken named)
       (λ bound. binds bound.0 bound.1 bound.2 (enters.identity ∙ bound.3))

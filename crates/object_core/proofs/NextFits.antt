@@ -27,7 +27,7 @@ use Rattle.object_history.proofs.Asked.{is_asked_for}
 use Rattle.object_history.proofs.Heads.{Head, is_own, is_late, head_of}
 use Rattle.object_history.proofs.WellSaid.{delivers_well, answers_well}
 use Rattle.object_history.proofs.Wishes.{IsNoWish, none_wished}
-use Rattle.object_history.specs.Pair.{Held, Stand, mounted, wanted, fallen, IsUnread, Together, unreached, answered, syncs, halts, falls, wants, mends, misses, silent, IsPair, IsPhase}
+use Rattle.object_history.specs.Pair.{Held, Stand, mounted, wanted, fallen, IsUnread, Together, unreached, answered, syncs, halts, read_fails, falls, wants, mends, misses, silent, IsPair, IsPhase}
 use Rattle.object_history.specs.Saying.{is_asked}
 use Rattle.object_history.specs.Seen.{stand_of}
 use Rattle.object_core.proofs.DownSaid.{IsDown, DownFits}
@@ -87,6 +87,7 @@ module _ (start : Contents) (f : Front) (front : Fronted) (back : Backed) (read 
   own_fits before stand held notices (answered n answer none) = absurd (not_none b more none)
   own_fits before stand held notices (syncs o t mode none) = absurd (not_none b more none)
   own_fits before stand held notices (halts c mode none some) = absurd (not_none b more none)
+  own_fits before stand held notices (read_fails o t a free counts_before counts_after mode none) = absurd (not_none b more none)
   own_fits before stand held notices (falls call c mode u length_is) = falls_fits call mode
   own_fits before stand held notices (wants call c mode none length_is) = absurd (not_none b more none)
   own_fits before stand held notices (mends call c i mode none) = absurd (not_none b more none)

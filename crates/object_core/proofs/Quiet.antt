@@ -45,7 +45,7 @@ use Rattle.output_gate.specs.declared.held.Held.{Held as BackHeld}
 use Rattle.object_history.proofs.Entries.{said_numbered}
 use Rattle.object_history.proofs.SaidSoFar.{entries_now, events_now}
 use Rattle.object_history.proofs.StateAtRest.{pair_state}
-use Rattle.object_history.specs.Pair.{Held, Stand, Rear, Together, unreached, answered, syncs, halts, falls, wants, mends, misses, silent, IsPair, IsPhase, newest}
+use Rattle.object_history.specs.Pair.{Held, Stand, Rear, Together, unreached, answered, syncs, halts, read_fails, falls, wants, mends, misses, silent, IsPair, IsPhase, newest}
 use Rattle.object_history.specs.Seen.{held_of, stand_of}
 use Rattle.front_history.specs.Turns.{HalvesAreWhole}
 use Rattle.object_core.proofs.Alike.{stuck_alike, waits_alike, enters_alike}
@@ -87,6 +87,8 @@ together_needs start f front back unread before stand held notices (answered n a
 together_needs start f front back unread before stand held notices (syncs o t mode none) x xs is =
     sym (ap (λ (h : Held). h.needs) (head_same _ x [] xs is))
 together_needs start f front back unread before stand held notices (halts c mode none some) x xs is =
+    sym (ap (λ (h : Held). h.needs) (head_same _ x [] xs is))
+together_needs start f front back unread before stand held notices (read_fails o t a free counts_before counts_after mode none) x xs is =
     sym (ap (λ (h : Held). h.needs) (head_same _ x [] xs is))
 together_needs start f front back unread before stand held notices (falls call c mode u length_is) x xs is = absurd (not_none x xs (sym is))
 together_needs start f front back unread before stand held notices (wants call c mode none length_is) x xs is = absurd (not_none x xs (sym is))

@@ -1,9 +1,10 @@
 -- An object whose back takes an entry.
-use Rattle.std.proofs.Common.{◌≡◌, ◌∙◌, ap, sym, refl, subst, inl, inr, true≢false, ℕ, List, [], ◌∷◌, ◌++◌, append-nil, append_assoc, Option}
+use Rattle.std.proofs.Common.{◌≡◌, ◌∙◌, ap, sym, refl, subst, inl, inr, true≢false, ℕ, List, [], ◌∷◌, ◌++◌, append-nil, append_assoc, Option, None}
 use Rattle.std.specs.Prelude.{Bool, true, false, not, ◌&&◌, ◌⊎◌, is_some, option_to_list, Result, Ok, Err, OnOk, OnErr}
 use Rattle.do_tree.specs.Tree.{Script}
 use Rattle.do_value.specs.declared.fault.NoMemory.{NoMemory}
 use Rattle.lane.specs.Lanes.{Both, sent_on, StartsWith}
+use Rattle.batch_journal.specs.Moments.{IsTold}
 use Rattle.storage_map.specs.Contents.{Contents}
 use Rattle.storage_map.specs.declared.op.Op.{Op}
 use Rattle.timeline.specs.Logs.{Backed, backed}
@@ -16,11 +17,10 @@ use Rattle.timeline.specs.declared.notice.Stepped.TheVariants.{Did, Nothing}
 use Rattle.front_half.specs.Standing as standing
 use Rattle.object_front.specs.declared.evaluated.Evaluated.{Evaluated}
 use Rattle.front_half.specs.declared.half.Half.{Half}
-use Rattle.output_gate.proofs.Stored.{still_tells}
-use Rattle.output_gate.proofs.Unfit.{unfit_identity, unfit_log, unfit_held, unfit_notice, unfit_mode, unfit_before, fit_taken, released_still}
-use Rattle.output_gate.specs.Entering.{identity_after, Enters, IsIdle, Takes, LosesEntry, is_unfit, notice_at}
+use Rattle.output_gate.proofs.Unfit.{unfit_identity, unfit_log, unfit_holds, unfit_mode, unfit_before, fit_taken, released_still}
+use Rattle.output_gate.specs.Entering.{identity_after, Enters, Failed, IsIdle, Takes, LosesEntry, is_unfit, notice_at}
 use Rattle.output_gate.specs.Serving.{IsBack, KeepsBack, StopsBy, IsAsBefore, is_stopped}
-use Rattle.output_gate.specs.Storing.{KeepsDisk, KeepsTelling}
+use Rattle.output_gate.specs.Storing.{IsDiskOf, KeepsTelling, ReadsDisk}
 use Rattle.output_gate.specs.Taking.{may_take, fit_of}
 use Rattle.output_gate.specs.Telling.{opened_map}
 use Rattle.output_gate.specs.declared.back.Back.{Back}
@@ -49,12 +49,12 @@ pub record TakesBy {D : Type 0} (moment_of : D → ℕ) (left_since : D → ℕ 
   pub barred : is_stopped old ≡ false → may_take old ≡ false → IsIdle old new line.got later_line.got (sent_on notices) (sent_on later) result
   pub nothing : result ≡ Ok Nothing → IsIdle old new line.got later_line.got (sent_on notices) (sent_on later) result
   pub empty : result ≡ Ok Nothing → may_take old ≡ true → StartsWith line.got (sent_on line)
-  pub took : result ≡ Ok Did → Takes old new line.got later_line.got (sent_on notices) (sent_on later)
+  pub took : result ≡ Ok Did → Takes told old new line.got later_line.got (sent_on notices) (sent_on later)
   pub lost : is_stopped old ≡ false → OnErr result (LosesEntry old new line.got later_line.got (sent_on notices) (sent_on later))
   pub stops : StopsBy result new
   pub inlet : sent_on later_line ≡ sent_on line
   pub outlet : later.got ≡ notices.got
-  pub disk : KeepsDisk old.store new.store
+  pub disk : ReadsDisk told old.store new.store
   pub back : KeepsBack moment_of left_since told image faults_of old new
 
 free_of : (stuck wanted few : Bool) → (not stuck && wanted && few) ≡ true → stuck ≡ false
@@ -103,10 +103,10 @@ module _ {D : Type 0} (moment_of : D → ℕ) (left_since : D → ℕ → List �
       (subst (λ (n : Both Notice). One moment_of left_since told image faults_of script origin front inbox old line n out)
       (sym (same_queue notices later told_got (sym (took_none notices later told_got told_same)))) one))
 
-  module _ (e : Entry) (none : one.lost ≡ []) (known : Known) (same_disk : KeepsDisk old.store new.store)
+  module _ (e : Entry) (none : one.lost ≡ []) (known : Known) (same_disk : ReadsDisk told old.store new.store)
       (took : later_line.got ≡ line.got ++ e ∷ []) (sent : sent_on later_line ≡ sent_on line) (kept : later.got ≡ notices.got) (on : is_stopped old ≡ false) where
     telling : KeepsTelling told old.store new.store
-    telling = still_tells told old.store new.store same_disk
+    telling = same_disk.telling
 
     waits_first : one.lost ++ line.waiting ≡ e ∷ later_line.waiting
     waits_first = ap (λ (x : List Entry). x ++ line.waiting) none ∙ took_first line later_line e took sent
@@ -121,8 +121,8 @@ module _ {D : Type 0} (moment_of : D → ℕ) (left_since : D → ℕ → List �
         let before : TellsNow told old = told_earlier moment_of left_since told image faults_of script origin front inbox old new telling one.back_stands tells in
         one_fits moment_of left_since told image faults_of script origin front inbox old line notices out one has before goes_on on may e later_line.waiting waits_first
 
-    fits_behind : Enters old new e → is_unfit (fit_of old e) ≡ false → may_take old ≡ true → FitsItsBack told script origin.object front new
-    fits_behind enters is may has tells goes_on goes =
+    fits_behind : (failed : Failed) → Enters failed old new e → is_unfit (fit_of old e) ≡ false → may_take old ≡ true → FitsItsBack told script origin.object front new
+    fits_behind failed enters is may has tells goes_on goes =
         let taken : new.log.taken.items ≡ old.log.taken.items ++ e ∷ [] = ap (λ (x : Backed). x.taken) enters.log ∙ fit_taken (fit_of old e) (backed old.log) e is in (
           enters.stuck ∙ is,
           ap is_some enters.identity ∙ (fits_so has tells goes_on may).1 ∙ ap (λ (entries : List Entry). known_over (is_some origin.object) entries) (sym taken),
@@ -144,27 +144,27 @@ module _ {D : Type 0} (moment_of : D → ℕ) (left_since : D → ℕ → List �
         (seen_same opened old new log held mode before durable) (sym waits_first) (sym (took_none notices later kept told_same))) fits limited
         (λ tells some none. some (ap (λ (x : Backed). x.downs) (sym log) ∙ none))
 
-    limited_so : Enters old new e → IsLimitedBy told origin.extent new
-    limited_so enters = limited_enters moment_of left_since told image faults_of origin.start origin.opening (not (is_stopped old)) origin.extent old new one.back_stands telling one.limited
-        e enters same_disk
+    limited_so : (failed : Failed) → Enters failed old new e → IsLimitedBy told origin.extent new
+    limited_so failed enters = limited_enters moment_of left_since told image faults_of origin.start origin.opening (not (is_stopped old)) origin.extent old new one.back_stands telling one.limited
+        e failed enters same_disk
 
-    unfit_enters : Enters old new e → is_unfit (fit_of old e) ≡ true → may_take old ≡ true → sent_on later ≡ sent_on notices → After
-    unfit_enters enters is may told_same =
+    unfit_enters : (failed : Failed) → Enters failed old new e → is_unfit (fit_of old e) ≡ true → may_take old ≡ true → sent_on later ≡ sent_on notices → After
+    unfit_enters failed enters is may told_same =
         unlogged (enters.log ∙ unfit_log (fit_of old e) (backed old.log) e is)
-        (enters.held ∙ ap (λ (x : List BackHeld). old.held.items ++ x) (unfit_held (fit_of old e) old e is) ∙ append-nil old.held.items)
+        (enters.held ∙ ap (λ (x : List BackHeld). old.held.items ++ x) (unfit_holds failed old e enters.may is) ∙ append-nil old.held.items)
         (enters.mode ∙ unfit_mode (fit_of old e) old.mode e.body is) (enters.before ∙ unfit_before (fit_of old e) old.before e.body is) enters.durable
         (enters.identity ∙ unfit_identity (fit_of old e) old.identity e.body is)
         (λ free on. true≢false (sym is ∙ sym enters.stuck ∙ free))
-        (λ has tells goes_on goes. absurd (true≢false (sym is ∙ (fits_so has tells goes_on may).0))) told_same (limited_so enters)
+        (λ has tells goes_on goes. absurd (true≢false (sym is ∙ (fits_so has tells goes_on may).0))) told_same (limited_so failed enters)
 
     -- The entry is logged.
-    logs : Enters old new e → is_unfit (fit_of old e) ≡ false
+    logs : (failed : Failed) → Enters failed old new e → is_unfit (fit_of old e) ≡ false
         → (TellsNow told new → Hears (seen_of opened old) (seen_of opened new) (e ∷ []) notices.waiting later.waiting)
         → StillHears moment_of left_since told image faults_of script origin front inbox old new line notices out one later_line.waiting later.waiting
         → FitsItsBack told script origin.object front new → After
-    logs enters is steps heard fits =
+    logs failed enters is steps heard fits =
         let taken : new.log.taken.items ≡ old.log.taken.items ++ e ∷ [] = ap (λ (x : Backed). x.taken) enters.log ∙ fit_taken (fit_of old e) (backed old.log) e is in
-        rebuilt moment_of left_since told image faults_of script origin front inbox old new line later_line notices later out out one known telling (named_enters origin.object old new e taken one.named enters) []
+        rebuilt moment_of left_since told image faults_of script origin front inbox old new line later_line notices later out out one known telling (named_enters origin.object old new e taken one.named failed enters) []
         (λ free on. refl)
         (sent_so ∙ sym (append_assoc old.log.taken.items (e ∷ []) later_line.waiting) ∙ ap (λ (x : List Entry). x ++ later_line.waiting) (sym taken)
         ∙ ap (λ (x : List Entry). x ++ later_line.waiting) (sym (append-nil new.log.taken.items)))
@@ -172,57 +172,64 @@ module _ {D : Type 0} (moment_of : D → ℕ) (left_since : D → ℕ → List �
         (λ tells k paired.
         paired_on keeps k opened one.st front (seen_of opened old) (seen_of opened new) (one.lost ++ line.waiting) later_line.waiting (e ∷ []) notices.waiting later.waiting
         (steps tells) (seen_is_rear moment_of left_since told image faults_of origin.start origin.opening old one.back_stands)
-        (seen_is_rear moment_of left_since told image faults_of origin.start origin.opening new known) waits_first paired) heard fits (limited_so enters)
+        (seen_is_rear moment_of left_since told image faults_of origin.start origin.opening new known) waits_first paired) heard fits (limited_so failed enters)
         (λ tells. steps_downs (seen_of opened old) (seen_of opened new) (e ∷ []) (steps tells).heard (steps tells).steps)
 
     -- The step of which the laws speak.
-    steps_so : Enters old new e → is_unfit (fit_of old e) ≡ false → may_take old ≡ true
-        → BackSteps (rear_of old) (rear_of new) (e ∷ []) (option_to_list (notice_at old e))
-    steps_so enters is may =
-        gate.take_steps moment_of left_since told image faults_of origin.start origin.opening (not (is_stopped old)) old new one.back_stands may e enters is
+    steps_so : (failed : Failed) → Enters failed old new e → is_unfit (fit_of old e) ≡ false → may_take old ≡ true
+        → BackSteps (rear_of old) (rear_of new) (e ∷ []) (option_to_list (notice_at failed old e))
+    steps_so failed enters is may =
+        gate.take_steps moment_of left_since told image faults_of origin.start origin.opening (not (is_stopped old)) old new one.back_stands may e failed enters is
 
     -- It is taken, and the front is told.
-    entered_as : (unfit : Bool) → is_unfit (fit_of old e) ≡ unfit → Enters old new e → may_take old ≡ true → is_stopped new ≡ false
-        → sent_on later ≡ sent_on notices ++ option_to_list (notice_at old e) → After
-    entered_as true is enters may goes said =
-        unfit_enters enters is may (said ∙ ap (λ (n : Option Notice). sent_on notices ++ option_to_list n) (unfit_notice (fit_of old e) e old.cache is) ∙ append-nil (sent_on notices))
-    entered_as false is enters may goes said =
-        logs enters is (λ tells. record {
-          heard = option_to_list (notice_at old e);
-          given = option_to_list (notice_at old e);
-          steps = steps_as_due opened (rear_of old) (rear_of new) (e ∷ []) (option_to_list (notice_at old e)) (steps_so enters is may)
+    entered_as : (failed : Failed) (answer : Option Notice) (unfit : Bool) → is_unfit (fit_of old e) ≡ unfit → Enters failed old new e → may_take old ≡ true → is_stopped new ≡ false
+        → sent_on later ≡ sent_on notices ++ option_to_list answer → (is_unfit (fit_of old e) ≡ true → answer ≡ None)
+        → ((disk : D) → IsDiskOf old.store disk → IsTold (told disk) → answer ≡ notice_at failed old e) → After
+    entered_as failed answer true is enters may goes said none answers =
+        unfit_enters failed enters is may (said ∙ ap (λ (n : Option Notice). sent_on notices ++ option_to_list n) (none is) ∙ append-nil (sent_on notices))
+    entered_as failed answer false is enters may goes said none answers =
+        logs failed enters is (λ tells. record {
+          heard = option_to_list (notice_at failed old e);
+          given = option_to_list (notice_at failed old e);
+          steps = steps_as_due opened (rear_of old) (rear_of new) (e ∷ []) (option_to_list (notice_at failed old e)) (steps_so failed enters is may)
               (due_now moment_of left_since told image faults_of script origin front inbox old
               (told_earlier moment_of left_since told image faults_of script origin front inbox old new telling one.back_stands tells) one.back_stands on)
               (due_now moment_of left_since told image faults_of script origin front inbox new tells known goes);
           are = inl refl;
-          come = sent_last notices later (option_to_list (notice_at old e)) kept said;
+          come = sent_last notices later (option_to_list (notice_at failed old e)) kept (said_so tells);
         })
-        (hears_on moment_of left_since told image faults_of script origin front inbox old new line notices out one telling (λ off. on) (e ∷ []) later_line.waiting
-        (option_to_list (notice_at old e)) later.waiting (steps_so enters is may) waits_first (sent_last notices later (option_to_list (notice_at old e)) kept said))
-        (fits_behind enters is may)
+        (λ tells. hears_on moment_of left_since told image faults_of script origin front inbox old new line notices out one telling (λ off. on) (e ∷ []) later_line.waiting
+        (option_to_list (notice_at failed old e)) later.waiting (steps_so failed enters is may) waits_first
+        (sent_last notices later (option_to_list (notice_at failed old e)) kept (said_so tells)) tells)
+        (fits_behind failed enters is may)
+      where
+        said_so : TellsNow told new → sent_on later ≡ sent_on notices ++ option_to_list (notice_at failed old e)
+        said_so tells =
+            let before = told_earlier moment_of left_since told image faults_of script origin front inbox old new telling one.back_stands tells in
+            said ∙ ap (λ (n : Option Notice). sent_on notices ++ option_to_list n) (answers before.0 before.1 before.2)
 
     -- It is taken, and what the front is told is lost.
-    unheard_as : (unfit : Bool) → is_unfit (fit_of old e) ≡ unfit → Enters old new e → may_take old ≡ true → is_stopped new ≡ true → sent_on later ≡ sent_on notices → After
-    unheard_as true is enters may off said = unfit_enters enters is may said
-    unheard_as false is enters may off said =
-        let s = steps_unheard opened (rear_of old) (rear_of new) (e ∷ []) (option_to_list (notice_at old e)) (steps_so enters is may) (λ stand empty. absurd (not_empty e empty)) in
-        logs enters is (λ tells. record {
+    unheard_as : (failed : Failed) (unfit : Bool) → is_unfit (fit_of old e) ≡ unfit → Enters failed old new e → may_take old ≡ true → is_stopped new ≡ true → sent_on later ≡ sent_on notices → After
+    unheard_as failed true is enters may off said = unfit_enters failed enters is may said
+    unheard_as failed false is enters may off said =
+        let s = steps_unheard opened (rear_of old) (rear_of new) (e ∷ []) (option_to_list (notice_at failed old e)) (steps_so failed enters is may) (λ stand empty. absurd (not_empty e empty)) in
+        logs failed enters is (λ tells. record {
           heard = s.0;
           given = [];
           steps = s.1;
           are = inr refl;
           come = sym (took_none notices later kept said) ∙ sym (append-nil notices.waiting);
         })
-        (λ tells goes_on goes. absurd (true≢false (sym off ∙ goes))) (fits_behind enters is may)
+        (λ tells goes_on goes. absurd (true≢false (sym off ∙ goes))) (fits_behind failed enters is may)
 
     -- Memory was wanting.
     loses : LosesEntry old new line.got later_line.got (sent_on notices) (sent_on later) → may_take old ≡ true → is_stopped new ≡ true
-        → (IsAsBefore old new ⊎ Enters old new e) → sent_on later ≡ sent_on notices → After
+        → (IsAsBefore old new ⊎ ((failed : Failed) × Enters failed old new e)) → sent_on later ≡ sent_on notices → After
     loses lost may off (inl same) said =
         unlogged same.log same.held same.mode same.before same.durable same.identity (λ free on. true≢false (sym off ∙ on))
         (λ has tells goes_on goes. absurd (true≢false (sym off ∙ goes))) said (limited_as_before moment_of left_since told image faults_of origin.start origin.opening (not (is_stopped old)) origin.extent old new one.back_stands telling one.limited
         same (same_disk.limit old.limit) (λ mounted. same_disk.end))
-    loses lost may off (inr enters) said = unheard_as (is_unfit (fit_of old e)) refl enters may off said
+    loses lost may off (inr (failed, enters)) said = unheard_as failed (is_unfit (fit_of old e)) refl enters may off said
 
   may_not : may_take old ≡ true → old.stuck ≡ false
   may_not may = free_of old.stuck _ _ may
@@ -240,7 +247,8 @@ module _ {D : Type 0} (moment_of : D → ℕ) (left_since : D → ℕ → List �
       idle i.back i.took by.inlet i.told by.outlet
   may_as true may on known (Ok Did) by =
       let t = by.took refl in
-      entered_as t.entry (one.none_lost (may_not may) on) known by.disk t.took by.inlet by.outlet on (is_unfit (fit_of old t.entry)) refl t.enters may by.stops.good t.told
+      entered_as t.entry (one.none_lost (may_not may) on) known by.disk t.took by.inlet by.outlet on t.failed t.answer (is_unfit (fit_of old t.entry)) refl t.enters may by.stops.good t.sends
+      t.unfit t.answers
   may_as true may on known (Err fault) by =
       let l = by.lost on in
       loses l.entry (one.none_lost (may_not may) on) known by.disk l.took by.inlet by.outlet on l may by.stops.wanting l.entered l.told

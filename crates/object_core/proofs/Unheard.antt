@@ -10,7 +10,7 @@ use Rattle.timeline.specs.declared.notice.Notice.{Notice}
 use Rattle.front_half.specs.Standing.{Stood}
 use Rattle.object_front.specs.declared.evaluated.Evaluated.{Evaluated}
 use Rattle.front_half.specs.declared.half.Half.{Half}
-use Rattle.object_history.specs.Pair.{Held, Stand, mounted, wanted, fallen, Rear, IsSilentAt, IsNews, IsLeftOver, Behind, Together, unreached, answered, syncs, halts, falls, wants, mends, misses, silent, IsPair}
+use Rattle.object_history.specs.Pair.{Held, Stand, mounted, wanted, fallen, Rear, IsSilentAt, IsNews, IsLeftOver, Behind, Together, unreached, answered, syncs, halts, read_fails, falls, wants, mends, misses, silent, IsPair}
 use Rattle.front_history.specs.Paired.{ArePaired, logged_with}
 use Rattle.object_core.proofs.Hearing.{some_last}
 
@@ -44,6 +44,7 @@ module _ (start : Contents) (f : Front) (front : Fronted) (back : Backed) (unrea
   together_less _ _ _ notices (answered m answer empty) is = silent_as mounted (serves answer.state) notices empty answer.mode tt (none_first notices n m is)
   together_less _ _ _ notices (syncs o t mode empty) is = absurd (some_last notices n [] (sym is))
   together_less _ _ _ notices (halts c mode empty some) is = absurd (some_last notices n [] (sym is))
+  together_less _ _ _ notices (read_fails o t a free counts_before counts_after mode empty) is = absurd (some_last notices n [] (sym is))
   together_less _ _ _ notices (falls call c mode u missed) is = absurd (some_last notices n [] (sym is))
   together_less _ _ _ notices (wants call c mode empty missed) is = absurd (some_last notices n [] (sym is))
   together_less _ _ _ notices (mends call c i mode empty) is = silent_as mounted (down (Some call)) notices empty mode tt (none_first notices n _ is)

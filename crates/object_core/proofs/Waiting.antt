@@ -8,6 +8,7 @@ use Rattle.timeline.specs.Intake.{Kind, Front, FitsMode, FitsNotice, Mode, serve
 use Rattle.timeline.specs.Logs.{Fronted}
 use Rattle.timeline.specs.Object.{Object, OpenTask, State, idle, waiting, ended}
 use Rattle.timeline.specs.declared.caller.Cause.{Cause}
+use Rattle.timeline.specs.declared.caller.Cause.TheVariants as causes
 use Rattle.timeline.specs.declared.entry.Body.{Body}
 use Rattle.timeline.specs.declared.entry.Body.TheVariants as body
 use Rattle.timeline.specs.declared.entry.Entry.{Entry}
@@ -15,7 +16,7 @@ use Rattle.timeline.specs.declared.event.Event.{Event}
 use Rattle.timeline.specs.declared.notice.Notice.{Notice}
 use Rattle.timeline.specs.declared.notice.Notice.TheVariants as notice
 use Rattle.front_half.specs.Taking.{waits}
-use Rattle.object_history.specs.Pair.{Held, Stand, mounted, wanted, fallen, sync, Rear, newest, awaited, IsSilentAt, Together, unreached, answered, syncs, halts, falls, wants, mends, misses, silent, IsPair, IsPhase}
+use Rattle.object_history.specs.Pair.{Held, Stand, mounted, wanted, fallen, sync, halt, Rear, newest, awaited, IsSilentAt, Together, unreached, answered, syncs, halts, read_fails, falls, wants, mends, misses, silent, IsPair, IsPhase}
 use Rattle.object_core.proofs.Hearing.{not_none}
 use Rattle.object_core.proofs.Serving.{takes_on}
 use Rattle.object_core.specs.Heard.{is_news, IsWanted, IsUnderWay, by_notice, by_hold, by_mounting, by_entry, IsHeard}
@@ -76,7 +77,8 @@ not_wanted m (fallen c) is want = want
 
 module _ (k : Kind) (opened : Contents) (f : Front) (front : Fronted) (r : Rear) (n : Notice) (e : Entry) (heard : IsHeard f r [] [])
     (fit : FitsMode f.said f.mode n) (next : TakesEntry r e) (from_then : (takes k f (noticed n)).incarnation ≤ e.incarnation)
-    (news : IsWanted r.stand → r.held ≡ [] → is_news n ≡ true) where
+    (news : IsWanted r.stand → r.held ≡ [] → is_news n ≡ true)
+    (halted : (c : Cause) (needs : ℕ) → r.held ≡ record { hold = halt c; needs = needs } ∷ [] → is_news n ≡ true) where
   at_most : TakesEntry r e → e.incarnation ≤ newest r.log
   at_most (own stand is) = omega (arith, is)
   at_most (fell c stand is) = omega (arith, is)
@@ -149,6 +151,8 @@ module _ (k : Kind) (opened : Contents) (f : Front) (front : Fronted) (r : Rear)
       at_sync o t mode same held n refl (subst (λ (m : Mode). FitsMode f.said m n) mode fit)
   by_together start unread _ _ _ (halts c mode empty some) none read stand held same =
       no_news (ended c) mode same (ended_news f.said c n (subst (λ (m : Mode). FitsMode f.said m n) mode fit))
+  by_together start unread _ _ _ (read_fails o t a free counts_before counts_after mode empty) none read stand held same =
+      no_news (waiting o t (body.Ask a free)) mode same (halted (causes.Disk counts_before counts_after) r.before held)
   by_together start unread _ _ _ (falls call c mode u missed) none read stand held same =
       at_down call mode (none_last u.plain (awaited (down call)) (subst (λ (m : Mode). u.plain ++ awaited m ≡ []) mode (sym u.is ∙ read)))
   by_together start unread _ _ _ (wants call c mode empty missed) none read stand held same =

@@ -9,6 +9,7 @@ use Rattle.object_history.proofs.Flying.{flown_on}
 use Rattle.object_history.proofs.Keeping.{told_none}
 use Rattle.object_history.proofs.Missing.{fails_to_mount}
 use Rattle.object_history.proofs.Mounting.{mounts}
+use Rattle.object_history.proofs.ReadFailing.{fails_to_read}
 use Rattle.object_history.proofs.Stopping.{stops_by_failure, stops_by_halt}
 use Rattle.object_history.proofs.Syncing.{answers_sync}
 use Rattle.object_history.proofs.TakingDown.{takes_down_entry}
@@ -16,13 +17,15 @@ use Rattle.object_history.proofs.TakingLate.{takes_late_entry}
 use Rattle.object_history.proofs.TakingOwn.{takes_own_entry}
 use Rattle.object_history.specs.Laws.{StepsSayWell}
 use Rattle.object_history.specs.Pair.{Rear, IsPair}
-use Rattle.object_history.specs.Stepping.{IsRear, BackSteps, AreGiven, takes_own, takes_down, takes_late, flies, stops, sends, syncs, halts, begins, misses}
+use Rattle.object_history.specs.Stepping.{IsRear, BackSteps, AreGiven, takes_own, read_fails, takes_down, takes_late, flies, stops, sends, syncs, halts, begins, misses}
 
 pub steps_keep : (well : StepsSayWell) (k : Kind) (opened : Contents) (f : Front) (front : Fronted) (rear : Rear) (line : List Entry) (given notices : List Notice)
     (later : Rear) (got : List Entry) (told : List Notice) → BackSteps rear later got told → IsRear opened rear → IsRear opened later → AreGiven told given
     → IsPair k opened f front rear (got ++ line) notices → IsPair k opened f front later line (notices ++ given)
-steps_keep well k opened f front rear line given notices _ _ _ (takes_own e map stand is) known after are pair =
+steps_keep well k opened f front rear line given notices _ _ _ (takes_own e map stand is unended) known after are pair =
     takes_own_entry well k opened f front rear e map line notices given known stand is pair are
+steps_keep well k opened f front rear line given notices _ _ _ (read_fails e a free counts_before counts_after map stand is unended asks) known after are pair =
+    fails_to_read k opened f front rear e a free counts_before counts_after map line notices given known stand is asks pair are
 steps_keep well k opened f front rear line given notices _ _ _ (takes_down e c map stand is fits) known after are pair =
     takes_down_entry k opened f front rear e c map line notices given known stand is pair are
 steps_keep well k opened f front rear line given notices _ _ _ (takes_late e map is) known after are pair =

@@ -27,7 +27,7 @@ use Rattle.object_history.proofs.Frames.{now, GoesOn, own_calls, down_same, kept
 use Rattle.object_history.proofs.Ready.{not_nil, same_head, same_rest, none_plain, all_plain, unread_more, IsReadyNow, at_stand, ready_steps}
 use Rattle.object_history.specs.Laws.{TellingGoesOn}
 use Rattle.object_history.specs.Pair as pair_specs
-use Rattle.object_history.specs.Pair.{Held, Stand, mounted, fallen, Rear, IsUnread, IsSilentAt, IsCall, calls_down, failures, SaysDown, IsNewest, serving, falling, Together, unreached, answered, syncs, halts, falls, wants, mends, misses, silent, IsPhase, IsPair}
+use Rattle.object_history.specs.Pair.{Held, Stand, mounted, fallen, Rear, IsUnread, IsSilentAt, IsCall, calls_down, failures, SaysDown, IsNewest, serving, falling, Together, unreached, answered, syncs, halts, read_fails, falls, wants, mends, misses, silent, IsPhase, IsPair}
 use Rattle.object_history.specs.Saying.{ArePlain}
 use Rattle.object_history.specs.Stepping.{Grows}
 
@@ -41,6 +41,7 @@ module _ (start : Contents) (f : Front) (old : Fronted) (back : Backed) (unread 
   mended_now stand held notices (answered m is none) same = absurd (is_down f.mode is.state (Some call) is.mode is_so)
   mended_now stand held notices (syncs o t mode none) same = absurd (not_nil _ left same)
   mended_now stand held notices (halts c mode none some) same = absurd (not_nil _ left same)
+  mended_now stand held notices (read_fails o t a free counts_before counts_after mode none) same = absurd (not_nil _ left same)
   mended_now stand held notices (falls other c mode is length_is) same = absurd (not_nil _ left same)
   mended_now stand held notices (wants other c mode none length_is) same = absurd (not_nil _ left same)
   mended_now stand held notices (mends other c i mode none) same = (
@@ -122,6 +123,7 @@ module _ (start : Contents) (f : Front) (old : Fronted) (back : Backed) (unread 
   missed_now stand held notices (answered m is none) same = absurd (is_down f.mode is.state (Some call) is.mode is_so)
   missed_now stand held notices (syncs o t mode none) same = absurd (not_nil _ left same)
   missed_now stand held notices (halts c mode none some) same = absurd (not_nil _ left same)
+  missed_now stand held notices (read_fails o t a free counts_before counts_after mode none) same = absurd (not_nil _ left same)
   missed_now stand held notices (falls other c mode is length_is) same = absurd (not_nil _ left same)
   missed_now stand held notices (wants other c mode none length_is) same = absurd (not_nil _ left same)
   missed_now stand held notices (mends other c i mode none) same =
@@ -260,6 +262,7 @@ module _ (start : Contents) (f : Front) (old new : Fronted) (back : Backed) (unr
   wanted_now stand held notices (answered m is none) = absurd (is_down f.mode is.state None is.mode is_so)
   wanted_now stand held notices (syncs o t mode none) = absurd (is_down f.mode _ None mode is_so)
   wanted_now stand held notices (halts c mode none some) = absurd (is_down f.mode _ None mode is_so)
+  wanted_now stand held notices (read_fails o t a free counts_before counts_after mode none) = absurd (is_down f.mode _ None mode is_so)
   wanted_now stand held notices (falls other c mode is length_is) =
       falls (Some e) c refl
       (record { plain = unread; are_plain = all_plain f.mode (down None) unread is_so refl is; is = ap (λ (x : List Body). unread ++ x) more_is })

@@ -10,7 +10,7 @@ use Rattle.timeline.specs.declared.event.Event.{Event}
 use Rattle.timeline.specs.declared.notice.Notice.{Notice}
 use Rattle.object_history.proofs.Frames.{down_same}
 use Rattle.object_history.proofs.OlderFronts.{AreSameTo, halted_same, older_same, said_same, start_same}
-use Rattle.object_history.specs.Pair.{Held, Stand, Rear, IsLogged, IsLine, IsNewest, serving, falling, Together, unreached, answered, syncs, halts, falls, wants, mends, misses, silent, Behind, IsPhase, IsPair}
+use Rattle.object_history.specs.Pair.{Held, Stand, Rear, IsLogged, IsLine, IsNewest, serving, falling, Together, unreached, answered, syncs, halts, read_fails, falls, wants, mends, misses, silent, Behind, IsPhase, IsPair}
 
 -- The log with other events dropped.
 abbrev with_dropped : Fronted → List Event → Fronted
@@ -27,6 +27,7 @@ module _ (start : Contents) (f : Front) (front : Fronted) (dropped : List Event)
   together_same stand held notices (answered n is none) = answered n is none
   together_same stand held notices (syncs o t mode none) = syncs o t mode none
   together_same stand held notices (halts c mode none some) = halts c mode none some
+  together_same stand held notices (read_fails o t a free counts_before counts_after mode none) = read_fails o t a free counts_before counts_after mode none
   together_same stand held notices (falls call c mode is length_is) = falls call c mode is length_is
   together_same stand held notices (wants call c mode none length_is) = wants call c mode none length_is
   together_same stand held notices (mends call c i mode none) = mends call c i mode none

@@ -15,7 +15,7 @@ use Rattle.timeline.specs.declared.notice.Notice.{Notice}
 use Rattle.timeline.specs.declared.notice.Notice.TheVariants as notice
 use Rattle.object_history.proofs.Downs.{is_down}
 use Rattle.object_history.proofs.Ready.{not_nil, same_head, same_rest, IsEnd, end_answers_none}
-use Rattle.object_history.specs.Pair.{Held, Stand, mounted, wanted, fallen, Rear, IsUnread, Together, unreached, answered, syncs, halts, falls, wants, mends, misses, silent, IsNews, IsLeftOver, HasHalted, fallen_once, IsPhase}
+use Rattle.object_history.specs.Pair.{Held, Stand, mounted, wanted, fallen, Rear, IsUnread, Together, unreached, answered, syncs, halts, read_fails, falls, wants, mends, misses, silent, IsNews, IsLeftOver, HasHalted, fallen_once, IsPhase}
 
 -- Where both halves are in one incarnation, no news of an end is under way to a front that serves.
 module _ (start : Contents) (f : Front) (old : Fronted) (back : Backed) (unread : List Body) (before : ℕ) (state : State) (is_so : f.mode ≡ serves state)
@@ -26,6 +26,7 @@ module _ (start : Contents) (f : Front) (old : Fronted) (back : Backed) (unread 
       end_answers_none m _ (subst IsEnd (sym (same_head m n [] left same)) is_end) is.answer
   no_end stand held notices (syncs o t mode none) same = not_nil n left same
   no_end stand held notices (halts c mode none some) same = not_nil n left same
+  no_end stand held notices (read_fails o t a free counts_before counts_after mode none) same = not_nil n left same
   no_end stand held notices (falls call c mode is length_is) same = not_nil n left same
   no_end stand held notices (wants call c mode none length_is) same = not_nil n left same
   no_end stand held notices (mends call c i mode none) same = is_down f.mode state (Some call) is_so mode

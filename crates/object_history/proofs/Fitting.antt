@@ -13,7 +13,7 @@ use Rattle.timeline.specs.declared.event.Event.{Event}
 use Rattle.timeline.specs.declared.notice.Notice.{Notice}
 use Rattle.timeline.specs.declared.notice.Notice.TheVariants as notice
 use Rattle.object_history.proofs.Ready.{not_nil, same_head, IsEnd, news_is_end}
-use Rattle.object_history.specs.Pair.{Held, Stand, Rear, IsAnswer, Together, unreached, answered, syncs, halts, falls, wants, mends, misses, silent, IsNews, IsLeftOver, IsPhase, IsPair}
+use Rattle.object_history.specs.Pair.{Held, Stand, Rear, IsAnswer, Together, unreached, answered, syncs, halts, read_fails, falls, wants, mends, misses, silent, IsNews, IsLeftOver, IsPhase, IsPair}
 
 -- The news of an end fits each state.
 end_fits : (said : List Body) (state : State) (n : Notice) → IsEnd n → FitsNotice said state n
@@ -56,6 +56,7 @@ module _ (start : Contents) (f : Front) (front : Fronted) (back : Backed) (unrea
   together_fits stand held notices (answered m is none) same = answer_fits start f m n (same_head m n [] left same) is
   together_fits stand held notices (syncs o t mode none) same = absurd (not_nil n left same)
   together_fits stand held notices (halts c mode none some) same = absurd (not_nil n left same)
+  together_fits stand held notices (read_fails o t a free counts_before counts_after mode none) same = absurd (not_nil n left same)
   together_fits stand held notices (falls call c mode is length_is) same = absurd (not_nil n left same)
   together_fits stand held notices (wants call c mode none length_is) same = absurd (not_nil n left same)
   together_fits stand held notices (mends call c i mode none) same = call_fits f call (notice.Fresh i start.alarm c) n mode (same_head _ n [] left same) tt

@@ -20,7 +20,7 @@ use Rattle.output_gate.proofs.Histories.{entries_none}
 use Rattle.object_history.proofs.Alike.{IsAlike, IsKeptAlike, same_halted, same_start, same_resets, same_said, still_taken}
 use Rattle.object_history.proofs.Entries.{all_front}
 use Rattle.object_history.proofs.SaidSoFar.{sent_until}
-use Rattle.object_history.specs.Pair.{Held, Stand, mounted, Rear, IsLogged, IsLine, calls_down, failures, SaysDown, IsNewest, serving, falling, Together, unreached, answered, syncs, halts, falls, wants, mends, misses, silent, IsNews, fallen_once, Behind, IsPhase, IsPair}
+use Rattle.object_history.specs.Pair.{Held, Stand, mounted, Rear, IsLogged, IsLine, calls_down, failures, SaysDown, IsNewest, serving, falling, Together, unreached, answered, syncs, halts, read_fails, falls, wants, mends, misses, silent, IsNews, fallen_once, Behind, IsPhase, IsPair}
 use Rattle.object_history.specs.Stepping.{IsRear, AreGiven}
 
 -- What an incarnation said before it served is the same where the failures are.
@@ -55,6 +55,8 @@ same_together start f front back new_back unread before stand held notices misse
 same_together start f front back new_back unread before stand held notices missed (answered n answer none) = answered n answer none
 same_together start f front back new_back unread before stand held notices missed (syncs o t mode none) = syncs o t mode none
 same_together start f front back new_back unread before stand held notices missed (halts c mode none some) = halts c mode none some
+same_together start f front back new_back unread before stand held notices missed (read_fails o t a free counts_before counts_after mode none) =
+    read_fails o t a free counts_before counts_after mode none
 same_together start f front back new_back unread before stand held notices missed (falls call c mode is count) =
     falls call c mode is (ap (λ (all : List Missed). length all) missed ∙ count)
 same_together start f front back new_back unread before stand held notices missed (wants call c mode none count) =

@@ -16,6 +16,7 @@ pub mod Wishes
 mod Entering
 mod Reaching
 mod TakingOwn
+mod ReadFailing
 mod TakingDown
 mod TakingLate
 mod Stopping

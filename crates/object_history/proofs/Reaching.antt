@@ -22,7 +22,7 @@ use Rattle.timeline.specs.declared.notice.Notice.{Notice}
 use Rattle.timeline.specs.declared.notice.Notice.TheVariants as notice
 use Rattle.output_gate.specs.Taking.{notice_of}
 use Rattle.object_history.proofs.Keeping.{told_none, told_one}
-use Rattle.object_history.specs.Pair.{Held, sync, halt, Stand, mounted, awaited, IsUnread, IsSilentAt, Together, unreached, answered, syncs, halts, falls, wants, mends, misses, silent}
+use Rattle.object_history.specs.Pair.{Held, sync, halt, Stand, mounted, awaited, IsUnread, IsSilentAt, Together, unreached, answered, syncs, halts, read_fails, falls, wants, mends, misses, silent}
 use Rattle.object_history.specs.Saying.{is_asked, is_plain}
 use Rattle.object_history.specs.Stepping.{AreGiven, holds, before_next}
 
@@ -157,6 +157,7 @@ reached start f front back new_back read n before m b more given _ _ _ (unreache
 reached start f front back new_back read n before m b more given _ _ _ (answered x answer none) stand said number maps asked are = absurd cc
 reached start f front back new_back read n before m b more given _ _ _ (syncs o t mode none) stand said number maps asked are = absurd cc
 reached start f front back new_back read n before m b more given _ _ _ (halts c mode none some) stand said number maps asked are = absurd cc
+reached start f front back new_back read n before m b more given _ _ _ (read_fails o t a free counts_before counts_after mode none) stand said number maps asked are = absurd cc
 reached start f front back new_back read n before m b more given _ _ _ (falls call c mode u count) stand said number maps asked are = absurd cc
 reached start f front back new_back read n before m b more given _ _ _ (wants call c mode none count) stand said number maps asked are = absurd cc
 reached start f front back new_back read n before m b more given _ _ _ (mends call c i mode none) stand said number maps asked are = absurd cc

@@ -19,7 +19,7 @@ use Rattle.timeline.specs.declared.notice.Notice.{Notice}
 use Rattle.timeline.specs.declared.notice.Notice.TheVariants as notice
 use Rattle.object_history.proofs.Frames.{now}
 use Rattle.object_history.proofs.OlderFronts.{start_same}
-use Rattle.object_history.specs.Pair.{Held, Stand, mounted, wanted, fallen, Rear, awaited, IsUnread, IsAnswer, IsSilentAt, Together, unreached, answered, syncs, halts, falls, wants, mends, misses, silent, IsNews, IsLeftOver, HasHalted, fallen_once, IsPhase}
+use Rattle.object_history.specs.Pair.{Held, Stand, mounted, wanted, fallen, Rear, awaited, IsUnread, IsAnswer, IsSilentAt, Together, unreached, answered, syncs, halts, read_fails, falls, wants, mends, misses, silent, IsNews, IsLeftOver, HasHalted, fallen_once, IsPhase}
 use Rattle.object_history.specs.Saying.{is_plain, ArePlain}
 
 -- ---- what is told apart
@@ -235,6 +235,7 @@ module _ (start : Contents) (f : Front) (front : Fronted) (back : Backed) (unrea
   idle_now stand held notices (answered n is none) = absurd (no_answer start f o n serving is)
   idle_now stand held notices (syncs other t mode none) = absurd (is_idle f.mode o _ serving mode)
   idle_now stand held notices (halts c mode none some) = absurd (is_idle f.mode o _ serving mode)
+  idle_now stand held notices (read_fails other t a free counts_before counts_after mode none) = absurd (is_idle f.mode o _ serving mode)
   idle_now stand held notices (falls call c mode is length_is) = absurd (is_idle f.mode o _ serving mode)
   idle_now stand held notices (wants call c mode none length_is) = absurd (is_idle f.mode o _ serving mode)
   idle_now stand held notices (mends call c i mode none) = absurd (is_idle f.mode o _ serving mode)
@@ -307,6 +308,7 @@ module _ (start : Contents) (f : Front) (front : Fronted) (back : Backed) (unrea
   )
   waiting_now stand held notices (syncs other u mode none) same = absurd (not_nil n left same)
   waiting_now stand held notices (halts c mode none some) same = absurd (not_nil n left same)
+  waiting_now stand held notices (read_fails other u ask free counts_before counts_after mode none) same = absurd (not_nil n left same)
   waiting_now stand held notices (falls call c mode is length_is) same = absurd (not_nil n left same)
   waiting_now stand held notices (wants call c mode none length_is) same = absurd (not_nil n left same)
   waiting_now stand held notices (mends call c i mode none) same = absurd (is_serving f.mode _ _ serving mode)

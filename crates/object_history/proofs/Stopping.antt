@@ -30,7 +30,7 @@ use Rattle.output_gate.proofs.Histories.{get_more, get_last}
 use Rattle.object_history.proofs.Alike.{IsKeptAlike}
 use Rattle.object_history.proofs.Entries.{batches_append, said_numbered, spoken_numbered}
 use Rattle.object_history.proofs.Keeping.{rebuilt, none_missed, none_taken, map_written, told_none}
-use Rattle.object_history.proofs.Phases.{says_down, halts_as, stops_as}
+use Rattle.object_history.proofs.Phases.{asked_last, says_down, halts_as, stops_as}
 use Rattle.object_history.specs.Pair.{Rear, Held, halt, Stand, mounted, wanted, newest, calls_down, failures, IsNews, fallen_once, IsNewest, Together, IsPair}
 use Rattle.object_history.specs.Stepping.{IsRear, IsFollowed, AreGiven}
 
@@ -67,11 +67,6 @@ down_none k older start f front back newest_said call mode read unread said =
     ∙ batches_append (spoken_in (resets older)) (down_said (calls_down f front) (failures f back))
     ∙ ap (λ (batches : List (List Op)). batches ++ batches_of (down_said (calls_down f front) (failures f back))) (reset_none older)
     ∙ down_writes_none (calls_down f front) (failures f back))
-
--- a list with a last one isn't empty
-never_empty : (first : List Body) (b : Body) → first ++ b ∷ [] ≡ [] → ⊥
-never_empty [] b is = cc
-never_empty (x ∷ first) b is = cc
 
 -- where the front's own entries were taken, those before it were too
 pub none_late : (late : List Entry) (read : List Body) → (late ≢ [] → read ≡ []) → (read ≡ [] → ⊥) → late ≡ []
@@ -193,28 +188,30 @@ module _ (k : Kind) (opened : Contents) (f : Front) (front : Fronted) (rear : Re
       halted_together : length rear.log.stops ≡ pair.below → Together pair.start f front rear.log pair.lined.unread rear.before rear.stand rear.held notices
           → IsPair k opened f front halted line (notices ++ given)
       halted_together stops t =
-          let now = halts_as pair.start f front rear.log pair.lined.unread rear.before c needs rest rear.stand rear.held notices t is_held in
+          let now = halts_as pair.start f front rear.log pair.lined.unread rear.before c needs rest rear.stand rear.held notices
+          (asked_last k (incarnations front rear.log pair.below) pair.start f front rear.log pair.newest_said) t is_held in
           let all_read : f.said ≡ pair.lined.read =
           pair.lined.said ∙ ap (λ (bodies : List Body). pair.lined.read ++ bodies) now.none ∙ append-nil pair.lined.read in
-          let some_read : pair.lined.read ≡ [] → ⊥ = λ none. never_empty now.ends.0 (body.Halt c) (sym now.ends.1 ∙ all_read ∙ none) in
+          let some_read : pair.lined.read ≡ [] → ⊥ = λ none. now.some (all_read ∙ none) in
           rebuilt k opened f front rear line notices pair halted line (notices ++ given)
           (λ index within. record { delivered = refl; sent = refl; stop = stop_more stop stops index within; downed = refl; missed = refl })
           (kept_before_it stops) ([], sym (append-nil rear.log.taken)) refl (first_stops stop stops) pair.lined
           (inr (
             one_more stop stops,
             record {
-              state = ended c;
+              state = now.state;
               mode = now.mode;
               is_unread = inr now.none;
               none_late = none_late pair.lined.late pair.lined.read pair.lined.first some_read;
               none_held = now.only;
               stop = stop;
               stopped = stop_last stop stops;
-              halted = λ by. (
-                now.mode ∙ ap (λ (x : Cause). serves (ended x)) (sym by_halt),
-                subst (λ (x : Cause). Contains (said_in (entries_of f.incarnation rear.log.taken)) (body.Halt x)) (sym by_halt)
-                    (halt_read c now.ends.0 (sym all_read ∙ now.ends.1)),
-              );
+              halted = λ by.
+                  let ends = now.ends (sym (ap is_halting by_halt) ∙ by) in (
+                    now.mode ∙ ap serves (ends.0 ∙ ap ended (sym by_halt)),
+                    subst (λ (x : Cause). Contains (said_in (entries_of f.incarnation rear.log.taken)) (body.Halt x)) (sym by_halt)
+                        (halt_read c ends.1.0 (sym all_read ∙ ends.1.1)),
+                  );
               left = [];
               told = given;
               under_way = ap (λ (all : List Notice). all ++ given) now.quiet;

@@ -15,7 +15,7 @@ use Rattle.object_history.proofs.Entering.{entered_alike, kept_of_all, never_beh
 use Rattle.object_history.proofs.Heads.{Head, is_own, is_late, head_of, own_taken, late_is}
 use Rattle.object_history.proofs.Keeping.{rebuilt, told_none}
 use Rattle.object_history.proofs.Reaching.{Rest, goes_on, was_last, rest_of}
-use Rattle.object_history.specs.Pair.{Rear, Held, Stand, fallen, newest, calls_down, IsUnread, Together, unreached, answered, syncs, halts, falls, wants, mends, misses, silent, IsPair}
+use Rattle.object_history.specs.Pair.{Rear, Held, Stand, fallen, newest, calls_down, IsUnread, Together, unreached, answered, syncs, halts, read_fails, falls, wants, mends, misses, silent, IsPair}
 use Rattle.object_history.specs.Saying.{is_plain}
 use Rattle.object_history.specs.Stepping.{IsRear, AreGiven, with_entry, stands_after}
 
@@ -56,6 +56,7 @@ sunk start f front back new_back before c b more _ _ _ (unreached state mode u) 
 sunk start f front back new_back before c b more _ _ _ (answered x answer none) stand downs = absurd cc
 sunk start f front back new_back before c b more _ _ _ (syncs o t mode none) stand downs = absurd cc
 sunk start f front back new_back before c b more _ _ _ (halts cause mode none some) stand downs = absurd cc
+sunk start f front back new_back before c b more _ _ _ (read_fails o t a free counts_before counts_after mode none) stand downs = absurd cc
 sunk start f front back new_back before c b more _ _ _ (wants call cause mode none count) stand downs = absurd cc
 sunk start f front back new_back before c b more _ _ _ (mends call cause i mode none) stand downs = absurd cc
 sunk start f front back new_back before c b more _ _ _ (misses call cause again counts_before counts_after older mode none is count) stand downs = absurd cc

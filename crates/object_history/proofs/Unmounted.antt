@@ -18,7 +18,7 @@ use Rattle.output_gate.proofs.Histories.{entries_none}
 use Rattle.object_history.proofs.Entries.{of_number_none, said_numbered}
 use Rattle.object_history.proofs.Phases.{says_down}
 use Rattle.object_history.proofs.SaidSoFar.{delivered_until, entries_now, events_now, sent_until}
-use Rattle.object_history.specs.Pair.{Held, Stand, mounted, wanted, fallen, Rear, IsSilentAt, IsNewest, serving, falling, Together, unreached, answered, syncs, halts, falls, wants, mends, misses, silent, IsPhase, IsPair}
+use Rattle.object_history.specs.Pair.{Held, Stand, mounted, wanted, fallen, Rear, IsSilentAt, IsNewest, serving, falling, Together, unreached, answered, syncs, halts, read_fails, falls, wants, mends, misses, silent, IsPhase, IsPair}
 use Rattle.object_history.specs.Stepping.{IsFollowed, IsRear}
 
 -- There are as many ends as stops, or one less.
@@ -57,6 +57,7 @@ module _ (start : Contents) (f : Front) (front : Fronted) (back : Backed) (unrea
   is_down _ _ _ (answered n answer none) never = absurd (never refl)
   is_down _ _ _ (syncs o t mode none) never = absurd (never refl)
   is_down _ _ _ (halts c mode none ends) never = absurd (never refl)
+  is_down _ _ _ (read_fails o t a free counts_before counts_after mode none) never = absurd (never refl)
   is_down _ _ _ (mends call c i mode none) never = absurd (never refl)
   is_down _ _ _ (falls call c mode u count) never = (call, mode)
   is_down _ _ _ (wants call c mode none count) never = (Some call, mode)

@@ -46,5 +46,5 @@ BackIsRear {D} moment_of left_since told image faults_of back = (start : List (L
 abbrev pub TakeSteps : {D : Type 0} → (D → ℕ) → (D → ℕ → List ℕ → Type 0) → (D → Option (List ℕ)) → (D → List ℕ → Type 0) → (D → ℕ) → Back D → Type 0
 TakeSteps {D} moment_of left_since told image faults_of back = (start : List (List Op)) (opening : ℕ) (later : Back D) (got_before got : List Entry)
     (sent_before sent : List Notice) → IsBack moment_of left_since told image faults_of start opening back → may_take back ≡ true
-    → (takes : Takes back later got_before got sent_before sent) → is_unfit (fit_of back takes.entry) ≡ false
-    → BackSteps (rear_of back) (rear_of later) (takes.entry ∷ []) (option_to_list (notice_at back takes.entry))
+    → (takes : Takes told back later got_before got sent_before sent) → is_unfit (fit_of back takes.entry) ≡ false
+    → BackSteps (rear_of back) (rear_of later) (takes.entry ∷ []) (option_to_list (notice_at takes.failed back takes.entry))

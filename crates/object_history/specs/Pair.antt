@@ -1,8 +1,9 @@
 -- The two halves of one object, tied by their lanes: what stands between what the front has taken and said, and what the back has
 -- taken and answered. Source: the articles on input and output gates; how incarnations follow one another is this project's profile.
-use Rattle.std.specs.Prelude.{◌≡◌, ◌≢◌, ◌⊎◌, ℕ, suc, ◌<◌, ◌≤◌, true, false, List, [], ◌∷◌, ◌++◌, length, map, drop, take, slice_get, Option, Some, None, IfSome}
+use Rattle.std.specs.Prelude.{◌≡◌, ◌≢◌, ◌⊎◌, ℕ, suc, ◌<◌, ◌≤◌, Bool, true, false, List, [], ◌∷◌, ◌++◌, length, map, drop, take, slice_get, Option, Some, None, IfSome}
 use Rattle.std.specs.List.{All, Contains}
 use Rattle.storage_map.specs.Contents.{Contents}
+use Rattle.storage_map.specs.declared.ask.StoreAsk.{StoreAsk}
 use Rattle.timeline.specs.Headline.{AreHalted, AreSaid, down_said, missed_of}
 use Rattle.timeline.specs.History.{History, of_number, entries_of, incarnations, is_halting, start_after, resets, said_in}
 use Rattle.timeline.specs.Intake.{Kind, Front, Mode, serves, down, FitsNotice, answer_in, numbered}
@@ -13,6 +14,7 @@ use Rattle.timeline.specs.Told.{spoken_in, stored_answer, written}
 use Rattle.timeline.specs.declared.back_log.Missed.{Missed}
 use Rattle.timeline.specs.declared.back_log.Stop.{Stop}
 use Rattle.timeline.specs.declared.caller.Cause.{Cause}
+use Rattle.timeline.specs.declared.caller.Cause.TheVariants as cause
 use Rattle.timeline.specs.declared.entry.Body.{Body}
 use Rattle.timeline.specs.declared.entry.Body.TheVariants as body
 use Rattle.timeline.specs.declared.entry.Entry.{Entry}
@@ -23,7 +25,8 @@ use Rattle.timeline.specs.declared.notice.Notice.TheVariants as notice
 use Rattle.object_history.specs.Saying.{ArePlain}
 use Rattle.object_history.specs.Telling.{Tells}
 
--- What a back holds for its front: the answer to a sync, or the end by a halt; and the batches that it needs, from the opening.
+-- What a back holds for its front: the answer to a sync, or the end by a halt, also by one of its own where a read failed; and the batches that
+-- it needs, from the opening.
 pub data Hold : Type 0 where
   sync : ℕ → Hold
   halt : Cause → Hold
@@ -121,8 +124,8 @@ IsCall (event.Call from method args depth at) = Unit {0}
 IsCall e = ⊥
 
 -- The front's incarnation is the back's newest. What the back holds for it, and the notices under way, by what has come of the entry
--- that it waits for: it wasn't taken yet; it was, and is answered; a sync or a halt is held; a mounting is wanted, was good or
--- failed; or no more is told of it.
+-- that it waits for: it wasn't taken yet; it was, and is answered; a sync or a halt is held; its read failed, and the end by that is held; a
+-- mounting is wanted, was good or failed; or no more is told of it.
 pub data Together (start : Contents) (f : Front) (front : Fronted) (back : Backed) (unread : List Body) (before : ℕ)
     : Stand → List Held → List Notice → Type 0 where
   unreached : (state : State) → f.mode ≡ serves state → IsUnread f.mode unread → Together start f front back unread before mounted [] []
@@ -131,6 +134,8 @@ pub data Together (start : Contents) (f : Front) (front : Fronted) (back : Backe
       → Together start f front back unread before mounted (record { hold = sync (length f.said); needs = before } ∷ []) []
   halts : (c : Cause) → f.mode ≡ serves (ended c) → unread ≡ [] → (first : List Body) × (f.said ≡ first ++ body.Halt c ∷ [])
       → Together start f front back unread before mounted (record { hold = halt c; needs = before } ∷ []) []
+  read_fails : (o : Object) (t : OpenTask) (a : StoreAsk) (free : Bool) (counts_before counts_after : ℕ) → f.mode ≡ serves (waiting o t (body.Ask a free)) → unread ≡ []
+      → Together start f front back unread before mounted (record { hold = halt (cause.Disk counts_before counts_after); needs = before } ∷ []) []
   falls : (call : Option Event) (c : Cause) → f.mode ≡ down call → IsUnread f.mode unread
       → length (missed_of f.incarnation back.downs) ≡ suc (length (calls_down f front)) → Together start f front back unread before (fallen c) [] []
   wants : (call : Event) (c : Cause) → f.mode ≡ down (Some call) → unread ≡ []

@@ -1,7 +1,8 @@
 -- What a step of either half does, as far as the other half and the history are concerned.
-use Rattle.std.specs.Prelude.{◌≡◌, ◌≢◌, ◌⊎◌, ℕ, suc, ◌<◌, ◌≤◌, nat_le, true, false, List, [], ◌∷◌, ◌++◌, length, Some, option_to_list}
+use Rattle.std.specs.Prelude.{◌≡◌, ◌≢◌, ◌⊎◌, ℕ, suc, ◌<◌, ◌≤◌, nat_le, Bool, true, false, List, [], ◌∷◌, ◌++◌, length, Some, option_to_list}
 use Rattle.std.specs.List.{All, filter}
 use Rattle.storage_map.specs.Contents.{Contents}
+use Rattle.storage_map.specs.declared.ask.StoreAsk.{StoreAsk}
 use Rattle.timeline.specs.History.{Incarnation, History, entries_of, incarnations, history, is_halting, batches_in, start_after, said_in}
 use Rattle.timeline.specs.Intake.{Kind, Front, Mode, serves, Taken, noticed, wanted, takes, numbered, delivered_by, downed_by, ends_by, sent_by, delivered_in, downed_in, ends_in}
 use Rattle.timeline.specs.Logs.{Fronted, Backed}
@@ -10,6 +11,7 @@ use Rattle.timeline.specs.declared.back_log.End.{End}
 use Rattle.timeline.specs.declared.back_log.Release.{Release}
 use Rattle.timeline.specs.declared.back_log.Stop.{Stop}
 use Rattle.timeline.specs.declared.caller.Cause.{Cause}
+use Rattle.timeline.specs.declared.caller.Cause.TheVariants as cause
 use Rattle.timeline.specs.declared.entry.Body.{Body}
 use Rattle.timeline.specs.declared.entry.Body.TheVariants as body
 use Rattle.timeline.specs.declared.entry.Entry.{Entry}
@@ -77,6 +79,14 @@ holds number before body.Sync = record { hold = sync number; needs = before } �
 holds number before (body.Halt c) = record { hold = halt c; needs = before } ∷ []
 holds number before _ = []
 
+-- No end by a halt is held: behind one nothing of its incarnation is taken.
+abbrev pub is_end : Hold → Bool
+is_end (sync number) = false
+is_end (halt c) = true
+
+abbrev pub IsUnended : List Held → Type 0
+IsUnended held = All (λ h. is_end h.hold ≡ false) held
+
 -- the batches before what comes behind an entry
 abbrev pub before_next : ℕ → Body → ℕ
 before_next before (body.Batch ops tail confirmed) = suc before
@@ -91,9 +101,10 @@ abbrev pub with_entry : Rear → Entry → Backed
 with_entry r e = record r.log { taken = r.log.taken ++ e ∷ [] }
 
 -- A step of a back, the entry that it takes off the line, and what it tells its front. What map it has then is no matter but at a
--- halt, of which the alarm is told, and at a mounting; of a mounted back it is known.
+-- halt, of which the alarm is told, and at a mounting; of a mounted back it is known. Where a read of the disk fails, the ask is taken and isn't
+-- answered, and the end of the incarnation by that is held behind what was taken before it.
 pub data BackSteps (r : Rear) : Rear → List Entry → List Notice → Type 0 where
-  takes_own : (e : Entry) (map : Contents) → r.stand ≡ mounted → e.incarnation ≡ newest r.log
+  takes_own : (e : Entry) (map : Contents) → r.stand ≡ mounted → e.incarnation ≡ newest r.log → IsUnended r.held
       → BackSteps r (record r {
         log = with_entry r e;
         held = r.held ++ holds e.number r.before e.body;
@@ -101,6 +112,13 @@ pub data BackSteps (r : Rear) : Rear → List Entry → List Notice → Type 0 w
         map = map;
       }) (e ∷ [])
       (option_to_list (notice_of e.number r.map e.body))
+  read_fails : (e : Entry) (a : StoreAsk) (free : Bool) (counts_before counts_after : ℕ) (map : Contents) → r.stand ≡ mounted → e.incarnation ≡ newest r.log
+      → IsUnended r.held → e.body ≡ body.Ask a free
+      → BackSteps r (record r {
+        log = with_entry r e;
+        held = r.held ++ record { hold = halt (cause.Disk counts_before counts_after); needs = r.before } ∷ [];
+        map = map;
+      }) (e ∷ []) []
   takes_down : (e : Entry) (c : Cause) (map : Contents) → r.stand ≡ fallen c → e.incarnation ≡ newest r.log → fits_down e.body ≡ true
       → BackSteps r (record r { log = with_entry r e; stand = stands_after c e.body; map = map }) (e ∷ []) []
   takes_late : (e : Entry) (map : Contents) → suc e.incarnation ≡ newest r.log → BackSteps r (record r { log = with_entry r e; map = map }) (e ∷ []) []

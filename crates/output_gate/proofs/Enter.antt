@@ -1,5 +1,5 @@
 -- What an entry of the newest incarnation does to a back.
-use Rattle.std.proofs.Common.{◌≡◌, ◌∙◌, ap, sym, refl, ℕ, ◌<◌, List, [], ◌∷◌, ◌++◌, Option, inl, inr, append-nil, length, ◌-◌}
+use Rattle.std.proofs.Common.{◌≡◌, ◌∙◌, ap, sym, refl, ℕ, ◌<◌, List, [], ◌∷◌, ◌++◌, Option, None, inl, inr, append-nil, length, ◌-◌}
 use Rattle.std.proofs.lemmas.Bool.{ltb-true}
 use Rattle.std.specs.Prelude.{◌⊎◌, Bool, true, false, not, ◌&&◌, nat_lt, Result, Ok, Err, OnOk, OnErr, slice_get}
 use Rattle.do_value.specs.declared.fault.NoMemory.{NoMemory}
@@ -37,8 +37,9 @@ logged_or_not fit.Down old new e is = inr is
 logged_or_not fit.Late old new e is = inr is
 
 -- It is none that a front sends.
-pub unfit_enters : {D : Type 0} (old : Back D) (e : Entry) → fit_of old e ≡ fit.Unfit → Enters old (record old { stuck = true }) e
+pub unfit_enters : {D : Type 0} (old : Back D) (e : Entry) → fit_of old e ≡ fit.Unfit → Enters None old (record old { stuck = true }) e
 unfit_enters old e is = record {
+  may = tt;
   log = ap (λ (x : Fit). logged_as x (backed old.log) e) (sym is);
   stuck = ap is_unfit (sym is);
   held = sym (append-nil old.held.items) ∙ ap (λ (x : Fit). old.held.items ++ held_as x old e) (sym is);
@@ -63,10 +64,10 @@ pub unentered : {D : Type 0} (old new : Back D) (e : Entry) (before after : List
 unentered old new e before after sent_before sent h took same = record { entry = e; took = took; told = same; log = inl h.log; entered = inl h }
 
 -- The notice of it is lost.
-pub loses : {D : Type 0} (old new : Back D) (e : Entry) (before after : List Entry) (sent_before sent : List Notice) → Enters old new e → after ≡ before ++ e ∷ [] → sent ≡ sent_before
+pub loses : {D : Type 0} (old new : Back D) (e : Entry) (before after : List Entry) (sent_before sent : List Notice) → Enters None old new e → after ≡ before ++ e ∷ [] → sent ≡ sent_before
     → LosesEntry old new before after sent_before sent
 loses old new e before after sent_before sent enters took same =
-    record { entry = e; took = took; told = same; log = logged_or_not (fit_of old e) (backed old.log) (backed new.log) e enters.log; entered = inr enters }
+    record { entry = e; took = took; told = same; log = logged_or_not (fit_of old e) (backed old.log) (backed new.log) e enters.log; entered = inr (None, enters) }
 
 module _ {D : Type 0} (moment_of : D → ℕ) (left_since : D → ℕ → List ℕ → Type 0) (told : D → Option (List ℕ)) (image : D → List ℕ → Type 0) (faults_of : D → ℕ) where
   pub few_of : (old : Back D) → may_take old ≡ true → old.unflushed < most_unflushed
@@ -97,10 +98,11 @@ module _ {D : Type 0} (moment_of : D → ℕ) (left_since : D → ℕ → List �
       }
 
   pub own_enters : (old new : Back D) (log : BackLog) (e : Entry) → LogSame old.log log → may_take old ≡ true → fit_of old e ≡ fit.Own
-      → TakesOwn moment_of left_since told image faults_of (record old { log = log }) new e.number e.body → Enters old new e
+      → TakesOwn moment_of left_since told image faults_of (record old { log = log }) new e.number e.body → Enters None old new e
   own_enters old new log e same may is t =
       let f = own_of old e is in
       record {
+        may = tt;
         log = t.log ∙ ap (λ (x : Backed). record x { taken = x.taken ++ record { incarnation = old.number; number = e.number; body = e.body } ∷ [] }) same.same
             ∙ ap (λ (n : ℕ). record (backed old.log) { taken = old.log.taken.items ++ record { incarnation = n; number = e.number; body = e.body } ∷ [] }) (sym f.own)
             ∙ ap (λ (x : Fit). logged_as x (backed old.log) e) (sym is);
@@ -134,10 +136,11 @@ module _ {D : Type 0} (moment_of : D → ℕ) (left_since : D → ℕ → List �
       record { start = start; opening = opening; back = down_unmounted start opening old log e same is b; room = room; fits = f.fits; ending = mode.0; down = mode.1 }
 
   pub down_enters : (old new : Back D) (log : BackLog) (e : Entry) → LogSame old.log log → may_take old ≡ true → fit_of old e ≡ fit.Down
-      → TakesDown moment_of left_since told image faults_of (record old { log = log }) new e.number e.body → Enters old new e
+      → TakesDown moment_of left_since told image faults_of (record old { log = log }) new e.number e.body → Enters None old new e
   down_enters old new log e same may is t =
       let f = down_of old e is in
       record {
+        may = tt;
         log = t.log ∙ ap (λ (x : Backed). record x { taken = x.taken ++ record { incarnation = old.number; number = e.number; body = e.body } ∷ [] }) same.same
             ∙ ap (λ (n : ℕ). record (backed old.log) { taken = old.log.taken.items ++ record { incarnation = n; number = e.number; body = e.body } ∷ [] }) (sym f.own)
             ∙ ap (λ (x : Fit). logged_as x (backed old.log) e) (sym is);
@@ -152,8 +155,9 @@ module _ {D : Type 0} (moment_of : D → ℕ) (left_since : D → ℕ → List �
       }
 
   pub late_enters : (old new : Back D) (log : BackLog) (e : Entry) → LogSame old.log log → may_take old ≡ true → fit_of old e ≡ fit.Late
-      → TakesLate (record old { log = log }) new e → Enters old new e
+      → TakesLate (record old { log = log }) new e → Enters None old new e
   late_enters old new log e same may is t = record {
+    may = tt;
     log = t.log ∙ ap (λ (x : Backed). record x { taken = x.taken ++ e ∷ [] }) same.same ∙ ap (λ (x : Fit). logged_as x (backed old.log) e) (sym is);
     stuck = ap (λ (b : Back D). b.stuck) t.same ∙ free_of old may ∙ ap is_unfit (sym is);
     held = t.holds

@@ -1,15 +1,17 @@
 -- What holds of a back holds of it with another note of whether memory was wanting.
-use Rattle.std.proofs.Common.{◌≡◌, ◌∙◌, ap, sym, subst, inl, inr, ⊎_elim, ℕ, List, Option, Ok, Err, Result, OnOk, OnErr, is_err}
+use Rattle.std.proofs.Common.{◌≡◌, ◌∙◌, ap, sym, subst, refl, inl, inr, ⊎_elim, ℕ, List, Option, None, Ok, Err, Result, OnOk, OnErr, is_err}
 use Rattle.std.specs.Prelude.{◌⊎◌, Bool, true, false, not}
 use Rattle.batch_journal.specs.declared.journal.Journal.{Journal}
 use Rattle.do_value.specs.declared.fault.NoMemory.{NoMemory}
 use Rattle.storage_map.specs.declared.op.Op.{Op}
 use Rattle.timeline.specs.declared.entry.Entry.{Entry}
 use Rattle.timeline.specs.declared.notice.Notice.{Notice}
-use Rattle.output_gate.specs.Entering.{Enters, LosesEntry}
+use Rattle.output_gate.specs.Entering.{Enters, Failed, LosesEntry, Takes, TakesUnread, notice_at}
 use Rattle.output_gate.specs.Mending.{Remounts, LosesMend}
 use Rattle.output_gate.specs.Serving.{HasRoom, IsSafe, IsServing, IsMounted, IsSafeEnded, IsEnded, IsUnmounted, IsBackAs, IsBack, KeepsBack, KeepsBackAs, is_stopped, IsAsBefore}
+use Rattle.output_gate.specs.Taking.{fit_of}
 use Rattle.output_gate.specs.declared.back.Back.{Back}
+use Rattle.output_gate.proofs.Unfit.{unfit_notice}
 use Rattle.output_gate.specs.declared.back.Ending.{Ending}
 
 -- a back with this note
@@ -170,9 +172,50 @@ keeps_note moment_of left_since told image faults_of start opening old new same 
 pub before_noted : {D : Type 0} (old mid : Back D) (s : Bool) → IsAsBefore old mid → IsAsBefore old (noted mid s)
 before_noted old mid s h = record { log = h.log; held = h.held; stuck = h.stuck; identity = h.identity; mode = h.mode; before = h.before; durable = h.durable; limit = h.limit }
 
-entered_noted : {D : Type 0} (old mid : Back D) (e : Entry) (s : Bool) → IsAsBefore old mid ⊎ Enters old mid e → IsAsBefore old (noted mid s) ⊎ Enters old (noted mid s) e
+entered_noted : {D : Type 0} (old mid : Back D) (e : Entry) (s : Bool) → IsAsBefore old mid ⊎ ((failed : Failed) × Enters failed old mid e)
+    → IsAsBefore old (noted mid s) ⊎ ((failed : Failed) × Enters failed old (noted mid s) e)
 entered_noted old mid e s (inl h) = inl (before_noted old mid s h)
-entered_noted old mid e s (inr h) = inr (record { log = h.log; stuck = h.stuck; held = h.held; identity = h.identity; mode = h.mode; before = h.before; needs = h.needs; durable = h.durable; limit = h.limit })
+entered_noted old mid e s (inr (failed, h)) = inr (
+  failed,
+  record {
+    may = h.may;
+    log = h.log;
+    stuck = h.stuck;
+    held = h.held;
+    identity = h.identity;
+    mode = h.mode;
+    before = h.before;
+    needs = h.needs;
+    durable = h.durable;
+    limit = h.limit;
+  },
+)
+
+-- An entry is taken without a read, with the note.
+pub takes_noted : {D : Type 0} (told : D → Option (List ℕ)) (old mid : Back D) (got0 got : List Entry) (sent0 sent : List Notice) (s : Bool) → TakesUnread old mid got0 got sent0 sent
+    → Takes told old (noted mid s) got0 got sent0 sent
+takes_noted told old mid got0 got sent0 sent s t = record {
+  entry = t.entry;
+  took = t.took;
+  failed = None;
+  enters = record {
+    may = tt;
+    log = t.enters.log;
+    stuck = t.enters.stuck;
+    held = t.enters.held;
+    mode = t.enters.mode;
+    before = t.enters.before;
+    needs = t.enters.needs;
+    identity = t.enters.identity;
+    durable = t.enters.durable;
+    limit = t.enters.limit;
+  };
+  answer = notice_at None old t.entry;
+  sends = t.told;
+  answers = λ disk at tells. refl;
+  unfit = λ is. unfit_notice (fit_of old t.entry) t.entry old.cache is;
+  rose = λ disk at tells. tt;
+}
 
 -- An entry is lost, with the note.
 pub loses_noted : {D A : Type 0} (r : Result A NoMemory) (old mid : Back D) (got0 got : List Entry) (sent0 sent : List Notice) (s : Bool) → OnErr r (LosesEntry old mid got0 got sent0 sent)

@@ -4,7 +4,7 @@ use Rattle.std.specs.Prelude.{is_some}
 use Rattle.batch_journal.specs.Moments.{TellsAsBefore}
 use Rattle.batch_journal.specs.Rest.{disk_in, end_of, limit_of}
 use Rattle.batch_journal.specs.declared.journal.Journal.{Journal}
-use Rattle.output_gate.specs.Storing.{HasLimit, IsDiskOf, KeepsDisk, KeepsEnd, KeepsLimit, KeepsTelling}
+use Rattle.output_gate.specs.Storing.{HasLimit, IsDiskOf, KeepsDisk, KeepsEnd, KeepsLimit, KeepsTelling, ReadsDisk}
 use Rattle.output_gate.specs.declared.store.Store.{Store}
 use Rattle.output_gate.specs.declared.store.Store.TheVariants as store
 
@@ -72,6 +72,10 @@ staged_disk {D} old new journal later from into same limit end = record {
 -- the same disk tells the same
 pub still_tells : {D : Type 0} (told : D → Option (List ℕ)) (old new : Store D) → KeepsDisk old new → KeepsTelling told old new
 still_tells {D} told old new keeps disk left at into = ap (λ (d : D). is_some (told d)) (same_disk new left disk into (keeps.still disk at))
+
+-- it may have been read as well
+pub reads_of : {D : Type 0} (told : D → Option (List ℕ)) (old new : Store D) → KeepsDisk old new → ReadsDisk told old new
+reads_of told old new keeps = record { telling = still_tells told old new keeps; limit = keeps.limit; end = keeps.end }
 
 -- these two disks were and are in it
 pub tells_as : {D : Type 0} (told : D → Option (List ℕ)) (old new : Store D) (disk left : D) → IsDiskOf old disk → IsDiskOf new left → TellsAsBefore (told disk) (told left)

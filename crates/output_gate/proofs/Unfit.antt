@@ -1,5 +1,5 @@
 -- What an entry that a back may not take changes, and one that it may.
-use Rattle.std.proofs.Common.{◌≡◌, refl, inl, inr, ℕ, [], ◌∷◌, ◌++◌, Option, Some, None}
+use Rattle.std.proofs.Common.{◌≡◌, ◌∙◌, ap, sym, refl, true≢false, inl, inr, ℕ, [], ◌∷◌, ◌++◌, Option, Some, None}
 use Rattle.std.specs.Prelude.{◌⊎◌, true, false}
 use Rattle.storage_map.specs.Contents.{Contents}
 use Rattle.storage_map.specs.Limits.{Object}
@@ -7,7 +7,8 @@ use Rattle.timeline.specs.Logs.{Backed}
 use Rattle.timeline.specs.declared.entry.Body.{Body}
 use Rattle.timeline.specs.declared.entry.Body.TheVariants as body
 use Rattle.timeline.specs.declared.entry.Entry.{Entry}
-use Rattle.output_gate.specs.Entering.{is_unfit, logged_as, notice_as, held_as, mode_after, before_after, identity_after, identity_by}
+use Rattle.output_gate.specs.Entering.{Failed, MayFail, is_unfit, logged_as, notice_as, held_as, held_with, mode_after, before_after, identity_after, identity_by}
+use Rattle.output_gate.specs.Taking.{fit_of}
 use Rattle.output_gate.specs.declared.back.Back.{Back}
 use Rattle.output_gate.specs.declared.back.Mode.{Mode}
 use Rattle.output_gate.specs.declared.fit.Fit.{Fit}
@@ -25,6 +26,12 @@ unfit_held fit.Unfit back e is = refl
 unfit_held fit.Own back e is = absurd cc
 unfit_held fit.Down back e is = absurd cc
 unfit_held fit.Late back e is = absurd cc
+
+-- No read fails of it.
+pub unfit_holds : {D : Type 0} (failed : Failed) (back : Back D) (e : Entry) → MayFail failed back e → is_unfit (fit_of back e) ≡ true
+    → held_with failed (fit_of back e) back e ≡ []
+unfit_holds None back e may is = unfit_held (fit_of back e) back e is
+unfit_holds (Some counts) back e may is = absurd (true≢false (sym is ∙ ap is_unfit may.0))
 
 pub unfit_notice : (f : Fit) (e : Entry) (m : Contents) → is_unfit f ≡ true → notice_as f e m ≡ None
 unfit_notice fit.Unfit e m is = refl

@@ -23,7 +23,7 @@ use Rattle.timeline.specs.declared.message.Message.{Message as Sent}
 use Rattle.timeline.specs.declared.notice.Notice.{Notice}
 use Rattle.output_gate.specs.Down.{place_down}
 use Rattle.output_gate.specs.Ended.{AreInOrder, HasEnded, IsEnding, AreEnding}
-use Rattle.output_gate.specs.Entering.{Enters, identity_after, identity_by, logged_as, mode_after, mode_by}
+use Rattle.output_gate.specs.Entering.{Enters, Failed, identity_after, identity_by, logged_as, mode_after, mode_by}
 use Rattle.output_gate.specs.Fits.{fits_mounted}
 use Rattle.output_gate.specs.Flushing.{Ends, FliesAll, Flushes}
 use Rattle.output_gate.specs.Gate.{Place, history_at, place_of}
@@ -226,26 +226,26 @@ module _ {D : Type 0} (moment_of : D → ℕ) (left_since : D → ℕ → List �
         (late_filled limit end object front (suc c.last) [] (own_flights b) (marks_of old) i rest e ended filled))
         (λ now. sym mode ∙ now) (λ ending now. subst (IsAtEnd ending) mode now) (λ now. keeps) w
 
-    enters_as : (known : Known old) (e : Entry) → Enters old new e → KeepsEnd old.store new.store → (f : Fit) → fit_of old e ≡ f → AreWritten limit end new
-    enters_as known e enters keeps fit.Unfit is =
+    enters_as : (known : Known old) (e : Entry) (failed : Failed) → Enters failed old new e → KeepsEnd old.store new.store → (f : Fit) → fit_of old e ≡ f → AreWritten limit end new
+    enters_as known e failed enters keeps fit.Unfit is =
         written_still limit end old new (λ front. ap (place_of front) (enters.log ∙ ap (λ (x : Fit). logged_as x (backed old.log) e) is))
         (enters.mode ∙ ap (λ (x : Fit). mode_after x old.mode e.body) is) (enters.identity ∙ ap (λ (x : Fit). identity_after x old.identity e.body) is) (λ now. keeps) all
-    enters_as known e enters keeps fit.Own is =
+    enters_as known e failed enters keeps fit.Own is =
         let o = own_of old e is in
         took_one known e o.own (enters.log ∙ ap (λ (x : Fit). logged_as x (backed old.log) e) is) fit.Own
         (enters.mode ∙ ap (λ (x : Fit). mode_after x old.mode e.body) is) keeps
         (λ object may. may_bind old.identity e.body object o.fits
         (subst (λ (i : Option Object). MayBe i object) (enters.identity ∙ ap (λ (x : Fit). identity_after x old.identity e.body) is) may))
-    enters_as known e enters keeps fit.Down is =
+    enters_as known e failed enters keeps fit.Down is =
         took_one known e (down_of old e is).own (enters.log ∙ ap (λ (x : Fit). logged_as x (backed old.log) e) is) fit.Down
         (enters.mode ∙ ap (λ (x : Fit). mode_after x old.mode e.body) is) keeps
         (λ object may. subst (λ (i : Option Object). MayBe i object) (enters.identity ∙ ap (λ (x : Fit). identity_after x old.identity e.body) is) may)
-    enters_as known e enters keeps fit.Late is =
+    enters_as known e failed enters keeps fit.Late is =
         took_late known e (comes old e (late_of old e is) (number_of old known) (order_of old known)) (enters.log ∙ ap (λ (x : Fit). logged_as x (backed old.log) e) is)
         (enters.mode ∙ ap (λ (x : Fit). mode_after x old.mode e.body) is) keeps (enters.identity ∙ ap (λ (x : Fit). identity_after x old.identity e.body) is)
 
-    pub written_enters : Known old → (e : Entry) → Enters old new e → KeepsEnd old.store new.store → AreWritten limit end new
-    written_enters known e enters keeps = enters_as known e enters keeps (fit_of old e) refl
+    pub written_enters : Known old → (e : Entry) (failed : Failed) → Enters failed old new e → KeepsEnd old.store new.store → AreWritten limit end new
+    written_enters known e failed enters keeps = enters_as known e failed enters keeps (fit_of old e) refl
 
     -- ---- an append
     module _ (m : IsMounted moment_of left_since told image faults_of start opening sound old) (tells : IsTold (told (disk_in m.journal))) (more : old.before ≢ old.durable) where

@@ -1,5 +1,7 @@
 -- What a take does, as its caller sees it.
-use Rattle.std.specs.Prelude.{◌≡◌, ◌⊎◌, ℕ, ◌+◌, ◌<◌, Bool, true, false, List, [], ◌∷◌, ◌++◌, option_to_list, ◌-◌, length, slice_get, Option, Some, None, is_some, Result, Ok, Err}
+use Rattle.std.specs.Prelude.{◌≡◌, ◌⊎◌, ℕ, ◌+◌, ◌<◌, Bool, true, false, List, [], ◌∷◌, ◌++◌, option_to_list, ◌-◌, length, slice_get, Option, Some, None, IfSome, is_some, Result, Ok, Err}
+use Rattle.batch_journal.specs.Moments.{IsTold}
+use Rattle.do_disk.specs.Disk.{Rose}
 use Rattle.do_value.specs.declared.fault.NoMemory.{NoMemory}
 use Rattle.storage_map.specs.Contents.{Contents}
 use Rattle.storage_map.specs.Limits.{Object}
@@ -8,6 +10,7 @@ use Rattle.timeline.specs.Logs.{Backed, backed}
 use Rattle.timeline.specs.Passed.{follows}
 use Rattle.timeline.specs.declared.back_log.Stop.{Stop}
 use Rattle.timeline.specs.declared.caller.Cause.{Cause}
+use Rattle.timeline.specs.declared.caller.Cause.TheVariants as cause
 use Rattle.timeline.specs.declared.caller.Failure.TheVariants as failure
 use Rattle.timeline.specs.declared.entry.Body.TheVariants as body
 use Rattle.timeline.specs.declared.message.Message.{Message}
@@ -24,7 +27,7 @@ use Rattle.output_gate.specs.declared.back.Ending.{Ending}
 use Rattle.output_gate.specs.declared.back.Mode.{Mode}
 use Rattle.output_gate.specs.declared.back.Mode.TheVariants.{Wanted, Down}
 use Rattle.output_gate.specs.Serving.{IsMounted, IsUnmounted, IsAsBefore}
-use Rattle.output_gate.specs.Storing.{KeepsDisk}
+use Rattle.output_gate.specs.Storing.{IsDiskOf, KeepsDisk}
 use Rattle.output_gate.specs.Taking.{notice_of, fit_of, LogRoom, most_unflushed}
 use Rattle.output_gate.specs.declared.back.Back.{Back}
 use Rattle.output_gate.specs.declared.fit.Fit.{Fit}
@@ -44,8 +47,25 @@ abbrev pub notice_as : Fit → Entry → Contents → Option Notice
 notice_as fit.Own e m = notice_of e.number m e.body
 notice_as _ e m = None
 
-abbrev pub notice_at : {D : Type 0} → Back D → Entry → Option Notice
-notice_at back e = notice_as (fit_of back e) e back.cache
+-- The counts of faults before and after a read of the disk that failed, where one did: its ask isn't answered.
+abbrev pub Failed : Type 0
+Failed = Option (ℕ × ℕ)
+
+abbrev pub notice_with : Failed → Fit → Entry → Contents → Option Notice
+notice_with None f e m = notice_as f e m
+notice_with (Some counts) f e m = None
+
+abbrev pub notice_at : {D : Type 0} → Failed → Back D → Entry → Option Notice
+notice_at failed back e = notice_with failed (fit_of back e) e back.cache
+
+-- A read fails of an ask of the newest incarnation alone, while that is mounted.
+abbrev pub IsAsk : Body → Type 0
+IsAsk (body.Ask ask free) = Unit {0}
+IsAsk _ = ⊥
+
+abbrev pub MayFail : {D : Type 0} → Failed → Back D → Entry → Type 0
+MayFail None back e = Unit {0}
+MayFail (Some counts) back e = (fit_of back e ≡ fit.Own) × IsAsk e.body
 
 -- What is held of an entry of the newest incarnation, by the batches before it, those up to the last confirmed one, and the incarnation
 -- of whose line they are: a message needs the latter, a sync and a halt need all.
@@ -81,6 +101,11 @@ held_as fit.Unfit back e = []
 held_as fit.Own back e = held_by back.before back.needs back.number e.number e.body
 held_as fit.Down back e = held_by back.before back.before (back.number - 1) e.number e.body
 held_as fit.Late back e = late_held back e
+
+-- Where a read failed the end of its incarnation by that is held, behind all that was taken before.
+abbrev pub held_with : {D : Type 0} → Failed → Fit → Back D → Entry → List Held
+held_with None f back e = held_as f back e
+held_with (Some counts) f back e = record { body = held.Halt (cause.Disk counts.0 counts.1); needs = back.before; since = back.number } ∷ []
 
 -- A `Mend` of an incarnation that is down asks for a mounting; nothing else that is taken changes how a back stands.
 abbrev pub asked : Mode → Mode
@@ -128,10 +153,11 @@ identity_after fit.Own identity b = identity_by b identity
 identity_after _ identity b = identity
 
 -- An entry goes into the log, with what is held of it, or leaves the back stuck.
-pub record Enters {D : Type 0} (old new : Back D) (e : Entry) : Type 0 where
+pub record Enters {D : Type 0} (failed : Failed) (old new : Back D) (e : Entry) : Type 0 where
+  pub may : MayFail failed old e
   pub log : backed new.log ≡ logged_as (fit_of old e) (backed old.log) e
   pub stuck : new.stuck ≡ is_unfit (fit_of old e)
-  pub held : new.held.items ≡ old.held.items ++ held_as (fit_of old e) old e
+  pub held : new.held.items ≡ old.held.items ++ held_with failed (fit_of old e) old e
   pub mode : new.mode ≡ mode_after (fit_of old e) old.mode e.body
   pub before : new.before ≡ before_after (fit_of old e) old.before e.body
   pub needs : new.needs ≡ needs_after (fit_of old e) old.before old.needs e.body
@@ -146,12 +172,25 @@ pub record IsIdle {D A B : Type 0} (old new : Back D) (taken_before taken : List
   pub took : taken ≡ taken_before
   pub told : sent ≡ sent_before
 
--- The next entry of the line is taken, and the front is told what it waits for.
-pub record Takes {D : Type 0} (old new : Back D) (got_before got : List Entry) (sent_before sent : List Notice) : Type 0 where
+-- The next entry of the line is taken, and the front is told what it waits for: over a disk that tells its content what the map says, where no
+-- read failed, and a read fails only where the count of faults rose.
+pub record Takes {D : Type 0} (told : D → Option (List ℕ)) (old new : Back D) (got_before got : List Entry) (sent_before sent : List Notice) : Type 0 where
   pub entry : Entry
   pub took : got ≡ got_before ++ entry ∷ []
-  pub told : sent ≡ sent_before ++ option_to_list (notice_at old entry)
-  pub enters : Enters old new entry
+  pub failed : Failed
+  pub enters : Enters failed old new entry
+  pub answer : Option Notice
+  pub sends : sent ≡ sent_before ++ option_to_list answer
+  pub answers : (disk : D) → IsDiskOf old.store disk → IsTold (told disk) → answer ≡ notice_at failed old entry
+  pub unfit : is_unfit (fit_of old entry) ≡ true → answer ≡ None
+  pub rose : (disk : D) → IsDiskOf old.store disk → IsTold (told disk) → IfSome failed (λ counts. Rose counts.0 counts.1)
+
+-- The same of a back whose map is in memory: it reads nothing.
+pub record TakesUnread {D : Type 0} (old new : Back D) (got_before got : List Entry) (sent_before sent : List Notice) : Type 0 where
+  pub entry : Entry
+  pub took : got ≡ got_before ++ entry ∷ []
+  pub told : sent ≡ sent_before ++ option_to_list (notice_at None old entry)
+  pub enters : Enters None old new entry
 
 -- Memory was wanting: an entry is gone from the line, and the front wasn't told of it. Nothing was done of it, or it was entered
 -- and its notice is lost.
@@ -160,7 +199,7 @@ pub record LosesEntry {D : Type 0} (old new : Back D) (got_before got : List Ent
   pub took : got ≡ got_before ++ entry ∷ []
   pub told : sent ≡ sent_before
   pub log : (backed new.log ≡ backed old.log) ⊎ (backed new.log ≡ record (backed old.log) { taken = old.log.taken.items ++ entry ∷ [] })
-  pub entered : IsAsBefore old new ⊎ Enters old new entry
+  pub entered : IsAsBefore old new ⊎ ((failed : Failed) × Enters failed old new entry)
 
 -- What taking an entry of the newest incarnation needs while it is mounted, and does.
 pub record CanTake {D : Type 0} (moment_of : D → ℕ) (left_since : D → ℕ → List ℕ → Type 0) (told : D → Option (List ℕ)) (image : D → List ℕ → Type 0) (faults_of : D → ℕ)

@@ -44,6 +44,13 @@ pub record KeepsDisk {D : Type 0} (old new : Store D) : Type 0 where
 abbrev pub KeepsTelling : {D : Type 0} → (D → Option (List ℕ)) → (old new : Store D) → Type 0
 KeepsTelling {D} told old new = (disk left : D) → IsDiskOf old disk → IsDiskOf new left → TellsAsBefore (told disk) (told left)
 
+-- The disk may have been read: it tells its content exactly where the one before did, and a journal has the limit that it had and ends where it
+-- did.
+pub record ReadsDisk {D : Type 0} (told : D → Option (List ℕ)) (old new : Store D) : Type 0 where
+  pub telling : KeepsTelling told old new
+  pub limit : KeepsLimit old new
+  pub end : KeepsEnd old new
+
 -- A batch is staged behind those that were, or memory was wanting and the same are; the journal's file is as it was.
 pub record Stages {D : Type 0} (told : D → Option (List ℕ)) (image : D → List ℕ → Type 0) (old : Journal D) (after : Store D) (object : Object) (batch : List Op)
     (result : Result (Unit {0}) NoMemory) : Type 0 where

@@ -1,15 +1,15 @@
 //! Taking what the object says.
-ghost use Rattle.std.specs.Prelude.{◌≡◌, ◌++◌, [], ◌∷◌, true, false, Ok, Some, option_to_list, IfOk, OnOk, OnErr, length};
+ghost use Rattle.std.specs.Prelude.{◌≡◌, ◌++◌, [], ◌∷◌, true, false, Ok, Some, None, option_to_list, IfOk, OnOk, OnErr, length};
 ghost use Rattle.lane.specs.Lanes.{StartsWith};
 ghost use Rattle.storage_map.specs.Ops.{batch_bytes, IsBatch};
 ghost use Rattle.storage_map.specs.Limits.{Object, IsObject};
 ghost use Rattle.batch_journal.specs.Rest.{CanStage};
 ghost use Rattle.batch_journal.specs.declared.journal.Journal.{Journal};
 ghost use Rattle.timeline.specs.declared.notice.Stepped.TheVariants.{Did, Nothing};
-ghost use Rattle.output_gate.specs.Entering.{Enters, IsIdle, Takes, LosesEntry, CanTake, TakesOwn, FailsOwn, CanTakeDown, TakesDown, FailsDown, TakesLate, notice_at};
+ghost use Rattle.output_gate.specs.Entering.{Enters, IsIdle, Takes, TakesUnread, LosesEntry, CanTake, TakesOwn, FailsOwn, CanTakeDown, TakesDown, FailsDown, TakesLate, notice_at};
 ghost use Rattle.output_gate.specs.Entering as entering;
 ghost use Rattle.output_gate.specs.Serving.{CanServe, CanServeAs, KeepsBack, KeepsBackAs, StopsBy, is_stopped, IsAsBefore};
-ghost use Rattle.output_gate.specs.Storing.{Stages, KeepsDisk};
+ghost use Rattle.output_gate.specs.Storing.{Stages, KeepsDisk, ReadsDisk};
 ghost use Rattle.output_gate.specs.Taking as taking;
 ghost use Rattle.output_gate.specs.Taking.{LogRoom, LogTook, LogSame, notice_of};
 ghost use Rattle.output_gate.specs.declared.store.Store.TheVariants as store;
@@ -26,7 +26,7 @@ use timeline::{BackLog, Body, Cause, Entry, Failure, Message, Notice, Stepped};
 
 impl<D: Disk> Back<D> {
     /// Takes the next entry of the line. A batch is staged and its writes are seen from here on, an ask is answered, and
-    /// messages, syncs and halts are held. After `NoMemory` the back is stopped: each further step but `flush` answers `NoMemory`
+    /// messages, syncs and halts are held. Where an ask's read of the disk fails the end of the incarnation by that is held, and nothing is told. After `NoMemory` the back is stopped: each further step but `flush` answers `NoMemory`
     /// and does nothing.
     pub fn take<L: Inlet<Entry>, N: Outlet<Notice>>(
         &mut self,
@@ -40,13 +40,13 @@ impl<D: Disk> Back<D> {
             → IsIdle self.old self.new (L.got line.old) (L.got line.new) (N.sent notices.old) (N.sent notices.new) result }
         ensures nothing { result ≡ Ok Nothing → IsIdle self.old self.new (L.got line.old) (L.got line.new) (N.sent notices.old) (N.sent notices.new) result }
         ensures empty { result ≡ Ok Nothing → taking.may_take self.old ≡ true → StartsWith (L.got line.old) (L.told line.old) }
-        ensures took { result ≡ Ok Did → Takes self.old self.new (L.got line.old) (L.got line.new) (N.sent notices.old) (N.sent notices.new) }
+        ensures took { result ≡ Ok Did → Takes D.told self.old self.new (L.got line.old) (L.got line.new) (N.sent notices.old) (N.sent notices.new) }
         ensures lost { is_stopped self.old ≡ false
             → OnErr result (LosesEntry self.old self.new (L.got line.old) (L.got line.new) (N.sent notices.old) (N.sent notices.new)) }
         ensures stops { StopsBy result self.new }
         ensures inlet { (L.inlet line.new ≡ L.inlet line.old) × (L.told line.new ≡ L.told line.old) }
         ensures outlet { (N.outlet notices.new ≡ N.outlet notices.old) × (N.left notices.new ≡ N.left notices.old) }
-        ensures disk { KeepsDisk self.old.store self.new.store }
+        ensures disk { ReadsDisk D.told self.old.store self.new.store }
         ensures back { KeepsBack D.moment_of D.left_since D.told D.image D.faults_of self.old self.new }
     {
         if self.stopped {
@@ -68,7 +68,7 @@ impl<D: Disk> Back<D> {
             → IsIdle self.old self.new (L.got line.old) (L.got line.new) (N.sent notices.old) (N.sent notices.new) result }
         ensures nothing { result ≡ Ok Nothing → IsIdle self.old self.new (L.got line.old) (L.got line.new) (N.sent notices.old) (N.sent notices.new) result }
         ensures empty { result ≡ Ok Nothing → taking.may_take self.old ≡ true → StartsWith (L.got line.old) (L.told line.old) }
-        ensures took { result ≡ Ok Did → Takes self.old self.new (L.got line.old) (L.got line.new) (N.sent notices.old) (N.sent notices.new) }
+        ensures took { result ≡ Ok Did → TakesUnread self.old self.new (L.got line.old) (L.got line.new) (N.sent notices.old) (N.sent notices.new) }
         ensures lost { OnErr result (LosesEntry self.old self.new (L.got line.old) (L.got line.new) (N.sent notices.old) (N.sent notices.new)) }
         ensures inlet { (L.inlet line.new ≡ L.inlet line.old) × (L.told line.new ≡ L.told line.old) }
         ensures outlet { (N.outlet notices.new ≡ N.outlet notices.old) × (N.left notices.new ≡ N.left notices.old) }
@@ -128,8 +128,8 @@ impl<D: Disk> Back<D> {
     fn take_entry(&mut self, entry: Entry) -> Mem<Option<Notice>>
         requires back { CanServeAs D.moment_of D.left_since D.told D.image D.faults_of true self.old }
         requires may { taking.may_take self.old ≡ true }
-        ensures notice { IfOk result (λ notice. notice ≡ notice_at self.old entry) }
-        ensures enters { OnOk result (Enters self.old self.new entry) }
+        ensures notice { IfOk result (λ notice. notice ≡ notice_at None self.old entry) }
+        ensures enters { OnOk result (Enters None self.old self.new entry) }
         ensures kept { OnErr result (IsAsBefore self.old self.new) }
         ensures disk { KeepsDisk self.old.store self.new.store }
         ensures back { OnOk result (KeepsBackAs D.moment_of D.left_since D.told D.image D.faults_of true true self.old self.new) }
@@ -151,8 +151,8 @@ impl<D: Disk> Back<D> {
         requires back { CanServeAs D.moment_of D.left_since D.told D.image D.faults_of true self.old }
         requires may { taking.may_take self.old ≡ true }
         requires fit { taking.fit_of self.old entry ≡ Fit.Own }
-        ensures notice { IfOk result (λ notice. notice ≡ notice_at self.old entry) }
-        ensures enters { OnOk result (Enters self.old self.new entry) }
+        ensures notice { IfOk result (λ notice. notice ≡ notice_at None self.old entry) }
+        ensures enters { OnOk result (Enters None self.old self.new entry) }
         ensures kept { OnErr result (IsAsBefore self.old self.new) }
         ensures disk { KeepsDisk self.old.store self.new.store }
         ensures back { OnOk result (KeepsBackAs D.moment_of D.left_since D.told D.image D.faults_of true true self.old self.new) }
@@ -172,8 +172,8 @@ impl<D: Disk> Back<D> {
         requires back { CanServeAs D.moment_of D.left_since D.told D.image D.faults_of true self.old }
         requires may { taking.may_take self.old ≡ true }
         requires fit { taking.fit_of self.old entry ≡ Fit.Down }
-        ensures notice { IfOk result (λ notice. notice ≡ notice_at self.old entry) }
-        ensures enters { OnOk result (Enters self.old self.new entry) }
+        ensures notice { IfOk result (λ notice. notice ≡ notice_at None self.old entry) }
+        ensures enters { OnOk result (Enters None self.old self.new entry) }
         ensures kept { OnErr result (IsAsBefore self.old self.new) }
         ensures disk { KeepsDisk self.old.store self.new.store }
         ensures back { OnOk result (KeepsBackAs D.moment_of D.left_since D.told D.image D.faults_of true true self.old self.new) }
@@ -194,8 +194,8 @@ impl<D: Disk> Back<D> {
         requires back { CanServeAs D.moment_of D.left_since D.told D.image D.faults_of true self.old }
         requires may { taking.may_take self.old ≡ true }
         requires fit { taking.fit_of self.old entry ≡ Fit.Late }
-        ensures notice { IfOk result (λ notice. notice ≡ notice_at self.old entry) }
-        ensures enters { OnOk result (Enters self.old self.new entry) }
+        ensures notice { IfOk result (λ notice. notice ≡ notice_at None self.old entry) }
+        ensures enters { OnOk result (Enters None self.old self.new entry) }
         ensures kept { OnErr result (IsAsBefore self.old self.new) }
         ensures disk { KeepsDisk self.old.store self.new.store }
         ensures back { OnOk result (KeepsBackAs D.moment_of D.left_since D.told D.image D.faults_of true true self.old self.new) }
