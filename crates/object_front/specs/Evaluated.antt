@@ -10,7 +10,7 @@ abbrev pub paused_task : Task → Paused
 paused_task t = record { class = class_in t; block = has_block t; rest = λ script rs. rest_in script t rs }
 
 abbrev pub seen : Evaluated → Paused
-seen t = paused_task t.task
+seen t = paused_task t.task.value
 
 -- Without an answer it gives no turn, whatever its class.
 rests_with : (class : Option Class) (t : Task) → rest_with class t [] ≡ []
@@ -18,4 +18,4 @@ rests_with None t = refl
 rests_with (Some class) t = refl
 
 pub stays : (t : Evaluated) (script : Script) → (seen t).rest script [] ≡ []
-stays t script = rests_with (slice_get script.classes (class_in t.task)) t.task
+stays t script = rests_with (slice_get script.classes (class_in t.task.value)) t.task.value

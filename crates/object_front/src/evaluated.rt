@@ -12,14 +12,14 @@ ghost use Rattle.front_turns.specs.Outcomes.{IsOfClass, later, segment_of};
 ghost use Rattle.object_front.specs.Evaluated.{seen, stays};
 
 use do_tree::Checked;
-use do_value::{Fields, Mem, Value};
+use do_value::{Fields, Mem, NoMemory, Value};
 use front_turns::{Outcome, Task};
 use script_mean::Answer;
 use std::alloc::Global;
 
 /// A task of the evaluator that waits for an answer.
 pub(crate) struct Evaluated {
-    task: script_eval::Task,
+    task: Box<script_eval::Task>,
 }
 
 // Written out, so that it is one function: a derived one is proved again wherever a task is let go.
@@ -42,7 +42,9 @@ impl Task for Evaluated {
         fields: Fields,
         now: i64,
     ) -> Mem<Outcome<Evaluated>> {
-        Ok(turned(script_eval::Task::start(alloc, checked, class, method, args, fields, now)?))
+        let outcome = script_eval::Task::start(alloc, checked, class, method, args, fields, now)?;
+        let turn = turned(alloc, outcome)?;
+        Ok(turn)
     }
 
     fn resume(
@@ -54,7 +56,10 @@ impl Task for Evaluated {
         now: i64,
     ) -> Mem<Outcome<Evaluated>> {
         let Evaluated { task } = self;
-        Ok(turned(task.resume(alloc, checked, answer, fields, now)?))
+        let task = Box::into_inner(task);
+        let outcome = task.resume(alloc, checked, answer, fields, now)?;
+        let turn = turned(alloc, outcome)?;
+        Ok(turn)
     }
 
     fn block(&self) -> bool {
@@ -64,11 +69,21 @@ impl Task for Evaluated {
     ghost stays = { stays };
 }
 
-// The evaluator's turn as the front's: nothing is copied.
-fn turned(outcome: script_eval::Outcome) -> Outcome<Evaluated>
-    ensures turn { segment_of seen result ≡ evaluator.segment_of outcome }
-    ensures later { (script : Script) (rs : List Resume) → later seen script result rs ≡ evaluator.later script outcome rs }
-    ensures class { (class : ℕ) → evaluator.IsOfClass class outcome → IsOfClass seen class result }
+// A task that waits is kept behind a pointer, so that what is moved of it is small.
+fn keep(alloc: Global, task: script_eval::Task) -> Mem<Evaluated>
+    ensures { IfOk result (λ kept. kept.task.value ≡ task) }
+{
+    match Box::new(alloc, task) {
+        Ok(task) => Ok(Evaluated { task }),
+        Err(_) => Err(NoMemory),
+    }
+}
+
+// The evaluator's turn as the front's.
+fn turned(alloc: Global, outcome: script_eval::Outcome) -> Mem<Outcome<Evaluated>>
+    ensures turn { IfOk result (λ o. segment_of seen o ≡ evaluator.segment_of outcome) }
+    ensures later { IfOk result (λ o. (script : Script) (rs : List Resume) → later seen script o rs ≡ evaluator.later script outcome rs) }
+    ensures class { IfOk result (λ o. (class : ℕ) → evaluator.IsOfClass class outcome → IsOfClass seen class o) }
 {
     match outcome {
         script_eval::Outcome::Paused {
@@ -76,32 +91,32 @@ fn turned(outcome: script_eval::Outcome) -> Outcome<Evaluated>
             batches,
             ask,
             fields,
-        } => Outcome::Paused {
-            task: Evaluated { task },
+        } => Ok(Outcome::Paused {
+            task: keep(alloc, task)?,
             batches,
             ask,
             fields,
-        },
+        }),
         script_eval::Outcome::Done {
             batches,
             value,
             fields,
-        } => Outcome::Done {
+        } => Ok(Outcome::Done {
             batches,
             value,
             fields,
-        },
+        }),
         script_eval::Outcome::Threw {
             batches,
             value,
             fields,
             reset,
-        } => Outcome::Threw {
+        } => Ok(Outcome::Threw {
             batches,
             value,
             fields,
             reset,
-        },
-        script_eval::Outcome::Exceeded { batches } => Outcome::Exceeded { batches },
+        }),
+        script_eval::Outcome::Exceeded { batches } => Ok(Outcome::Exceeded { batches }),
     }
 }

@@ -7,6 +7,7 @@ pub mod Nodes
 pub mod Led
 pub mod Stepped
 pub mod Applied
+pub mod AtOnce
 pub mod Turned
 pub mod Helped
 pub mod Acted

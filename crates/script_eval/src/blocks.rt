@@ -97,6 +97,6 @@ impl Machine {
         ensures { IfOk result (λ p. StepsFrom (Focus.Leave ended) self.old self.new (leads_of p focus.new)) }
     {
         self.state.vars.leave();
-        self.end_part(alloc, ended, focus)
+        self.end_layer(alloc, ended, focus)
     }
 }

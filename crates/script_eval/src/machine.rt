@@ -141,6 +141,30 @@ impl Machine {
             None => stop_at(alloc, Stop::Over(outcome)),
             Some(Layer::Inner(frame)) => {
                 let m = hand_on(alloc, frame, outcome)?;
+                self.go_on(alloc, m, focus)
+            }
+            Some(Layer::Caller(awaited, vars)) => {
+                self.depth -= 1;
+                put_next(focus, Focus::Return(awaited, vars, outcome));
+                Ok(Progress::GoesOn)
+            }
+        }
+    }
+
+    /// The same, by the innermost layer alone: what it unfolds to is next.
+    pub(crate) fn end_layer(
+        &mut self,
+        alloc: Global,
+        outcome: Outcome,
+        focus: &mut Focus,
+    ) -> Mem<Progress>
+        requires { IsDeep self.old }
+        ensures { IfOk result (λ p. (class : SeenClass) → Finishes class outcome self.old self.new (leads_of p focus.new)) }
+    {
+        match self.frames.pop() {
+            None => stop_at(alloc, Stop::Over(outcome)),
+            Some(Layer::Inner(frame)) => {
+                let m = hand_on(alloc, frame, outcome)?;
                 self.apply_move(alloc, m, focus)
             }
             Some(Layer::Caller(awaited, vars)) => {
@@ -148,6 +172,23 @@ impl Machine {
                 put_next(focus, Focus::Return(awaited, vars, outcome));
                 Ok(Progress::GoesOn)
             }
+        }
+    }
+
+    /// What a frame unfolds to is applied as a move is, or, where it has ended, leaves a block or is a part of a path, done at
+    /// once.
+    #[inline(always)]
+    fn go_on(&mut self, alloc: Global, m: Move, focus: &mut Focus) -> Mem<Progress>
+        requires { IsDeep self.old }
+        ensures { IfOk result (λ p. (class : SeenClass) → Applies class (Act.Moves m) self.old self.new (leads_of p focus.new)) }
+    {
+        match m {
+            Move::Then(0, Focus::Ended(outcome)) => self.end_layer(alloc, outcome, focus),
+            Move::Then(0, Focus::Leave(outcome)) => self.leave_block(alloc, outcome, focus),
+            Move::Then(0, Focus::Handed(part, value)) => self.hand_to_path(
+                alloc, part, value, focus,
+            ),
+            m => self.apply_move(alloc, m, focus),
         }
     }
 

@@ -1,16 +1,20 @@
 //! Parts that unfold, and leave what the task has as it is but for the steps that are charged.
 ghost use Rattle.std.specs.Prelude.{IfOk};
+ghost use Rattle.script_steps.specs.declared.focus.Focus.{Focus as SeenFocus};
+ghost use Rattle.script_eval.specs.Charging.{Charges};
 ghost use Rattle.script_eval.specs.Machines.{IsDeep, StepsFrom, leads_of};
 
 use crate::machine::{Machine, Progress};
-use do_tree::{Block, Expr, Simple, Stmt};
-use do_value::{Mem, Value};
+use crate::node::again;
+use do_tree::{Block, Expr, Simple, Stmt, Write};
+use do_value::{Mem, Num, Value};
 use script_mean::laws::loops_unfold;
 use script_paths::{arguments, begin, begin_write, hand_path, place, push, walk, written};
 use script_places::Step;
+use script_state::Done;
 use script_steps::{
-    Await, Between, Callee, Focus, PathFrame, Point, Root, Writing, begin_body, begin_loop,
-    begin_run, begin_simple,
+    Await, Between, Callee, Focus, Outcome, PathFrame, Point, Root, Writing, begin_body,
+    begin_loop, begin_run, begin_simple,
 };
 use std::alloc::Global;
 use std::sync::Arc;
@@ -27,11 +31,37 @@ impl Machine {
         requires { IsDeep self.old }
         ensures { IfOk result (λ p. StepsFrom (Focus.Value awaited expr) self.old self.new (leads_of p focus.new)) }
     {
-        if let Expr::Variable(name) = &*expr {
-            return self.read_charged(alloc, &name.text, focus);
+        match &*expr {
+            Expr::Variable(name) => self.read_charged(alloc, &name.text, focus),
+            Expr::Number { value, .. } => self.give_number(alloc, *value, focus),
+            _ => self.begin_value(alloc, awaited, expr, focus),
         }
+    }
+
+    /// An expression, whatever it is.
+    fn begin_value(
+        &mut self,
+        alloc: Global,
+        awaited: Await,
+        expr: Arc<Expr>,
+        focus: &mut Focus,
+    ) -> Mem<Progress>
+        requires { IsDeep self.old }
+        ensures { IfOk result (λ p. StepsFrom (Focus.Value awaited expr) self.old self.new (leads_of p focus.new)) }
+    {
         let m = begin(alloc, awaited, expr, &self.state.vars)?;
         self.apply_move(alloc, m, focus)
+    }
+
+    /// A part is done that gives this number and does nothing else, for which a step is charged.
+    fn give_number(&mut self, alloc: Global, number: Num, focus: &mut Focus) -> Mem<Progress>
+        requires { IsDeep self.old }
+        ensures { IfOk result (λ p. (f : SeenFocus) → Charges f (Focus.Ended (Outcome.Gave (Value.Num number))) → StepsFrom f self.old self.new (leads_of p focus.new)) }
+    {
+        if !self.state.charge(1) {
+            return self.finish(alloc, Done::Exceeded, focus);
+        }
+        self.end_part(alloc, Outcome::Gave(Value::Num(number)), focus)
     }
 
     /// A statement.
@@ -44,8 +74,42 @@ impl Machine {
         requires { IsDeep self.old }
         ensures { IfOk result (λ p. StepsFrom (Focus.Run stmt.now) self.old self.new (leads_of p focus.new)) }
     {
+        match &**stmt {
+            Stmt::Simple(inner) => self.unfold_simple(alloc, inner, focus),
+            Stmt::Block(block) => self.enter_charged(alloc, block, focus),
+            _ => self.begin_statement(alloc, stmt, focus),
+        }
+    }
+
+    /// A statement, whatever it is.
+    fn begin_statement(
+        &mut self,
+        alloc: Global,
+        stmt: &Arc<Stmt>,
+        focus: &mut Focus,
+    ) -> Mem<Progress>
+        requires { IsDeep self.old }
+        ensures { IfOk result (λ p. StepsFrom (Focus.Run stmt.now) self.old self.new (leads_of p focus.new)) }
+    {
         let m = begin_run(stmt)?;
         self.apply_move(alloc, m, focus)
+    }
+
+    /// A part is a block with names of its own and nothing else, for which a step is charged.
+    fn enter_charged(
+        &mut self,
+        alloc: Global,
+        block: &Arc<Block>,
+        focus: &mut Focus,
+    ) -> Mem<Progress>
+        requires { IsDeep self.old }
+        ensures { IfOk result (λ p. (f : SeenFocus) → Charges f (Focus.Block block.now) → StepsFrom f self.old self.new (leads_of p focus.new)) }
+    {
+        if !self.state.charge(1) {
+            return self.finish(alloc, Done::Exceeded, focus);
+        }
+        let block = again(block)?;
+        self.enter_names(alloc, block, focus)
     }
 
     /// The items of a block from that place on.
@@ -90,8 +154,40 @@ impl Machine {
         requires { IsDeep self.old }
         ensures { IfOk result (λ p. StepsFrom (Focus.Simple inner.now) self.old self.new (leads_of p focus.new)) }
     {
+        match &inner.write {
+            Write::Nothing => self.begin_simple(alloc, inner, focus),
+            _ => self.write_charged(alloc, inner, focus),
+        }
+    }
+
+    /// The same, whatever it is.
+    fn begin_simple(
+        &mut self,
+        alloc: Global,
+        inner: &Arc<Simple>,
+        focus: &mut Focus,
+    ) -> Mem<Progress>
+        requires { IsDeep self.old }
+        ensures { IfOk result (λ p. StepsFrom (Focus.Simple inner.now) self.old self.new (leads_of p focus.new)) }
+    {
         let m = begin_simple(inner)?;
         self.apply_move(alloc, m, focus)
+    }
+
+    /// A part is this write and nothing else, for which a step is charged.
+    fn write_charged(
+        &mut self,
+        alloc: Global,
+        inner: &Arc<Simple>,
+        focus: &mut Focus,
+    ) -> Mem<Progress>
+        requires { IsDeep self.old }
+        ensures { IfOk result (λ p. (f : SeenFocus) → Charges f (Focus.Write inner.now) → StepsFrom f self.old self.new (leads_of p focus.new)) }
+    {
+        if !self.state.charge(1) {
+            return self.finish(alloc, Done::Exceeded, focus);
+        }
+        self.unfold_write(alloc, inner, focus)
     }
 
     /// A write, whose step was charged.

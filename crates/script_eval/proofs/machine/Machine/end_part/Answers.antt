@@ -12,10 +12,10 @@ use Rattle.script_eval.specs.declared.frames.Layer.TheVariants as layer
 pub returns-in_ok-m-in-Some-Inner : goal.returns-in_ok-m-in-Some-Inner
 returns-in_ok-m-in-Some-Inner c =
     let frames : c.args.self.now.frames ≡ layer.Inner c.in-Some-Inner.frame ∷ c.pop.new.self = c.in-Some-Inner.ensures ∙ ap (λ l. l ∷ c.pop.new.self) c.in-Some-Inner.field-0-is in
-    if_ok c.apply_move.result
-    (λ p led. pop_leads c.args.self.now (with_frames c.args.self.now c.pop.new.self) c.apply_move.new.self c.in-Some-Inner.frame c.args.outcome c.in_ok-m-in-Some-Inner.m
-    (leads_of p c.apply_move.new.focus) frames refl c.in_ok-m-in-Some-Inner.ensures.moves c.in_ok-m-in-Some-Inner.ensures.less led)
-    c.apply_move.ensures
+    if_ok c.go_on.result
+    (λ p led. pop_leads c.args.self.now (with_frames c.args.self.now c.pop.new.self) c.go_on.new.self c.in-Some-Inner.frame c.args.outcome c.in_ok-m-in-Some-Inner.m
+    (leads_of p c.go_on.new.focus) frames refl c.in_ok-m-in-Some-Inner.ensures.moves c.in_ok-m-in-Some-Inner.ensures.less led)
+    c.go_on.ensures
 
 pub returns-in-Some-Caller : goal.returns-in-Some-Caller
 returns-in-Some-Caller c =

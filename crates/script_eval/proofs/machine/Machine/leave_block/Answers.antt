@@ -8,6 +8,6 @@ pub returns : goal.returns
 returns c =
     let old = c.args.self.now in
     let now = record old.state { vars = c.leave.new.self } in
-    ends_on (focus.Leave c.args.ended) c.args.ended old (record old { state = now }) c.end_part.new.self now c.end_part.result c.end_part.new.focus refl
+    ends_on (focus.Leave c.args.ended) c.args.ended old (record old { state = now }) c.end_layer.new.self now c.end_layer.result c.end_layer.new.focus refl
     (leave_acts c.args.ended old.state now c.leave.new.self refl c.leave.ensures)
-    c.end_part.ensures
+    c.end_layer.ensures

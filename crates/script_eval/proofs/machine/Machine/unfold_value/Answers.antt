@@ -6,16 +6,7 @@ use Rattle.script_mean.specs.Meaning.{value}
 use Rattle.script_steps.proofs.Begun.{if_ok}
 use Rattle.script_steps.specs.Paths.{is_present}
 use Rattle.script_steps.specs.declared.focus.Focus.TheVariants as focus
-use Rattle.script_eval.proofs.Moved.{in_acts}
-use Rattle.script_eval.proofs.Stepped.{unfolds_on}
-use Rattle.script_eval.specs.declared.act.Act.TheVariants as act
 use Rattle.script_eval.proofs.machine.Machine.unfold_value.Goals as goal
-
-pub returns : goal.returns
-returns c =
-    unfolds_on (focus.Value c.args.awaited c.args.expr) (act.Moves c.in_ok-m.m) c.args.self.now c.apply_move.new.self c.apply_move.result c.apply_move.new.focus
-    (in_acts (focus.Value c.args.awaited c.args.expr) c.args.self.now.state c.in_ok-m.m c.in_ok-m.ensures.same c.in_ok-m.ensures.less)
-    c.apply_move.ensures
 
 pub returns-in-Variable : goal.returns-in-Variable
 returns-in-Variable c =
@@ -23,3 +14,10 @@ returns-in-Variable c =
     if_ok c.read_charged.result
     (λ p led. led (focus.Value c.args.awaited c.args.expr) (λ calls. ap (λ e. value (is_present c.args.awaited) calls (expr_of e)) is, omega arith))
     c.read_charged.ensures
+
+pub returns-in-Number : goal.returns-in-Number
+returns-in-Number c =
+    let is : c.args.expr.value ≡ node.Number c.in-Number.at c.in-Number.value = grind (arith, common_steps) in
+    if_ok c.give_number.result
+    (λ p led. led (focus.Value c.args.awaited c.args.expr) (λ calls. ap (λ e. value (is_present c.args.awaited) calls (expr_of e)) is, omega arith))
+    c.give_number.ensures
