@@ -45,7 +45,7 @@ export function wordsOf({ script, folder, slots, workers, journalBytes }) {
 
 function programOf(given) {
   const program = given ?? standingProgram();
-  if (program === undefined) throw new ProgramMissing('there is no program: build it by ./durable, or name one by the option program or by DURABLE');
+  if (program === undefined) throw new ProgramMissing('there is no program: build it by ./durable --build, or name one by the option program or by DURABLE');
   if (typeof program !== 'string') throw new WrongOption('the option program is to be the path of the program', { option: 'program' });
   if (!existsSync(program)) throw new ProgramMissing(`there is no program ${program}`);
   return resolve(program);

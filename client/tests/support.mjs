@@ -17,7 +17,7 @@ export const PROGRAM = program && resolve(program);
 /** Options of a test that runs the program: it is skipped where there is none. */
 export const WITH_PROGRAM = {
   timeout: SLOW,
-  skip: PROGRAM && existsSync(PROGRAM) ? false : 'no program is built: ./durable builds one, or DURABLE names one',
+  skip: PROGRAM && existsSync(PROGRAM) ? false : 'no program is built: ./durable --build builds one, or DURABLE names one',
 };
 
 /** A new folder that goes away behind the test. */

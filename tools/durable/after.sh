@@ -47,11 +47,15 @@ tell_journals() {
         say "$full is nearly full: past --journal-bytes $most_bytes no write of its object is done. Serve the folder with a greater --journal-bytes."
     fi
     if [[ " $seen" == *' slots '* ]]; then
-        say "no slot was free for a further object (NoSlot): serve the folder with --slots to 256. A slot isn't freed by what its object deletes."
+        say "no slot was free for a further object (NoSlot): $(more_slots). A slot isn't freed by what its object deletes."
     elif [ -z "$output_from" ] && [ ! -t 1 ]; then
         free=$(($(journals_of "$folder" 16 | wc -l) - slots))
-        if [ "$free" -ge 0 ]; then say "all $slots slots of $folder have an object: a further one is answered by NoSlot. --slots goes to 256."; fi
+        if [ "$free" -ge 0 ]; then say "all $slots slots of $folder have an object, and a further one is answered by NoSlot: $(more_slots)"; fi
     fi
+}
+
+more_slots() {
+    if [ "$slots" -lt "$slots_at_most" ]; then echo "serve the folder with more --slots, $slots_at_most at most"; else echo 'put further objects into another folder'; fi
 }
 
 # whether another run holds this file

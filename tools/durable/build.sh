@@ -71,7 +71,11 @@ build_anew() {
     fi
     mapfile -t crates < <(program_crates)
     tell_start
-    build || { say "the program isn't built: $log tells why"; return 1; }
+    if ! build; then
+        say "the program isn't built: $log tells why; at its end stands"
+        tail -n 3 "$log" >&2
+        return 1
+    fi
     say "the program is built: out/durable"
 }
 

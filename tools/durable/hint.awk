@@ -283,7 +283,7 @@ function shown(text) { return length(text) > 20 ? "the text" : text }
 
 function of_characters() {
     if (p == "`") return "there are no templates: join with +, as \"Hello \" + name"
-    if (p == "#") return "there are no private names: take the # away, and set this.name in the constructor"
+    if (p == "#" && stack != "") return "there are no private names: take the # away, and set this.name in the constructor"
     if (p ~ /^[&|^~]$/) return "there are no operators of bits"
     if (p == "@") return "there are no decorators"
     if (b ~ /^[0-9]/ && is_glued(f)) return p ~ /^n/ ? "there are no big integers: numbers go to 9007199254740991" : "write the number in decimal digits, as 1000000"

@@ -1,6 +1,8 @@
 # shellcheck shell=bash
 # The words of a run, read as the program reads them.
 
+slots_at_most=256
+
 help_page() { cat "$top/tools/durable/help.txt"; }
 
 # Of the words: what is to be done (aim), the command with its words, and what is wrong with them (fault).
@@ -77,7 +79,7 @@ read_option() {
     if [[ $given == *" $name "* ]]; then fault="$1 is given twice"; fi
     given+="$name "
     case "$name" in
-        slots) read_number "$1" "$2" 1 256; slots=$2 ;;
+        slots) read_number "$1" "$2" 1 "$slots_at_most"; slots=$2 ;;
         workers) read_number "$1" "$2" 1 16 ;;
         journal-bytes) read_number "$1" "$2" 4096 1099511627776; most_bytes=$2 ;;
     esac

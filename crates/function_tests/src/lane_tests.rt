@@ -47,3 +47,16 @@ fn a_lane_whose_ends_are_given_back_leaves_what_was_not_taken(rt: HostRuntime) -
     assert!(rt; rest.take().is_none());
     Ok(())
 }
+
+#[test]
+fn a_lane_holds_two_thousand_items(rt: HostRuntime) -> Result<(), Fail> {
+    let (mut send, mut take) = ends(&rt, rt.alloc())?;
+    for item in 0..2000 {
+        assert!(rt; send.send(item).is_ok());
+    }
+    for item in 0..2000 {
+        assert_eq!(rt; take.take(), Some(item));
+    }
+    assert!(rt; take.take().is_none());
+    Ok(())
+}
