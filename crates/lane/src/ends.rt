@@ -69,6 +69,9 @@ pub struct TakeEnd<T, R: Wait> {
     shared: Arc<Shared<T>>,
     pass: SegPass<T, Log<T>>,
     past: Trail<T>,
+    // Where the queue ended when it was found empty, unless this end has taken or was told of something since. While it ends there nothing
+    // more was sent.
+    empty_at: Option<u64>,
 }
 
 // Written out, so that letting one go is proved once.
@@ -79,6 +82,7 @@ impl<T: Drop, R: Wait + Drop> Drop for TakeEnd<T, R> {
             shared,
             pass,
             past,
+            empty_at: _,
         } = self;
         drop(rt);
         drop(shared);
@@ -92,16 +96,18 @@ impl<T, R: Wait> Model for TakeEnd<T, R> {
 
     ghost Value = { Taking T };
 
-    ghost use Rattle.std.specs.Prelude.{◌≡◌, true, false, []};
+    ghost use Rattle.std.specs.Prelude.{◌≡◌, true, false, [], IfSome};
     ghost use Rattle.std.specs.Arc.{arc_value};
     ghost use Rattle.crossbeam_queue.specs.SegTies.{IsSegPassOf};
+    ghost use Rattle.lane.specs.Lanes.{StartsWith};
     ghost use Rattle.lane.specs.Order.{log};
 
     ghost view = { λ s. record { lane = (arc_value s.shared).queue; told = s.pass.me.view.client.told; got = s.pass.me.view.client.got } };
 
     ghost invariant = { λ s. IsSegPassOf (arc_value s.shared).queue s.pass
         × (s.pass.me.view.client ≡ log false true s.pass.me.view.client.told [] s.pass.me.view.client.got)
-        × (s.past.items ≡ s.pass.me.view.client.got) };
+        × (s.past.items ≡ s.pass.me.view.client.got)
+        × IfSome s.empty_at (λ _. StartsWith s.pass.me.view.client.got s.pass.me.view.client.told) };
 }
 
 /// What was sent on a lane at one moment. It has no bytes. Contracts see which lane it is of, and what was sent.
@@ -148,6 +154,7 @@ pub fn make<T: Drop, R: Wait + Copy>(rt: &R, alloc: Global) -> Mem<(SendEnd<T, R
         shared: other,
         pass: takes,
         past: Trail::new(),
+        empty_at: None,
     };
     Ok((send, take))
 }
@@ -189,6 +196,30 @@ impl<T: Drop, R: Wait + Copy> TakeEnd<T, R> {
         let Note { pass } = note;
         let shared: &Shared<T> = &self.shared;
         shared.queue.absorb::<Notes>(&mut self.pass, pass);
+        self.empty_at = None;
+    }
+
+    // Takes the next item where the queue ends there, or further on.
+    //
+    // A function of its own, since an item's room is more to make ready than the look at the end costs.
+    #[inline(never)]
+    fn take_before(&mut self, end: u64) -> Option<T>
+        ensures lane { (self.new.lane ≡ self.old.lane) × (self.new.told ≡ self.old.told) }
+        ensures some { IfSome result (λ item. self.new.got ≡ self.old.got ++ item ∷ []) }
+        ensures none { IfNone result ((self.new.got ≡ self.old.got) × StartsWith self.old.got self.old.told) }
+    {
+        let shared: &Shared<T> = &self.shared;
+        match shared.queue.pop_as::<Takes, R>(&self.rt, &mut self.pass) {
+            Some(item) => {
+                self.past = self.past.and(&item);
+                self.empty_at = None;
+                Some(item)
+            }
+            None => {
+                self.empty_at = Some(end);
+                None
+            }
+        }
     }
 
     // Another end that takes from the same lane can't be.
@@ -201,12 +232,14 @@ impl<T: Drop, R: Wait + Copy> TakeEnd<T, R> {
             shared,
             mut pass,
             past: _,
+            empty_at: _,
         } = self;
         let TakeEnd {
             rt: _,
             shared: _,
             pass: second,
             past: _,
+            empty_at: _,
         } = other;
         let shared: &Shared<T> = &shared;
         shared.queue.absorb::<Clash>(&mut pass, second);
@@ -231,6 +264,7 @@ impl<T: Drop, R: Wait + Copy> TakeEnd<T, R> {
             shared: _,
             pass,
             past,
+            empty_at: _,
         } = self;
         let shared: &Shared<T> = &shared;
         shared.queue.absorb::<Roles>(&mut sends, pass);
@@ -285,9 +319,13 @@ impl<T: Drop, R: Wait + Copy> Inlet<T> for TakeEnd<T, R> {
         ensures none { IfNone result ((self.new.got ≡ self.old.got) × StartsWith self.old.got self.old.told) }
     {
         let shared: &Shared<T> = &self.shared;
-        let item = shared.queue.pop_as::<Takes, R>(&self.rt, &mut self.pass)?;
-        self.past = self.past.and(&item);
-        Some(item)
+        let end = shared.queue.tail(&mut self.pass);
+        if let Some(at) = self.empty_at {
+            if at == end {
+                return None;
+            }
+        }
+        self.take_before(end)
     }
 }
 
