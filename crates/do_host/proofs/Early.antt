@@ -1,14 +1,15 @@
 -- The ends of a run before a slot is asked for.
 use Rattle.std.proofs.Common.{◌≡◌, ◌≢◌, ◌⊎◌, ⊎_elim, inl, inr, ℕ, zero, suc, List, [], ◌∷◌, ◌++◌, Option, Vec, Global, Result, Err, refl, sym, ap, subst, ◌∙◌, arith}
-use Rattle.std.proofs.lemmas.List.{append-nil}
-use Rattle.do_disk.specs.Asks.{Ask, for_text}
+use Rattle.command_words.specs.Asked.{checks, serves}
+use Rattle.do_disk.specs.Asks.{for_text}
 use Rattle.do_disk.specs.Disk.{IfTold, Rose}
 use Rattle.host_core.specs.Opening.{Asks}
 use Rattle.host_core.specs.Report.{IsEmpty}
-use Rattle.host_core.specs.declared.report.Report.{Report}
 use Rattle.do_host.specs.EarlyEnds.{IsRefusedBy, IsStoppedBy, IsScriptEnd}
 use Rattle.do_host.specs.Endings.{EndsAs, TellsLine}
-use Rattle.do_host.specs.Runs.{AtAnyEnd, EndsEarly, CheckRun, TellsAll, TellsFirst}
+use Rattle.do_host.specs.Outside.{Given, Left, LeavesInputAndReport, Outside}
+use Rattle.do_host.specs.Runs.{AtAnyEnd, Runs}
+use Rattle.do_host.specs.ScriptRuns.{TellsAll, TellsFirst}
 use Rattle.do_host.specs.ScriptLines.{IsRefusalLine, IsScriptLine, IsCheckLine}
 use Rattle.do_host.specs.Status.{IsStatus, IsEarlyStatus, IsCheckStatus, IsSilentStatus, stop_status}
 use Rattle.do_host.specs.Written.{WritesAll, WritesFirstOf}
@@ -82,11 +83,11 @@ module _ {T : Type 0} (text before after : Option (List ℕ)) (status : ℕ) (en
 
 module _ {T : Type 0} (before after : Option (List ℕ)) (status : ℕ) (end : EarlyEnd) where
   -- the script was asked for
-  pub asked_two : (P : Type 0) → ((line : List ℕ) → IsRefusedBy (early {T = T} end) line → P) → Shows T before after status end → (status ≡ 2) ⊎ (status ≡ 6) → P
-  asked_two P refused (whole bytes by two was) is = refused bytes.items by
-  asked_two P refused (part bytes by other six was) is = refused bytes.items by
-  asked_two P refused (depot by three same) is = absurd (⊎_elim (λ e. omega (arith, three, e)) (λ e. omega (arith, three, e)) is)
-  asked_two P refused (memory four same) is = absurd (⊎_elim (λ e. omega (arith, four, e)) (λ e. omega (arith, four, e)) is)
+  pub asked_told : (P : Type 0) → ((line : List ℕ) → IsRefusedBy (early {T = T} end) line → P) → Shows T before after status end → status ≢ 3 → status ≢ 4 → P
+  asked_told P refused (whole bytes by two was) no_three no_four = refused bytes.items by
+  asked_told P refused (part bytes by other six was) no_three no_four = refused bytes.items by
+  asked_told P refused (depot by three same) no_three no_four = absurd (no_three three)
+  asked_told P refused (memory four same) no_three no_four = absurd (no_four four)
 
   -- the depot failed
   pub failed_three : (P : Type 0) → (IsStoppedBy (early {T = T} end) DepotFailed → P) → Shows T before after status end → status ≡ 3 → P
@@ -141,88 +142,101 @@ usage_unread status is =
     (λ rest. ⊎_elim (λ e. unread_status status 6 (sym e) (6, omega arith, refl) (λ f. omega (arith, f)) (λ f. omega (arith, f)))
     (λ e. unread_status status 4 (sym e) (4, omega arith, refl) (λ f. omega (arith, f)) (λ f. omega (arith, f))) rest) is
 
--- a run that leaves the report and the input
-pub any_unread : {S R W : Type 0} (faults_of : S → ℕ) (left : R → Option (List ℕ)) (read : R → ℕ) (taken : W → Option (List ℕ)) (wrote : W → ℕ) (depot_before depot_after : ℕ)
-    (input input_after : R) (out out_after : W) (status : ℕ) (report : Report S) → IsEmpty report → IsUnreadStatus status → input_after ≡ input
-    → (IsSilentStatus status → taken out_after ≡ taken out) → (status ≡ 3 → Rose depot_before depot_after) → (status ≡ 6 → Rose (wrote out) (wrote out_after))
-    → AtAnyEnd faults_of left read taken wrote depot_before depot_after input input_after out out_after status report report
-any_unread faults_of left read taken wrote depot_before depot_after input input_after out out_after status report empty is same silent failed write_failed = record {
-  statuses = is.0;
-  bad_slot_kept = λ seven. absurd (is.2 seven);
-  line_limit = lines_unread report report empty refl;
-  accepted = accepts_unread report report empty (left input) (left input_after) (ap left same) refl refl;
-  all_read = λ five. absurd (is.1 five);
-  unread = λ none. (same, refl, empty.lines);
-  silent = λ none. silent;
-  failed = λ three. inl (failed three);
-  read_failed = λ five. absurd (is.1 five);
-  write_failed = write_failed;
-}
+-- what holds at any end holds of a run that leaves the report and the input
+pub any_unread : {S R W : Type 0} (outside : Outside S R W) (given : Given S R W) (left : Left S R W) → IsEmpty given.report → LeavesInputAndReport given left → IsUnreadStatus left.status
+    → (IsSilentStatus left.status → outside.sink.taken left.out ≡ outside.sink.taken given.out) → AtAnyEnd outside given left
+any_unread outside given left empty same is silent =
+    let switch = ap (λ r. r.switch) same.report in
+    let lines = ap (λ r. r.lines) same.report in
+    record {
+      statuses = is.0;
+      bad_slot_kept = λ seven. absurd (is.2 seven);
+      line_limit = lines_unread given.report left.report empty lines;
+      accepted = accepts_unread given.report left.report empty (outside.source.left given.input) (outside.source.left left.input) (ap outside.source.left same.input) switch lines;
+      unread = λ none. (same.input, switch, lines ∙ empty.lines);
+      silent = λ none. silent;
+    }
+
+-- no early status is that of a script that is accepted, or of words that aren't taken
+early_no_zero : (status : ℕ) → IsEarlyStatus status → status ≢ 0
+early_no_zero status (zero, within, is) nil = omega (arith, is, nil)
+early_no_zero status (suc zero, within, is) nil = omega (arith, is, nil)
+early_no_zero status (suc (suc zero), within, is) nil = omega (arith, is, nil)
+early_no_zero status (suc (suc (suc zero)), within, is) nil = omega (arith, is, nil)
+early_no_zero status (suc (suc (suc (suc n))), within, is) nil = omega (arith, within)
+
+early_no_one : (status : ℕ) → IsEarlyStatus status → status ≢ 1
+early_no_one status (zero, within, is) one = omega (arith, is, one)
+early_no_one status (suc zero, within, is) one = omega (arith, is, one)
+early_no_one status (suc (suc zero), within, is) one = omega (arith, is, one)
+early_no_one status (suc (suc (suc zero)), within, is) one = omega (arith, is, one)
+early_no_one status (suc (suc (suc (suc n))), within, is) one = omega (arith, within)
 
 -- A run that ends as reading the script did.
-module _ {T R W : Type 0} (taken : W → Option (List ℕ)) (wrote : W → ℕ) (script : List ℕ) (text : Option (List ℕ))
-    (questions questions_after : List Ask) (depot_before depot_after : ℕ) (input input_after : R) (out out_after : W) (status : ℕ) (end : EarlyEnd)
-    (by : IsScriptEnd (early {T = T} end)) (ends : EndsAs (taken out) (taken out_after) status end)
-    (refused : (line : List ℕ) → IsRefusedBy (early {T = T} end) line → IfTold text (λ t. IsRefusalLine t line))
-    (refused_whole : (line : List ℕ) → IsRefusedBy (early {T = T} end) line → questions_after ≡ questions ++ for_text script ∷ [])
-    (failed : IsStoppedBy (early {T = T} end) DepotFailed → Rose depot_before depot_after) (asked : Asks questions questions_after (for_text script ∷ []))
-    (same_input : input_after ≡ input) (write : end ≢ Stopped WriteFailed → status ≡ 6 → Rose (wrote out) (wrote out_after)) where
-  shown : Shows T (taken out) (taken out_after) status end
-  shown = shows {T = T} (taken out) (taken out_after) status end by ends
+module _ {T S R W : Type 0} (outside : Outside S R W) (script : List ℕ) (given : Given S R W) (left : Left S R W) (end : EarlyEnd)
+    (by : IsScriptEnd (early {T = T} end)) (ends : EndsAs (outside.sink.taken given.out) (outside.sink.taken left.out) left.status end)
+    (refused : (line : List ℕ) → IsRefusedBy (early {T = T} end) line → IfTold (given.depot.texts script) (λ t. IsRefusalLine t line))
+    (refused_whole : (line : List ℕ) → IsRefusedBy (early {T = T} end) line → left.depot.asked ≡ given.depot.asked ++ for_text script ∷ [])
+    (failed : IsStoppedBy (early {T = T} end) DepotFailed → Rose given.depot.faults left.depot.faults) (asked : Asks given.depot.asked left.depot.asked (for_text script ∷ []))
+    (same : LeavesInputAndReport given left)
+    (write : (end ≡ Stopped WriteFailed → ⊥) → left.status ≡ 6 → Rose (outside.sink.faults_of given.out) (outside.sink.faults_of left.out)) where
+  shown : Shows T (outside.sink.taken given.out) (outside.sink.taken left.out) left.status end
+  shown = shows {T = T} (outside.sink.taken given.out) (outside.sink.taken left.out) left.status end by ends
 
-  pub early_rose : status ≡ 6 → Rose (wrote out) (wrote out_after)
-  early_rose six = write (written_six {T = T} (taken out) (taken out_after) status end shown six) six
+  early_rose : left.status ≡ 6 → Rose (outside.sink.faults_of given.out) (outside.sink.faults_of left.out)
+  early_rose six = write (written_six {T = T} (outside.sink.taken given.out) (outside.sink.taken left.out) left.status end shown six) six
 
-  pub early_failed : status ≡ 3 → Rose depot_before depot_after
-  early_failed three = failed_three {T = T} (taken out) (taken out_after) status end (Rose depot_before depot_after) failed shown three
+  early_failed : left.status ≡ 3 → Rose given.depot.faults left.depot.faults
+  early_failed three = failed_three {T = T} (outside.sink.taken given.out) (outside.sink.taken left.out) left.status end (Rose given.depot.faults left.depot.faults) failed shown three
 
-  pub early_silent : IsSilentStatus status → taken out_after ≡ taken out
-  early_silent silent = silent_early {T = T} (taken out) (taken out_after) status end shown silent
+  early_silent : IsSilentStatus left.status → outside.sink.taken left.out ≡ outside.sink.taken given.out
+  early_silent silent = silent_early {T = T} (outside.sink.taken given.out) (outside.sink.taken left.out) left.status end shown silent
 
-  pub early_known : IsEarlyStatus status
-  early_known = early_of {T = T} (taken out) (taken out_after) status end shown
+  early_known : IsEarlyStatus left.status
+  early_known = early_of {T = T} (outside.sink.taken given.out) (outside.sink.taken left.out) left.status end shown
 
-  pub early_serve : {S : Type 0} (report : Report S) → EndsEarly taken script text questions questions_after depot_before depot_after input input_after out out_after status report report
-  early_serve report = record {
-    statuses = early_known;
-    unread = same_input;
-    same = refl;
-    asked = asked;
-    refused = told_two {T = T} text (taken out) (taken out_after) status end refused shown;
-    refused_in_part = told_six {T = T} text (taken out) (taken out_after) status end refused shown;
-    refused_asked = asked_two {T = T} (taken out) (taken out_after) status end (questions_after ≡ questions ++ for_text script ∷ []) refused_whole shown;
-    failed = early_failed;
+  early_asked : left.status ≢ 3 → left.status ≢ 4 → left.depot.asked ≡ given.depot.asked ++ for_text script ∷ []
+  early_asked = asked_told {T = T} (outside.sink.taken given.out) (outside.sink.taken left.out) left.status end (left.depot.asked ≡ given.depot.asked ++ for_text script ∷ []) refused_whole shown
+
+  early_any : IsEmpty given.report → AtAnyEnd outside given left
+  early_any empty = any_unread outside given left empty same (check_unread left.status (early_check left.status early_known)) early_silent
+
+  pub early_serve : (own : List ℕ) → script ≡ own → (folder : List ℕ) (slots workers journal : ℕ) → IsEmpty given.report → Runs (serves own folder slots workers journal) outside given left
+  early_serve own is folder slots workers journal empty = subst (λ (path : List ℕ). Runs (serves path folder slots workers journal) outside given left) is (record {
+    any = early_any empty;
+    status_one = λ one. absurd (early_no_one left.status early_known one);
+    as_asked = inl (record {
+      statuses = early_known;
+      alone = same;
+      tells = record {
+        asked = asked;
+        asked_whole = early_asked;
+        refused = told_two {T = T} (given.depot.texts script) (outside.sink.taken given.out) (outside.sink.taken left.out) left.status end refused shown;
+        in_part = told_six {T = T} (given.depot.texts script) (outside.sink.taken given.out) (outside.sink.taken left.out) left.status end refused shown;
+        failed = early_failed;
+        write_failed = early_rose;
+      };
+    });
+  })
+
+  pub early_checked : IsEmpty given.report → Runs (checks script) outside given left
+  early_checked empty = record {
+    any = early_any empty;
+    status_one = λ one. absurd (early_no_one left.status early_known one);
+    as_asked = record {
+      statuses = early_check left.status early_known;
+      alone = same;
+      accepted = λ good. absurd (early_no_zero left.status early_known good);
+      tells = record {
+        asked = asked;
+        asked_whole = early_asked;
+        refused = told_two {T = T} (given.depot.texts script) (outside.sink.taken given.out) (outside.sink.taken left.out) left.status end refused shown;
+        in_part = check_six {T = T} (given.depot.texts script) (outside.sink.taken given.out) (outside.sink.taken left.out) left.status end refused shown;
+        failed = early_failed;
+        write_failed = early_rose;
+      };
+    };
   }
-
-  pub early_checked : {S : Type 0} (report : Report S) → CheckRun text (taken out) (taken out_after) questions questions_after script status report report
-  early_checked report = record {
-    check_statuses = early_check status early_known;
-    check_alone = refl;
-    checked = λ good. absurd (not_good status early_known good);
-    checked_in_part = check_six {T = T} text (taken out) (taken out_after) status end refused shown;
-    refused = told_two {T = T} text (taken out) (taken out_after) status end refused shown;
-    refused_asked = λ two. asked_two {T = T} (taken out) (taken out_after) status end (questions_after ≡ questions ++ for_text script ∷ []) refused_whole shown (inl two);
-    check_asked = asked;
-    checked_asked = λ good. absurd (not_good status early_known good);
-  }
-    where
-      not_good : (status : ℕ) → IsEarlyStatus status → status ≡ 0 → ⊥
-      not_good status (zero, within, is) zero_is = omega (arith, is, zero_is)
-      not_good status (suc zero, within, is) zero_is = omega (arith, is, zero_is)
-      not_good status (suc (suc zero), within, is) zero_is = omega (arith, is, zero_is)
-      not_good status (suc (suc (suc zero)), within, is) zero_is = omega (arith, is, zero_is)
-      not_good status (suc (suc (suc (suc n))), within, is) zero_is = omega (arith, within)
-
-  pub early_any : {S : Type 0} (report : Report S) (faults_of : S → ℕ) (left : R → Option (List ℕ)) (read : R → ℕ) → IsEmpty report → AtAnyEnd faults_of left read taken wrote depot_before depot_after input input_after out out_after status report report
-  early_any report faults_of left read empty = any_unread faults_of left read taken wrote depot_before depot_after input input_after out out_after status report empty (check_unread status (early_check status early_known)) same_input early_silent early_failed early_rose
-
--- no early status is that of words that aren't taken
-pub early_no_usage : (status : ℕ) → IsEarlyStatus status → status ≢ 1
-early_no_usage status (zero, within, is) one = omega (arith, is, one)
-early_no_usage status (suc zero, within, is) one = omega (arith, is, one)
-early_no_usage status (suc (suc zero), within, is) one = omega (arith, is, one)
-early_no_usage status (suc (suc (suc zero)), within, is) one = omega (arith, is, one)
-early_no_usage status (suc (suc (suc (suc n))), within, is) one = omega (arith, within)
 
 -- `check` of a script that is accepted
 zero_or_six : (status own : ℕ) → (status ≡ 0) ⊎ (status ≡ 6) → own ≢ 0 → own ≢ 6 → status ≢ own
@@ -231,61 +245,28 @@ zero_or_six status own is no_zero no_six same = ⊎_elim (λ e. no_zero (sym sam
 told_status : (status : ℕ) → (status ≡ 0) ⊎ (status ≡ 6) → IsCheckStatus status
 told_status status is = ⊎_elim (λ e. (0, omega arith, sym e)) (λ e. (4, omega arith, sym e)) is
 
-pub told_run : {S : Type 0} (text before after : Option (List ℕ)) (questions questions_after : List Ask) (script : List ℕ) (status : ℕ) (report : Report S) (bytes line : List ℕ) → bytes ≡ line
-    → IfTold text (λ t. IsScriptLine t line) → (status ≡ 0) ⊎ (status ≡ 6) → (status ≢ 6 → WritesAll before after bytes) → WritesFirstOf before after bytes
-    → questions_after ≡ questions ++ for_text script ∷ [] → Asks questions questions_after (for_text script ∷ [])
-    → CheckRun text before after questions questions_after script status report report
-told_run text before after questions questions_after script status report bytes line same told is all some_of asked_whole asked = record {
-  check_statuses = told_status status is;
-  check_alone = refl;
-  checked = λ good. λ t at. (line, told t at, subst (λ (b : List ℕ). WritesAll before after b) same (all (λ six. omega (arith, good, six))));
-  checked_in_part = λ six. λ t at. (line, inl (told t at), subst (λ (b : List ℕ). WritesFirstOf before after b) same some_of);
-  refused = λ two. absurd (zero_or_six status 2 is (λ e. omega (arith, e)) (λ e. omega (arith, e)) two);
-  refused_asked = λ two. asked_whole;
-  check_asked = asked;
-  checked_asked = λ good. asked_whole;
-}
-
-pub told_silent : (status : ℕ) → (status ≡ 0) ⊎ (status ≡ 6) → IsSilentStatus status → ⊥
+told_silent : (status : ℕ) → (status ≡ 0) ⊎ (status ≡ 6) → IsSilentStatus status → ⊥
 told_silent status is silent = ⊎_elim (λ e. silent.0 e) (λ e. silent.3 e) is
 
-pub told_three : (status : ℕ) → (status ≡ 0) ⊎ (status ≡ 6) → status ≢ 3
-told_three status is = zero_or_six status 3 is (λ e. omega (arith, e)) (λ e. omega (arith, e))
-
--- memory was wanting for the words
-none_asked : (questions asks : List Ask) → Asks questions questions asks
-none_asked questions asks = record { asked = []; added = sym (append-nil questions); first = (asks, refl) }
-
-pub early_wanting : {S R W : Type 0} (taken : W → Option (List ℕ)) (script : List ℕ) (text : Option (List ℕ)) (questions : List Ask) (depot_count : ℕ) (input : R) (out : W) (report : Report S)
-    → EndsEarly taken script text questions questions depot_count depot_count input input out out 4 report report
-early_wanting taken script text questions depot_count input out report = record {
-  statuses = (2, omega arith, refl);
-  unread = refl;
-  same = refl;
-  asked = none_asked questions (for_text script ∷ []);
-  refused = λ two. absurd (omega (arith, two));
-  refused_in_part = λ six. absurd (omega (arith, six));
-  refused_asked = λ either. absurd (⊎_elim (λ e. omega (arith, e)) (λ e. omega (arith, e)) either);
-  failed = λ three. absurd (omega (arith, three));
+pub told_runs : {S R W : Type 0} (outside : Outside S R W) (script : List ℕ) (given : Given S R W) (left : Left S R W) (bytes line : List ℕ) → IsEmpty given.report → LeavesInputAndReport given left
+    → bytes ≡ line → IfTold (given.depot.texts script) (λ t. IsScriptLine t line) → (left.status ≡ 0) ⊎ (left.status ≡ 6)
+    → (left.status ≢ 6 → WritesAll (outside.sink.taken given.out) (outside.sink.taken left.out) bytes) → WritesFirstOf (outside.sink.taken given.out) (outside.sink.taken left.out) bytes
+    → (left.status ≡ 6 → Rose (outside.sink.faults_of given.out) (outside.sink.faults_of left.out))
+    → left.depot.asked ≡ given.depot.asked ++ for_text script ∷ [] → Asks given.depot.asked left.depot.asked (for_text script ∷ []) → Runs (checks script) outside given left
+told_runs outside script given left bytes line empty same_rest same told is all some_of rose asked_whole asked = record {
+  any = any_unread outside given left empty same_rest (check_unread left.status (told_status left.status is)) (λ silent. absurd (told_silent left.status is silent));
+  status_one = λ one. absurd (zero_or_six left.status 1 is (λ e. omega (arith, e)) (λ e. omega (arith, e)) one);
+  as_asked = record {
+    statuses = told_status left.status is;
+    alone = same_rest;
+    accepted = λ good. λ t at. (line, told t at, subst (λ (b : List ℕ). WritesAll (outside.sink.taken given.out) (outside.sink.taken left.out) b) same (all (λ six. omega (arith, good, six))));
+    tells = record {
+      asked = asked;
+      asked_whole = λ no_three no_four. asked_whole;
+      refused = λ two. absurd (zero_or_six left.status 2 is (λ e. omega (arith, e)) (λ e. omega (arith, e)) two);
+      in_part = λ six. λ t at. (line, inl (told t at), subst (λ (b : List ℕ). WritesFirstOf (outside.sink.taken given.out) (outside.sink.taken left.out) b) same some_of);
+      failed = λ three. absurd (zero_or_six left.status 3 is (λ e. omega (arith, e)) (λ e. omega (arith, e)) three);
+      write_failed = rose;
+    };
+  };
 }
-
-pub check_wanting : {S : Type 0} (text taken : Option (List ℕ)) (questions : List Ask) (script : List ℕ) (report : Report S) → CheckRun text taken taken questions questions script 4 report report
-check_wanting text taken questions script report = record {
-  check_statuses = (3, omega arith, refl);
-  check_alone = refl;
-  checked = λ good. absurd (omega (arith, good));
-  checked_in_part = λ six. absurd (omega (arith, six));
-  refused = λ two. absurd (omega (arith, two));
-  refused_asked = λ two. absurd (omega (arith, two));
-  check_asked = none_asked questions (for_text script ∷ []);
-  checked_asked = λ good. absurd (omega (arith, good));
-}
-
--- no status of `check`, and none of `dump`, is that of words that aren't taken
-pub check_no_one : (status : ℕ) → IsCheckStatus status → status ≢ 1
-check_no_one status (zero, within, is) one = omega (arith, is, one)
-check_no_one status (suc zero, within, is) one = omega (arith, is, one)
-check_no_one status (suc (suc zero), within, is) one = omega (arith, is, one)
-check_no_one status (suc (suc (suc zero)), within, is) one = omega (arith, is, one)
-check_no_one status (suc (suc (suc (suc zero))), within, is) one = omega (arith, is, one)
-check_no_one status (suc (suc (suc (suc (suc n)))), within, is) one = omega (arith, within)

@@ -8,4 +8,4 @@ pub mod Dumping
 pub mod Mounts
 pub mod Dumped
 pub mod Dumps
-pub mod Asking
+pub mod Words

@@ -1,18 +1,19 @@
 -- The end of the slots, as the run shows it.
-use Rattle.std.proofs.Common.{◌≡◌, ◌≢◌, ◌≤◌, ◌<◌, ◌⊎◌, ⊎_elim, inl, inr, ℕ, List, [], length, Option, refl, sym, ap, subst, ◌∙◌, arith}
-use Rattle.std.specs.Prelude.{IsSome}
-use Rattle.do_disk.specs.Asks.{Ask}
-use Rattle.do_disk.specs.Disk.{Rose}
+use Rattle.std.proofs.Common.{◌≡◌, ◌≢◌, ◌≤◌, ◌⊎◌, ⊎_elim, inr, ℕ, List, [], ◌∷◌, ◌++◌, length, Option, refl, sym, ap, subst, ◌∙◌, arith}
+use Rattle.std.proofs.Math.Path.{fun_ext}
+use Rattle.do_disk.specs.Asks.{Ask, for_text}
+use Rattle.do_disk.specs.Disk.{IfTold, Rose}
 use Rattle.do_tree.specs.Tree.{Script}
-use Rattle.mailbox.specs.Seen.{seen_log}
-use Rattle.host_core.specs.Opening.{HasFailedDisk}
-use Rattle.host_core.specs.Report.{HasCause, IsEmpty, IsOpened, ReadsLines}
+use Rattle.command_words.specs.Asked.{serves}
 use Rattle.host_core.specs.declared.report.Report.{Report}
 use Rattle.host_core.specs.declared.settings.Bad.{Bad}
 use Rattle.host_core.specs.declared.settings.ServeEnd.{ServeEnd}
 use Rattle.host_core.specs.declared.settings.ServeEnd.TheVariants as ends
 use Rattle.do_host.specs.Endings.{TellsBad, TellsEnd}
-use Rattle.do_host.specs.Runs.{AtAnyEnd, ServesTree}
+use Rattle.do_host.specs.Outside.{DepotState, Given, Left, Outside, given_of}
+use Rattle.do_host.specs.Runs.{AtAnyEnd, Runs}
+use Rattle.do_host.specs.Scripts.{IsAccepted}
+use Rattle.do_host.specs.ServeRuns.{ServesSlots, ServesTree, Serving}
 use Rattle.do_host.specs.SlotLines.{bad_line}
 use Rattle.do_host.specs.Status.{IsStatus, IsDumpStatus, IsSilentStatus, status_of}
 use Rattle.do_host.specs.Written.{WritesAll, WritesFirstOf}
@@ -40,7 +41,7 @@ module _ {W : Type 0} (wrote : W → ℕ) (taken : W → Option (List ℕ)) (out
   shows_end ends.WriteFailed tells = plain (λ bad. no_bad ends.WriteFailed bad (λ e. omega (arith, e))) tells.0 tells.1
   shows_end ends.NoMemory tells = plain (λ bad. no_bad ends.NoMemory bad (λ e. omega (arith, e))) tells.0 tells.1
 
--- each end has a status, and each status that no bad slot has its end
+-- each end has a status, and 7 is that of a bad slot
 end_status : (end : ServeEnd) → IsStatus (status_of end)
 end_status ends.Finished = (0, omega arith, refl)
 end_status ends.OpenFailed = (3, omega arith, refl)
@@ -49,30 +50,6 @@ end_status ends.ReadFailed = (5, omega arith, refl)
 end_status ends.WriteFailed = (6, omega arith, refl)
 end_status (ends.BadSlot bad) = (7, omega arith, refl)
 
-end_three : (end : ServeEnd) → status_of end ≡ 3 → end ≡ ends.OpenFailed
-end_three ends.Finished is = cc
-end_three ends.OpenFailed is = refl
-end_three ends.NoMemory is = cc
-end_three ends.ReadFailed is = cc
-end_three ends.WriteFailed is = cc
-end_three (ends.BadSlot bad) is = cc
-
-end_five : (end : ServeEnd) → status_of end ≡ 5 → end ≡ ends.ReadFailed
-end_five ends.Finished is = cc
-end_five ends.OpenFailed is = cc
-end_five ends.NoMemory is = cc
-end_five ends.ReadFailed is = refl
-end_five ends.WriteFailed is = cc
-end_five (ends.BadSlot bad) is = cc
-
-end_six : (end : ServeEnd) → status_of end ≡ 6 → end ≡ ends.WriteFailed
-end_six ends.Finished is = cc
-end_six ends.OpenFailed is = cc
-end_six ends.NoMemory is = cc
-end_six ends.ReadFailed is = cc
-end_six ends.WriteFailed is = refl
-end_six (ends.BadSlot bad) is = cc
-
 end_seven : (end : ServeEnd) → status_of end ≡ 7 → (bad : Bad) × (end ≡ ends.BadSlot bad)
 end_seven ends.Finished is = cc
 end_seven ends.OpenFailed is = cc
@@ -80,12 +57,6 @@ end_seven ends.NoMemory is = cc
 end_seven ends.ReadFailed is = cc
 end_seven ends.WriteFailed is = cc
 end_seven (ends.BadSlot bad) is = (bad, refl)
-
-read_failed_is_good : ends.ReadFailed ≢ ends.WriteFailed
-read_failed_is_good same = cc
-
-pub bad_is_good : (bad : Bad) → ends.BadSlot bad ≢ ends.WriteFailed
-bad_is_good bad same = cc
 
 module _ {W : Type 0} (wrote : W → ℕ) (taken : W → Option (List ℕ)) (out after : W) (status : ℕ) (end : ServeEnd) where
   pub status_known : Ends wrote taken out after status end → IsStatus status
@@ -114,26 +85,6 @@ module _ {W : Type 0} (wrote : W → ℕ) (taken : W → Option (List ℕ)) (out
   ends_seven (in_part bad is six was rose) seven = (bad, is)
   ends_seven (untold bad is four same) seven = (bad, is)
 
-  pub ends_three : Ends wrote taken out after status end → status ≡ 3 → end ≡ ends.OpenFailed
-  ends_three (plain other is same) three = end_three end (sym is ∙ three)
-  ends_three (told bad is seven was counted) three = absurd (omega (arith, seven, three))
-  ends_three (in_part bad is six was rose) three = absurd (omega (arith, six, three))
-  ends_three (untold bad is four same) three = absurd (omega (arith, four, three))
-
-  -- status 5 comes with the source's failure, and nothing is written behind
-  pub ends_five : Ends wrote taken out after status end → status ≡ 5 → (end ≡ ends.ReadFailed) × (after ≡ out)
-  ends_five (plain other is same) five = (end_five end (sym is ∙ five), same)
-  ends_five (told bad is seven was counted) five = absurd (omega (arith, seven, five))
-  ends_five (in_part bad is six was rose) five = absurd (omega (arith, six, five))
-  ends_five (untold bad is four same) five = absurd (omega (arith, four, five))
-
-  -- status 6: a line of the slots failed, or that of a bad one
-  pub ends_six : Ends wrote taken out after status end → status ≡ 6 → ((end ≡ ends.WriteFailed) × (after ≡ out)) ⊎ ((bad : Bad) × (end ≡ ends.BadSlot bad) × Rose (wrote out) (wrote after))
-  ends_six (plain other is same) six = inl (end_six end (sym is ∙ six), same)
-  ends_six (told bad is seven was counted) six = absurd (omega (arith, seven, six))
-  ends_six (in_part bad is own was rose) six = inr (bad, is, rose)
-  ends_six (untold bad is four same) six = absurd (omega (arith, four, six))
-
   pub ends_silent : Ends wrote taken out after status end → IsSilentStatus status → after ≡ out
   ends_silent (plain other is same) silent = same
   ends_silent (told bad is seven was counted) silent = absurd (silent.4 seven)
@@ -155,55 +106,51 @@ dump_known wrote taken out after status end other (told bad is seven was counted
 dump_known wrote taken out after status end other (in_part bad is six was rose) = (3, omega arith, sym six)
 dump_known wrote taken out after status end other (untold bad is four same) = (2, omega arith, sym four)
 
-module _ {S R W : Type 0} (moment_of : S → ℕ) (left_since : S → ℕ → List ℕ → Type 0) (store_told : S → Option (List ℕ)) (image : S → List ℕ → Type 0) (faults_of : S → ℕ)
-    (left : R → Option (List ℕ)) (read : R → ℕ) (taken : W → Option (List ℕ)) (wrote : W → ℕ) (slots : ℕ)
-    (depot depot_after : ℕ) (input input_after : R) (out served after : W) (status : ℕ) (end : ServeEnd) (old report : Report S) (some : 1 ≤ slots)
-    (is : Ends wrote taken served after status end) (lines : ReadsLines (left input) (left input_after) end report)
-    (opened : IsOpened slots input input_after out served end old report)
-    (causes : HasCause faults_of depot depot_after (read input) (read input_after) (wrote out) (wrote served) end report) where
-  -- the sink of serving failed, or the line of a bad slot did behind it
-  six_rose : status ≡ 6 → Rose (wrote out) (wrote after)
-  six_rose six =
-      ⊎_elim (λ failed. subst (λ w. Rose (wrote out) (wrote w)) (sym failed.1) (causes.write_failed failed.0))
-      (λ bad. subst (λ n. Rose n (wrote after)) (causes.sink_steady (λ e. bad_is_good bad.0 (sym bad.1 ∙ e))) bad.2)
-      (ends_six wrote taken served after status end is six)
+-- a run that serves over the slots
+module _ {S R W : Type 0} (outside : Outside S R W) (serving : Serving) (given : Given S R W) (left : Left S R W) (some : 1 ≤ serving.slots) (run : ServesSlots outside serving given left) where
+  shown : Ends outside.sink.faults_of outside.sink.taken run.serves.served left.out left.status run.serves.end
+  shown = shows_end outside.sink.faults_of outside.sink.taken run.serves.served left.out left.status run.serves.end run.serves.tells
 
-  pub any_served : AtAnyEnd faults_of left read taken wrote depot depot_after input input_after out after status old report
-  any_served = record {
-    statuses = status_known wrote taken served after status end is;
-    bad_slot_kept = λ seven. let bad = ends_seven wrote taken served after status end is seven in opened.kept bad.0 bad.1;
-    line_limit = lines.limit;
-    accepted = lines.accepted;
-    all_read = λ five. lines.all_read (ends_five wrote taken served after status end is five).0;
-    unread = λ none. let same = opened.unread (omega (arith, some, ap length none)) in (same.0, same.2, same.3);
-    silent = λ none silent. ap taken (ends_silent wrote taken served after status end is silent ∙ (opened.unread (omega (arith, some, ap length none))).1);
-    failed = λ three. causes.open_failed (ends_three wrote taken served after status end is three);
-    read_failed = λ five. let ended = ends_five wrote taken served after status end is five in
-        (causes.read_failed ended.0, ap wrote ended.1 ∙ causes.sink_steady (λ e. read_failed_is_good (sym ended.0 ∙ e)));
-    write_failed = six_rose;
+  any_slots : AtAnyEnd outside given left
+  any_slots =
+      let opened = run.serves.opened in
+      record {
+        statuses = status_known outside.sink.faults_of outside.sink.taken run.serves.served left.out left.status run.serves.end shown;
+        bad_slot_kept = λ seven. let bad = ends_seven outside.sink.faults_of outside.sink.taken run.serves.served left.out left.status run.serves.end shown seven in opened.kept bad.0 bad.1;
+        line_limit = run.serves.lines.limit;
+        accepted = run.serves.lines.accepted;
+        unread = λ none. let same = opened.unread (omega (arith, some, ap length none)) in (same.0, same.2, same.3);
+        silent = λ none silent. ap outside.sink.taken
+            (ends_silent outside.sink.faults_of outside.sink.taken run.serves.served left.out left.status run.serves.end shown silent ∙ (opened.unread (omega (arith, some, ap length none))).1);
+      }
+
+  pub serve_runs : (workers : ℕ) → Runs (serves serving.script serving.folder serving.slots workers serving.journal) outside given left
+  serve_runs workers = record {
+    any = any_slots;
+    status_one = λ one. absurd (not_usage outside.sink.faults_of outside.sink.taken run.serves.served left.out left.status run.serves.end shown one);
+    as_asked = inr run;
   }
 
--- what holds of every run holds of one that serves, from wherever the depot stands
-module _ {S R W : Type 0} (moment_of : S → ℕ) (left_since : S → ℕ → List ℕ → Type 0) (store_told : S → Option (List ℕ)) (image : S → List ℕ → Type 0) (faults_of : S → ℕ)
-    (left : R → Option (List ℕ)) (read : R → ℕ) (taken : W → Option (List ℕ)) (wrote : W → ℕ) (tree : Script) (folder : List ℕ) (slots limit : ℕ)
-    (input input_after : R) (out after : W) (status : ℕ) (old report : Report S) where
-  pub serves_same : (contents same_contents : ℕ → Option (List ℕ)) (questions same_questions questions_after : List Ask) (depot same_depot depot_after : ℕ)
-      → same_contents ≡ contents → same_questions ≡ questions → same_depot ≡ depot
-      → ServesTree moment_of left_since store_told image faults_of left read taken wrote tree folder slots limit same_contents same_questions questions_after same_depot depot_after input input_after out after status old report
-      → ServesTree moment_of left_since store_told image faults_of left read taken wrote tree folder slots limit contents questions questions_after depot depot_after input input_after out after status old report
-  serves_same contents same_contents questions same_questions questions_after depot same_depot depot_after contents_are questions_are depot_is serves =
-      subst (λ (c : ℕ → Option (List ℕ)). ServesTree moment_of left_since store_told image faults_of left read taken wrote tree folder slots limit c questions questions_after depot depot_after input input_after out after status old report) contents_are
-      (subst (λ (q : List Ask). ServesTree moment_of left_since store_told image faults_of left read taken wrote tree folder slots limit same_contents q questions_after depot depot_after input input_after out after status old report) questions_are
-      (subst (λ (n : ℕ). ServesTree moment_of left_since store_told image faults_of left read taken wrote tree folder slots limit same_contents same_questions questions_after n depot_after input input_after out after status old report) depot_is serves))
+-- a depot by its parts
+abbrev parts : (List ℕ → Option (List ℕ)) → (List ℕ → ℕ → Option (List ℕ)) → List Ask → ℕ → DepotState
+parts texts slots asked faults = record { texts = texts; slots = slots; asked = asked; faults = faults }
 
-  pub any_tree : (contents : ℕ → Option (List ℕ)) (questions questions_after : List Ask) (depot depot_after : ℕ) → 1 ≤ slots
-      → ServesTree moment_of left_since store_told image faults_of left read taken wrote tree folder slots limit contents questions questions_after depot depot_after input input_after out after status old report
-      → AtAnyEnd faults_of left read taken wrote depot depot_after input input_after out after status old report
-  any_tree contents questions questions_after depot depot_after some serves =
-      any_served moment_of left_since store_told image faults_of left read taken wrote slots depot depot_after input input_after out serves.served after status serves.end old report some
-      (shows_end wrote taken serves.served after status serves.end serves.tells) serves.lines serves.opened serves.causes
-
-  pub tree_no_usage : (contents : ℕ → Option (List ℕ)) (questions questions_after : List Ask) (depot depot_after : ℕ)
-      → ServesTree moment_of left_since store_told image faults_of left read taken wrote tree folder slots limit contents questions questions_after depot depot_after input input_after out after status old report → status ≢ 1
-  tree_no_usage contents questions questions_after depot depot_after serves =
-      not_usage wrote taken serves.served after status serves.end (shows_end wrote taken serves.served after status serves.end serves.tells)
+-- the same of slots that were served once the script was read
+pub serve_read : {S R W : Type 0} (outside : Outside S R W) (serving : Serving) (tree : Script) (depot depot_now : DepotState) (input : R) (out : W) (report : Report S) (left : Left S R W) (workers : ℕ)
+    → 1 ≤ serving.slots → ((path : List ℕ) → depot_now.texts path ≡ depot.texts path) → ((folder : List ℕ) (number : ℕ) → depot_now.slots folder number ≡ depot.slots folder number)
+    → (path : List ℕ) → path ≡ serving.script → depot_now.asked ≡ depot.asked ++ for_text path ∷ [] → depot_now.faults ≡ depot.faults
+    → IfTold (depot.texts path) (λ text. IsAccepted text tree) → ServesTree outside tree serving (given_of depot_now input out report) left
+    → Runs (serves serving.script serving.folder serving.slots workers serving.journal) outside (given_of depot input out report) left
+serve_read outside serving tree depot depot_now input out report left workers some same_texts same_slots path own whole steady accepted served =
+    serve_runs outside serving (given_of depot input out report) left some (record {
+      tree = tree;
+      accepted = subst (λ (p : List ℕ). IfTold (depot.texts p) (λ text. IsAccepted text tree)) own accepted;
+      serves = subst (λ (d : DepotState). ServesTree outside tree serving (given_of d input out report) left) depot_is served;
+    }) workers
+  where
+    depot_is : depot_now ≡ record depot { asked = depot.asked ++ for_text serving.script ∷ [] }
+    depot_is =
+        ap (λ (t : List ℕ → Option (List ℕ)). parts t depot_now.slots depot_now.asked depot_now.faults) (fun_ext same_texts)
+        ∙ ap (λ (s : List ℕ → ℕ → Option (List ℕ)). parts depot.texts s depot_now.asked depot_now.faults) (fun_ext (λ folder. fun_ext (λ number. same_slots folder number)))
+        ∙ ap (λ (q : List Ask). parts depot.texts depot.slots q depot_now.faults) (whole ∙ ap (λ (p : List ℕ). depot.asked ++ for_text p ∷ []) own)
+        ∙ ap (λ (n : ℕ). parts depot.texts depot.slots (depot.asked ++ for_text serving.script ∷ []) n) steady

@@ -58,7 +58,8 @@ no_back = record { taken = []; flights = []; stops = []; released = []; ends = [
 
 -- A row of a slot that was mounted and not served: its logs are empty, its object is the slot's, and a crash at any moment since the first call
 -- of its disk leaves a file that recovers to the frames of the slot's own, and no other.
-pub record IsIdleRow {S : Type 0} (left_since : S → ℕ → List ℕ → Type 0) (content : Option (List ℕ)) (named : Option Object) (row : SlotReport S) : Type 0 where
+pub record IsIdleRow {S : Type 0} (left_since : S → ℕ → List ℕ → Type 0) (content : Option (List ℕ)) (named : Option Object)
+    (row : SlotReport S) : Type 0 where
   pub frames : List Frame
   pub recovered : IfTold content (λ c. Recovers c frames)
   pub names : IsObjectOf named frames

@@ -8,4 +8,8 @@ pub mod EarlyEnds
 pub mod Endings
 pub mod Dump
 pub mod Mounted
+pub mod Outside
+pub mod ScriptRuns
+pub mod ServeRuns
+pub mod DumpRuns
 pub mod Runs

@@ -13,14 +13,16 @@ use Rattle.timeline.specs.Logs.{fronted, backed}
 use Rattle.do_host.specs.Dump.{AreIdleRows, Contains, no_back, no_front}
 
 -- The first slots were mounted, which have these objects: a row of each, and what the storage of each contains. The others have none yet.
-pub record AreMounted {S : Type 0} (left_since : S → ℕ → List ℕ → Type 0) (contents : ℕ → Option (List ℕ)) (named : Slots) (rows : List (SlotReport S)) (ms : List Contents) : Type 0 where
+pub record AreMounted {S : Type 0} (left_since : S → ℕ → List ℕ → Type 0) (contents : ℕ → Option (List ℕ)) (named : Slots)
+    (rows : List (SlotReport S)) (ms : List Contents) : Type 0 where
   pub idle : AreIdleRows left_since contents named rows
   pub many : length ms ≡ length rows
   pub each : (slot : ℕ) (m : Contents) → slice_get ms slot ≡ Some m → Contains (contents slot) (object_at named slot) m
   pub free : AreFreeFrom (length rows) named
 
 -- So many were, and that is all.
-pub record AllMounted {S : Type 0} (left_since : S → ℕ → List ℕ → Type 0) (contents : ℕ → Option (List ℕ)) (slots : ℕ) (rows : List (SlotReport S)) (ms : List Contents) : Type 0 where
+pub record AllMounted {S : Type 0} (left_since : S → ℕ → List ℕ → Type 0) (contents : ℕ → Option (List ℕ)) (slots : ℕ)
+    (rows : List (SlotReport S)) (ms : List Contents) : Type 0 where
   pub named : Slots
   pub all_slots : length named ≡ slots
   pub one_each : IsOneEach named
@@ -28,8 +30,9 @@ pub record AllMounted {S : Type 0} (left_since : S → ℕ → List ℕ → Type
   pub all_rows : length rows ≡ slots
 
 -- Fewer were, and that is why it stops.
-pub record StopsMounting {S : Type 0} (told : S → Option (List ℕ)) (image : S → List ℕ → Type 0) (moment_of : S → ℕ) (left_since : S → ℕ → List ℕ → Type 0) (faults_of : S → ℕ)
-    (contents : ℕ → Option (List ℕ)) (slots : ℕ) (faults faults_after : ℕ) (report : Report S) (end : OpenEnd) : Type 0 where
+pub record StopsMounting {S : Type 0} (told : S → Option (List ℕ)) (image : S → List ℕ → Type 0) (moment_of : S → ℕ)
+    (left_since : S → ℕ → List ℕ → Type 0) (faults_of : S → ℕ) (contents : ℕ → Option (List ℕ)) (slots : ℕ)
+    (faults faults_after : ℕ) (report : Report S) (end : OpenEnd) : Type 0 where
   pub named : Slots
   pub all_slots : length named ≡ slots
   pub one_each : IsOneEach named

@@ -35,7 +35,8 @@ pair_line slot pair = line_of_json (pair_json slot pair.0 pair.1)
 
 -- `["alarm",slot,time,retry]`, the time in milliseconds
 abbrev pub alarm_json : ℕ → ℤ × ℕ → Data
-alarm_json slot alarm = array (item (string (codes "alarm")) (item (slot_json slot) (item (number (of_integer alarm.0)) (item (number (unsigned alarm.1)) no_items))))
+alarm_json slot alarm =
+    array (item (string (codes "alarm")) (item (slot_json slot) (item (number (of_integer alarm.0)) (item (number (unsigned alarm.1)) no_items))))
 
 abbrev pub alarm_line : ℕ → ℤ × ℕ → List ℕ
 alarm_line slot alarm = line_of_json (alarm_json slot alarm)
@@ -50,7 +51,8 @@ place_line word slot place = line_of_json (place_json word slot place)
 -- `["mixed",slot,class,name,class,name]`: the object of the first frames, and then the other one
 abbrev pub mixed_json : ℕ → Object → Object → Data
 mixed_json slot first other =
-    array (item (string (codes "mixed")) (item (slot_json slot) (item (string first.0) (item (string first.1) (item (string other.0) (item (string other.1) no_items))))))
+    array (item (string (codes "mixed")) (item (slot_json slot) (item (string first.0) (item (string first.1)
+    (item (string other.0) (item (string other.1) no_items))))))
 
 abbrev pub mixed_line : ℕ → Object → Object → List ℕ
 mixed_line slot first other = line_of_json (mixed_json slot first other)

@@ -1,16 +1,15 @@
 //! The top call.
-ghost use Rattle.std.specs.Prelude.{◌≡◌, ◌≢◌, ◌≤◌, [], ℕ, List, map, length, string_bytes};
-ghost use Rattle.do_disk.specs.Disk.{Rose};
+ghost use Rattle.std.specs.Prelude.{◌≡◌, ◌≤◌, map, string_bytes};
 ghost use Rattle.do_tree.specs.Checked.{tree_of as script_in};
 ghost use Rattle.host_core.specs.Report.{AreInRange, IsEmpty};
 ghost use Rattle.host_core.specs.declared.report.Report.{Report};
 ghost use Rattle.command_words.specs.Asked as spoken;
 ghost use Rattle.command_words.specs.Asked.{asked};
-ghost use Rattle.do_host.specs.Settings.{settings_in};
-ghost use Rattle.do_host.specs.Runs.{AtAnyEnd, ServeRun, ServesTree, CheckRun, DumpRun, DumpsSlots, UsageRun};
+ghost use Rattle.do_host.specs.Outside.{depot_of, disks_of, given_of, left_of, outside_of, sink_of, source_of};
+ghost use Rattle.do_host.specs.Runs.{Runs};
+ghost use Rattle.do_host.specs.ServeRuns.{ServesTree};
+ghost use Rattle.do_host.specs.Settings.{serving_in, settings_in};
 ghost use Rattle.do_host.specs.Status as spec;
-ghost use Rattle.do_host.specs.Status.{IsSilentStatus};
-ghost use Rattle.do_host.specs.declared.program.TheConstants.{USAGE};
 
 use crate::dump::dump_slots;
 use crate::ending::{end_at, end_early, end_served, end_with};
@@ -71,25 +70,11 @@ pub fn run<
     report: &mut Report<P::Store>,
 ) -> Ran<R, W>
     requires { IsEmpty report.old }
-    ensures any { AtAnyEnd P.Store.faults_of R.left R.faults_of W.taken W.faults_of (P.faults_of depot.old) (P.faults_of depot.new)
-        input result.input out result.out result.status report.old report.new }
-    ensures usage { result.status ≡ 1 → asked (map string_bytes words.now) ≡ spoken.usage }
-    // Each command, and words that are none.
-    ensures serve { (script folder : List ℕ) (slots workers journal : ℕ)
-        → asked (map string_bytes words.now) ≡ spoken.serves script folder slots workers journal
-        → ServeRun P.Store.moment_of P.Store.left_since P.Store.told P.Store.image P.Store.faults_of R.left R.faults_of W.taken W.faults_of
-        script folder slots journal (P.text_at depot.old script) (P.slot_at depot.old folder) (P.asked depot.old) (P.asked depot.new)
-        (P.faults_of depot.old) (P.faults_of depot.new) input result.input out result.out result.status report.old report.new }
-    ensures check { (script : List ℕ) → asked (map string_bytes words.now) ≡ spoken.checks script
-        → CheckRun (P.text_at depot.old script) (W.taken out) (W.taken result.out)
-        (P.asked depot.old) (P.asked depot.new) script result.status report.old report.new × (result.input ≡ input) }
-    ensures dump { (folder : List ℕ) (slots : ℕ) → asked (map string_bytes words.now) ≡ spoken.dumps folder slots
-        → DumpRun P.Store.moment_of P.Store.left_since P.Store.told P.Store.image P.Store.faults_of W.taken W.faults_of folder slots
-        (P.slot_at depot.old folder) (P.asked depot.old) (P.asked depot.new) (P.faults_of depot.old) (P.faults_of depot.new)
-        out result.out result.status report.old report.new × (result.input ≡ input) }
-    ensures no_command { asked (map string_bytes words.now) ≡ spoken.usage
-        → UsageRun USAGE.now (W.taken out) (W.taken result.out)
-        (P.asked depot.old) (P.asked depot.new) result.status report.old report.new × (result.input ≡ input) }
+    ensures { Runs (asked (map string_bytes words.now))
+        (outside_of (disks_of P.Store.told P.Store.image P.Store.left_since P.Store.moment_of P.Store.faults_of)
+        (source_of R.left R.faults_of) (sink_of W.taken W.faults_of))
+        (given_of (depot_of P.text_at P.slot_at P.asked P.faults_of depot.old) input out report.old)
+        (left_of (depot_of P.text_at P.slot_at P.asked P.faults_of depot.new) result.input result.out report.new result.status) }
 {
     match command_of(alloc, words) {
         Ok(Command::Serve(told)) => run_serve(rt, alloc, told, depot, input, out, gate, report),
@@ -121,13 +106,11 @@ fn run_serve<
 ) -> Ran<R, W>
     requires range { AreInRange (settings_in told) }
     requires empty { IsEmpty report.old }
-    ensures any { AtAnyEnd P.Store.faults_of R.left R.faults_of W.taken W.faults_of (P.faults_of depot.old) (P.faults_of depot.new)
-        input result.input out result.out result.status report.old report.new }
-    ensures serve { ServeRun P.Store.moment_of P.Store.left_since P.Store.told P.Store.image P.Store.faults_of
-        R.left R.faults_of W.taken W.faults_of (string_bytes told.script) (string_bytes told.folder) told.slots told.journal
-        (P.text_at depot.old (string_bytes told.script)) (P.slot_at depot.old (string_bytes told.folder)) (P.asked depot.old) (P.asked depot.new)
-        (P.faults_of depot.old) (P.faults_of depot.new) input result.input out result.out result.status report.old report.new }
-    ensures no_usage { result.status ≢ 1 }
+    ensures { Runs (spoken.serves (string_bytes told.script) (string_bytes told.folder) told.slots told.workers told.journal)
+        (outside_of (disks_of P.Store.told P.Store.image P.Store.left_since P.Store.moment_of P.Store.faults_of)
+        (source_of R.left R.faults_of) (sink_of W.taken W.faults_of))
+        (given_of (depot_of P.text_at P.slot_at P.asked P.faults_of depot.old) input out report.old)
+        (left_of (depot_of P.text_at P.slot_at P.asked P.faults_of depot.new) result.input result.out report.new result.status) }
 {
     match read_script(alloc, depot, told.script.as_str()) {
         Ok(checked) => { serve_checked(rt, alloc, &checked, told, depot, input, out, gate, report) }
@@ -155,10 +138,12 @@ fn serve_checked<
 ) -> Ran<R, W>
     requires range { AreInRange (settings_in told) }
     requires empty { IsEmpty report.old }
-    ensures serves { ServesTree P.Store.moment_of P.Store.left_since P.Store.told P.Store.image P.Store.faults_of
-        R.left R.faults_of W.taken W.faults_of (script_in checked.now) (string_bytes told.folder) told.slots told.journal
-        (P.slot_at depot.old (string_bytes told.folder)) (P.asked depot.old) (P.asked depot.new)
-        (P.faults_of depot.old) (P.faults_of depot.new) input result.input out result.out result.status report.old report.new }
+    ensures { ServesTree
+        (outside_of (disks_of P.Store.told P.Store.image P.Store.left_since P.Store.moment_of P.Store.faults_of)
+        (source_of R.left R.faults_of) (sink_of W.taken W.faults_of))
+        (script_in checked.now) (serving_in told)
+        (given_of (depot_of P.text_at P.slot_at P.asked P.faults_of depot.old) input out report.old)
+        (left_of (depot_of P.text_at P.slot_at P.asked P.faults_of depot.new) result.input result.out report.new result.status) }
 {
     let settings = settings_of(told);
     let Served { end, input, out } = serve(
@@ -187,19 +172,18 @@ fn settings_of(told: ServeWords) -> Settings
 }
 
 // Tells the classes of the script, or why it is refused.
-fn check_script<P: Depot, R, W: Sink>(
+fn check_script<P: Depot, R: Source, W: Sink>(
     alloc: Global,
     script: &str,
     depot: &mut P,
     input: R,
     out: W,
 ) -> Ran<R, W>
-    ensures input { result.input ≡ input }
-    ensures check { (report : Report P.Store) → CheckRun (P.text_at depot.old script.now) (W.taken out) (W.taken result.out)
-        (P.asked depot.old) (P.asked depot.new) script.now result.status report report }
-    ensures silent { IsSilentStatus result.status → W.taken result.out ≡ W.taken out }
-    ensures failed { result.status ≡ 3 → Rose (P.faults_of depot.old) (P.faults_of depot.new) }
-    ensures write_failed { result.status ≡ 6 → Rose (W.faults_of out) (W.faults_of result.out) }
+    ensures { (report : Report P.Store) → IsEmpty report → Runs (spoken.checks script.now)
+        (outside_of (disks_of P.Store.told P.Store.image P.Store.left_since P.Store.moment_of P.Store.faults_of)
+        (source_of R.left R.faults_of) (sink_of W.taken W.faults_of))
+        (given_of (depot_of P.text_at P.slot_at P.asked P.faults_of depot.old) input out report)
+        (left_of (depot_of P.text_at P.slot_at P.asked P.faults_of depot.new) result.input result.out report result.status) }
 {
     match told_script(alloc, depot, script) {
         Ok(line) => end_with(line.as_slice(), 0, input, out),
@@ -207,8 +191,8 @@ fn check_script<P: Depot, R, W: Sink>(
     }
 }
 
-// Mounts the slots, prints what each has, and tells the end.
-fn run_dump<P: Depot, R, W: Sink>(
+// Mounts the slots, prints what each has once all are mounted, and tells the end.
+fn run_dump<P: Depot, R: Source, W: Sink>(
     alloc: Global,
     folder: &str,
     slots: u32,
@@ -219,34 +203,19 @@ fn run_dump<P: Depot, R, W: Sink>(
 ) -> Ran<R, W>
     requires empty { IsEmpty report.old }
     requires some { 1 ≤ slots }
-    ensures input { result.input ≡ input }
-    ensures dump { DumpRun P.Store.moment_of P.Store.left_since P.Store.told P.Store.image P.Store.faults_of W.taken W.faults_of folder.now slots
-        (P.slot_at depot.old folder.now) (P.asked depot.old) (P.asked depot.new) (P.faults_of depot.old) (P.faults_of depot.new)
-        out result.out result.status report.old report.new }
+    ensures { Runs (spoken.dumps folder.now slots)
+        (outside_of (disks_of P.Store.told P.Store.image P.Store.left_since P.Store.moment_of P.Store.faults_of)
+        (source_of R.left R.faults_of) (sink_of W.taken W.faults_of))
+        (given_of (depot_of P.text_at P.slot_at P.asked P.faults_of depot.old) input out report.old)
+        (left_of (depot_of P.text_at P.slot_at P.asked P.faults_of depot.new) result.input result.out report.new result.status) }
 {
     let mut out = out;
-    let end = dump_folder(alloc, folder, slots, depot, &mut out, report);
-    end_served(alloc, end, input, out)
-}
-
-// Mounts the slots, and prints what each has once all are mounted.
-fn dump_folder<P: Depot, W: Sink>(
-    alloc: Global,
-    folder: &str,
-    slots: u32,
-    depot: &mut P,
-    out: &mut W,
-    report: &mut Report<P::Store>,
-) -> ServeEnd
-    requires empty { IsEmpty report.old }
-    requires some { 1 ≤ slots }
-    ensures { DumpsSlots P.Store.moment_of P.Store.left_since P.Store.told P.Store.image P.Store.faults_of W.taken W.faults_of folder.now slots
-        (P.slot_at depot.old folder.now) (P.asked depot.old) (P.asked depot.new) (P.faults_of depot.old) (P.faults_of depot.new)
-        out.old out.new result report.old report.new }
-{
     match mount_slots(alloc, folder, slots, depot, report) {
-        Ok(maps) => dump_end(dump_slots(alloc, report.slots.as_slice(), maps, out)),
-        Err(end) => opening_end(end),
+        Ok(maps) => {
+            let printed = dump_slots(alloc, report.slots.as_slice(), maps, &mut out);
+            end_served(alloc, dump_end(printed), input, out)
+        }
+        Err(end) => end_served(alloc, opening_end(end), input, out),
     }
 }
 

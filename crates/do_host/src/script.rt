@@ -25,6 +25,7 @@ pub(crate) fn read_script<P: Depot>(
     ensures asked { Asks (P.asked depot.old) (P.asked depot.new) (for_text path.now ∷ []) }
     ensures whole { OnOk result (P.asked depot.new ≡ P.asked depot.old ++ for_text path.now ∷ []) }
     ensures same_slots { (folder : List ℕ) (number : ℕ) → P.slot_at depot.new folder number ≡ P.slot_at depot.old folder number }
+    ensures same_texts { (any_path : List ℕ) → P.text_at depot.new any_path ≡ P.text_at depot.old any_path }
     ensures end { OnErr result (IsScriptEnd result) }
     ensures failed { IsStoppedBy result RunEnd.DepotFailed → Rose (P.faults_of depot.old) (P.faults_of depot.new) }
     ensures steady { OnOk result (P.faults_of depot.new ≡ P.faults_of depot.old) }

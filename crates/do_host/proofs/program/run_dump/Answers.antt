@@ -1,9 +1,14 @@
-use Rattle.do_host.proofs.Dumps.{dump_run}
+use Rattle.std.proofs.Common.{refl}
+use Rattle.do_host.proofs.Dumps.{dump_printed, dump_runs, dump_stopped}
 use Rattle.do_host.proofs.program.run_dump.Goals as goal
 
-pub returns-clause-dump : goal.returns-clause-dump
-returns-clause-dump g c =
-    let d = g.P.Store.Disk in
-    dump_run d.moment_of d.left_since d.told d.image d.faults_of g.W.Sink.taken g.W.Sink.faults_of c.args.folder.now c.args.slots (g.P.Depot.slot_at c.args.depot.now c.args.folder.now)
-    (g.P.Depot.asked c.args.depot.now) (g.P.Depot.asked c.dump_folder-end.new.depot) (g.P.Depot.faults_of c.args.depot.now) (g.P.Depot.faults_of c.dump_folder-end.new.depot)
-    c.args.out c.dump_folder-end.new.out c.end_served.result.out c.end_served.result.status c.dump_folder-end.result c.args.report.now c.dump_folder-end.new.report c.end_served.ensures.tells c.dump_folder-end.ensures
+pub returns-in-Err : goal.returns-in-Err
+returns-in-Err g c =
+    dump_runs _ c.args.folder.now c.args.slots _ _ c.args.out _ c.requires.some c.requires.empty c.end_served-in-Err.ensures.input c.end_served-in-Err.ensures.tells
+    (rw c.opening_end.ensures (dump_stopped _ c.args.folder.now c.args.slots _ _ c.in-Err.end c.requires.empty c.end_served-in-Err.ensures.input refl c.mount_slots.ensures.same c.in-Err.ensures.stops c.mount_slots.ensures.asked))
+
+pub returns-in-Ok : goal.returns-in-Ok
+returns-in-Ok g c =
+    dump_runs _ c.args.folder.now c.args.slots _ _ c.dump_slots-printed.new.out _ c.requires.some c.requires.empty c.end_served.ensures.input c.end_served.ensures.tells
+    (rw c.dump_end.ensures (dump_printed _ c.args.folder.now c.args.slots _ _ c.in-Ok.maps.items c.dump_slots-printed.result c.end_served.ensures.input c.mount_slots.ensures.same c.in-Ok.ensures.mounted
+    (rw c.as_slice.ensures.value at c.dump_slots-printed.ensures.writes) c.dump_slots-printed.ensures.stop c.dump_slots-printed.ensures.failed c.dump_slots-printed.ensures.steady c.in-Ok.ensures.none_unopened c.in-Ok.ensures.all_asked))
