@@ -35,7 +35,8 @@ pub record AreInOrder (taken : List Entry) (stops : List Stop) : Type 0 where
   pub numbered : (e : Entry) → last_of taken ≡ Some e → 0 < e.incarnation
   pub sorted : All (λ e. e.incarnation ≤ newest_of taken) taken
   pub newest : length stops ≤ newest_of taken
-  pub halted : (stop : Stop) → last_stop stops ≡ Some stop → discards stop.cause stop.read ≡ false → newest_of taken ≡ length stops → halts_as (last_of taken) ≡ true
+  pub halted : (stop : Stop) → last_stop stops ≡ Some stop → discards stop.cause stop.read ≡ false → newest_of taken ≡ length stops
+      → halts_as (last_of taken) ≡ true
 
 -- What a back keeps beside its log: the batches that were durable at the last end at an append; what a message of the incarnation that
 -- ended then needs where such a message still passes; and what the next message of the newest one needs.

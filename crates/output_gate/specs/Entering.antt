@@ -166,7 +166,8 @@ pub record Enters {D : Type 0} (failed : Failed) (old new : Back D) (e : Entry) 
   pub limit : new.limit ≡ old.limit
 
 -- Nothing is done, and all is as before.
-pub record IsIdle {D A B : Type 0} (old new : Back D) (taken_before taken : List A) (sent_before sent : List B) (result : Result Stepped NoMemory) : Type 0 where
+pub record IsIdle {D A B : Type 0} (old new : Back D) (taken_before taken : List A) (sent_before sent : List B)
+    (result : Result Stepped NoMemory) : Type 0 where
   pub nothing : result ≡ Ok Nothing
   pub back : new ≡ old
   pub took : taken ≡ taken_before
@@ -202,7 +203,8 @@ pub record LosesEntry {D : Type 0} (old new : Back D) (got_before got : List Ent
   pub entered : IsAsBefore old new ⊎ ((failed : Failed) × Enters failed old new entry)
 
 -- What taking an entry of the newest incarnation needs while it is mounted, and does.
-pub record CanTake {D : Type 0} (moment_of : D → ℕ) (left_since : D → ℕ → List ℕ → Type 0) (told : D → Option (List ℕ)) (image : D → List ℕ → Type 0) (faults_of : D → ℕ)
+pub record CanTake {D : Type 0} (moment_of : D → ℕ) (left_since : D → ℕ → List ℕ → Type 0) (told : D → Option (List ℕ)) (image : D → List ℕ → Type 0)
+    (faults_of : D → ℕ)
     (old : Back D) (number : ℕ) (b : Body) : Type 0 where
   pub start : List (List Op)
   pub opening : ℕ
@@ -212,7 +214,8 @@ pub record CanTake {D : Type 0} (moment_of : D → ℕ) (left_since : D → ℕ 
   pub fits : fits_mounted b (is_some old.identity) ≡ true
   pub few : old.unflushed < most_unflushed
 
-pub record TakesOwn {D : Type 0} (moment_of : D → ℕ) (left_since : D → ℕ → List ℕ → Type 0) (told : D → Option (List ℕ)) (image : D → List ℕ → Type 0) (faults_of : D → ℕ)
+pub record TakesOwn {D : Type 0} (moment_of : D → ℕ) (left_since : D → ℕ → List ℕ → Type 0) (told : D → Option (List ℕ)) (image : D → List ℕ → Type 0)
+    (faults_of : D → ℕ)
     (old new : Back D) (number : ℕ) (b : Body) : Type 0 where
   pub log : backed new.log ≡ record (backed old.log) { taken = old.log.taken.items ++ record { incarnation = old.number; number = number; body = b } ∷ [] }
   pub stuck : new.stuck ≡ old.stuck
@@ -227,7 +230,8 @@ pub record TakesOwn {D : Type 0} (moment_of : D → ℕ) (left_since : D → ℕ
   pub back : (start : List (List Op)) (opening : ℕ) → IsMounted moment_of left_since told image faults_of start opening true old
       → IsMounted moment_of left_since told image faults_of start opening true new
 
-pub record FailsOwn {D : Type 0} (moment_of : D → ℕ) (left_since : D → ℕ → List ℕ → Type 0) (told : D → Option (List ℕ)) (image : D → List ℕ → Type 0) (faults_of : D → ℕ)
+pub record FailsOwn {D : Type 0} (moment_of : D → ℕ) (left_since : D → ℕ → List ℕ → Type 0) (told : D → Option (List ℕ)) (image : D → List ℕ → Type 0)
+    (faults_of : D → ℕ)
     (old new : Back D) : Type 0 where
   pub same : IsAsBefore old new
   pub disk : KeepsDisk old.store new.store
@@ -235,7 +239,8 @@ pub record FailsOwn {D : Type 0} (moment_of : D → ℕ) (left_since : D → ℕ
       → IsMounted moment_of left_since told image faults_of start opening false new
 
 -- The same of the newest incarnation while it isn't mounted.
-pub record CanTakeDown {D : Type 0} (moment_of : D → ℕ) (left_since : D → ℕ → List ℕ → Type 0) (told : D → Option (List ℕ)) (image : D → List ℕ → Type 0) (faults_of : D → ℕ)
+pub record CanTakeDown {D : Type 0} (moment_of : D → ℕ) (left_since : D → ℕ → List ℕ → Type 0) (told : D → Option (List ℕ)) (image : D → List ℕ → Type 0)
+    (faults_of : D → ℕ)
     (old : Back D) (number : ℕ) (b : Body) : Type 0 where
   pub start : List (List Op)
   pub opening : ℕ
@@ -245,7 +250,8 @@ pub record CanTakeDown {D : Type 0} (moment_of : D → ℕ) (left_since : D → 
   pub ending : Ending
   pub down : old.mode ≡ Down ending
 
-pub record TakesDown {D : Type 0} (moment_of : D → ℕ) (left_since : D → ℕ → List ℕ → Type 0) (told : D → Option (List ℕ)) (image : D → List ℕ → Type 0) (faults_of : D → ℕ)
+pub record TakesDown {D : Type 0} (moment_of : D → ℕ) (left_since : D → ℕ → List ℕ → Type 0) (told : D → Option (List ℕ)) (image : D → List ℕ → Type 0)
+    (faults_of : D → ℕ)
     (old new : Back D) (number : ℕ) (b : Body) : Type 0 where
   pub log : backed new.log ≡ record (backed old.log) { taken = old.log.taken.items ++ record { incarnation = old.number; number = number; body = b } ∷ [] }
   pub stuck : new.stuck ≡ old.stuck
@@ -260,7 +266,8 @@ pub record TakesDown {D : Type 0} (moment_of : D → ℕ) (left_since : D → �
   pub back : (start : List (List Op)) (opening : ℕ) → IsUnmounted moment_of left_since told image faults_of start opening old
       → IsUnmounted moment_of left_since told image faults_of start opening new
 
-pub record FailsDown {D : Type 0} (moment_of : D → ℕ) (left_since : D → ℕ → List ℕ → Type 0) (told : D → Option (List ℕ)) (image : D → List ℕ → Type 0) (faults_of : D → ℕ)
+pub record FailsDown {D : Type 0} (moment_of : D → ℕ) (left_since : D → ℕ → List ℕ → Type 0) (told : D → Option (List ℕ)) (image : D → List ℕ → Type 0)
+    (faults_of : D → ℕ)
     (old new : Back D) : Type 0 where
   pub same : IsAsBefore old new
   pub disk : KeepsDisk old.store new.store

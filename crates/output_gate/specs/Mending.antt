@@ -38,7 +38,8 @@ kept_at ending end = if not (end == ending.end) then ending.whole else ending.fl
 
 -- The next incarnation begins over this journal and map.
 pub record Begins {D : Type 0} (old new : Back D) (ending : Ending) (journal : Journal D) (map : Contents) : Type 0 where
-  pub log : backed new.log ≡ record (backed old.log) { ends = old.log.ends.items ++ record { kept = kept_at ending (end_of journal); cause = ending.cause } ∷ [] }
+  pub log : backed new.log ≡ record (backed old.log)
+      { ends = old.log.ends.items ++ record { kept = kept_at ending (end_of journal); cause = ending.cause } ∷ [] }
   pub same : new ≡ record old {
     store = store.Journal journal;
     cache = map;
@@ -58,7 +59,8 @@ pub record Misses {D : Type 0} (old new : Back D) (ending : Ending) (disk : D) (
 abbrev pub IsFound : {D : Type 0} → (D → ℕ) → (D → ℕ → List ℕ → Type 0) → (D → Option (List ℕ)) → (D → List ℕ → Type 0) → D → Found D → Type 0
 IsFound moment_of left_since told image disk (found.Mounted mounted) =
     IsMountOf told image moment_of left_since disk mounted × ((object : Object) → IsStaged mounted.journal object [])
-    × LeavesOnly moment_of left_since disk (disk_in mounted.journal) (ImageOrHeader (told disk) (image disk)) × TellsAsBefore (told disk) (told (disk_in mounted.journal))
+    × LeavesOnly moment_of left_since disk (disk_in mounted.journal) (ImageOrHeader (told disk) (image disk))
+    × TellsAsBefore (told disk) (told (disk_in mounted.journal))
 IsFound moment_of left_since told image disk (found.Refused left) =
     LeavesOnly moment_of left_since disk left (ImageOrHeader (told disk) (image disk)) × TellsAsBefore (told disk) (told left)
 IsFound moment_of left_since told image disk (found.NoMemory left) =
@@ -103,7 +105,8 @@ pub record CanBegin {D : Type 0} (old : Back D) (ending : Ending) : Type 0 where
   pub few : old.durable + (ending.whole - ending.flown) ≤ length old.log.taken.items
   pub room : vec_len old.log.ends + 1 ≤ vec_capacity old.log.ends
 
-pub record CanMend {D : Type 0} (moment_of : D → ℕ) (left_since : D → ℕ → List ℕ → Type 0) (told : D → Option (List ℕ)) (image : D → List ℕ → Type 0) (faults_of : D → ℕ)
+pub record CanMend {D : Type 0} (moment_of : D → ℕ) (left_since : D → ℕ → List ℕ → Type 0) (told : D → Option (List ℕ)) (image : D → List ℕ → Type 0)
+    (faults_of : D → ℕ)
     (old : Back D) (ending : Ending) : Type 0 where
   pub start : List (List Op)
   pub opening : ℕ

@@ -33,10 +33,12 @@ may_release back = not back.stuck && is_ready back.held.items back.durable
 
 -- The log of a release: a message is logged, a halt ends the incarnation, of which all batches are kept, and a sync isn't logged.
 abbrev pub released_log : {D : Type 0} → Back D → (moment : ℕ) → Held → HeldBody → Backed
-released_log back moment held (Message sent) = record (backed back.log) { released = back.log.released.items ++ record { message = sent; needs = held.needs; moment = moment } ∷ [] }
+released_log back moment held (Message sent) = record (backed back.log)
+    { released = back.log.released.items ++ record { message = sent; needs = held.needs; moment = moment } ∷ [] }
 released_log back moment held (Sync number) = backed back.log
 released_log back moment held (Halt cause) =
-    record (backed back.log) { stops = back.log.stops.items ++ stop_of back cause ∷ []; ends = back.log.ends.items ++ record { kept = back.own; cause = cause } ∷ [] }
+    record (backed back.log)
+    { stops = back.log.stops.items ++ stop_of back cause ∷ []; ends = back.log.ends.items ++ record { kept = back.own; cause = cause } ∷ [] }
 
 -- what the front is told, and what leaves
 abbrev pub released_notices : {D : Type 0} → Back D → HeldBody → List Notice
@@ -75,7 +77,8 @@ pub record Releases {D : Type 0} (moment_of : D → ℕ) (old new : Back D) (sen
   pub unflushed : new.unflushed ≡ old.unflushed
 
 -- Nothing is done, and all is as before.
-pub record IsIdleRelease {D : Type 0} (old new : Back D) (sent_before sent : List Notice) (out_before out : List Sent) (result : Result Stepped NoMemory) : Type 0 where
+pub record IsIdleRelease {D : Type 0} (old new : Back D) (sent_before sent : List Notice) (out_before out : List Sent)
+    (result : Result Stepped NoMemory) : Type 0 where
   pub nothing : result ≡ Ok Nothing
   pub back : new ≡ old
   pub told : sent ≡ sent_before
@@ -97,7 +100,8 @@ pub record Stays {D : Type 0} (old new : Back D) (sent_before sent : List Notice
   pub limit : new.limit ≡ old.limit
 
 -- What letting this go needs, and does.
-pub record CanGo {D : Type 0} (moment_of : D → ℕ) (left_since : D → ℕ → List ℕ → Type 0) (told : D → Option (List ℕ)) (image : D → List ℕ → Type 0) (faults_of : D → ℕ)
+pub record CanGo {D : Type 0} (moment_of : D → ℕ) (left_since : D → ℕ → List ℕ → Type 0) (told : D → Option (List ℕ)) (image : D → List ℕ → Type 0)
+    (faults_of : D → ℕ)
     (old : Back D) (b : HeldBody) : Type 0 where
   pub start : List (List Op)
   pub opening : ℕ
@@ -108,15 +112,19 @@ pub record CanGo {D : Type 0} (moment_of : D → ℕ) (left_since : D → ℕ �
   pub body : first.body ≡ b
   pub ready : first.needs ≤ old.durable
 
-pub record Goes {D : Type 0} (moment_of : D → ℕ) (left_since : D → ℕ → List ℕ → Type 0) (told : D → Option (List ℕ)) (image : D → List ℕ → Type 0) (faults_of : D → ℕ)
+pub record Goes {D : Type 0} (moment_of : D → ℕ) (left_since : D → ℕ → List ℕ → Type 0) (told : D → Option (List ℕ)) (image : D → List ℕ → Type 0)
+    (faults_of : D → ℕ)
     (old new : Back D) (sent_before sent : List Notice) (out_before out : List Sent) : Type 0 where
   pub releases : Releases moment_of old new sent_before sent out_before out
-  pub back : (start : List (List Op)) (opening : ℕ) → IsBackAs moment_of left_since told image faults_of start opening true old → IsBackAs moment_of left_since told image faults_of start opening true new
+  pub back : (start : List (List Op)) (opening : ℕ) → IsBackAs moment_of left_since told image faults_of start opening true old
+      → IsBackAs moment_of left_since told image faults_of start opening true new
 
-pub record StaysPut {D : Type 0} (moment_of : D → ℕ) (left_since : D → ℕ → List ℕ → Type 0) (told : D → Option (List ℕ)) (image : D → List ℕ → Type 0) (faults_of : D → ℕ)
+pub record StaysPut {D : Type 0} (moment_of : D → ℕ) (left_since : D → ℕ → List ℕ → Type 0) (told : D → Option (List ℕ)) (image : D → List ℕ → Type 0)
+    (faults_of : D → ℕ)
     (old new : Back D) (sent_before sent : List Notice) (out_before out : List Sent) : Type 0 where
   pub stays : Stays old new sent_before sent out_before out
-  pub back : (start : List (List Op)) (opening : ℕ) → IsBackAs moment_of left_since told image faults_of start opening true old → IsBackAs moment_of left_since told image faults_of start opening false new
+  pub back : (start : List (List Op)) (opening : ℕ) → IsBackAs moment_of left_since told image faults_of start opening true old
+      → IsBackAs moment_of left_since told image faults_of start opening false new
 
 -- One more message has left.
 pub record LogReleases (old new : BackLog) (release : Release) : Type 0 where

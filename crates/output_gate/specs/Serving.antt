@@ -75,7 +75,8 @@ pub record IsServing {D : Type 0} (moment_of : D → ℕ) (left_since : D → �
   pub flown : List (List Op)
   pub staged : List (List Op)
   pub gate : (front : Fronted) → IsGate moment_of left_since back.identity start opening front (place_of front (backed back.log)) (disk_in journal)
-      (record { released = back.log.released.items; left = left; waiting = waiting_in back.held.items; flown = flown; staged = staged }) back.before back.durable
+      (record { released = back.log.released.items; left = left; waiting = waiting_in back.held.items; flown = flown; staged = staged }) back.before
+      back.durable
   pub at_rest : IsAtRest told image journal frames
   pub named : NameOnly back.identity frames
   pub batches : batches_in frames ≡ start ++ flown
@@ -89,7 +90,8 @@ abbrev pub marks_of : {D : Type 0} → Back D → Marks
 marks_of back = record { settled = back.settled; late = back.late; needs = back.needs }
 
 -- The newest incarnation is mounted.
-pub record IsMounted {D : Type 0} (moment_of : D → ℕ) (left_since : D → ℕ → List ℕ → Type 0) (told : D → Option (List ℕ)) (image : D → List ℕ → Type 0) (faults_of : D → ℕ)
+pub record IsMounted {D : Type 0} (moment_of : D → ℕ) (left_since : D → ℕ → List ℕ → Type 0) (told : D → Option (List ℕ)) (image : D → List ℕ → Type 0)
+    (faults_of : D → ℕ)
     (start : List (List Op)) (opening : ℕ) (sound : Bool) (back : Back D) : Type 0 where
   pub journal : Journal D
   pub safe : IsSafe told image journal back
@@ -145,7 +147,8 @@ pub record IsEnded {D : Type 0} (moment_of : D → ℕ) (left_since : D → ℕ 
   pub full : (needed limit : ℕ) → ending.cause ≡ causes.Full needed limit → (c : List ℕ) → image disk c → Recovers c frames
 
 -- The newest incarnation isn't mounted.
-pub record IsUnmounted {D : Type 0} (moment_of : D → ℕ) (left_since : D → ℕ → List ℕ → Type 0) (told : D → Option (List ℕ)) (image : D → List ℕ → Type 0) (faults_of : D → ℕ)
+pub record IsUnmounted {D : Type 0} (moment_of : D → ℕ) (left_since : D → ℕ → List ℕ → Type 0) (told : D → Option (List ℕ)) (image : D → List ℕ → Type 0)
+    (faults_of : D → ℕ)
     (start : List (List Op)) (opening : ℕ) (back : Back D) : Type 0 where
   pub disk : D
   pub ending : Ending
@@ -155,16 +158,20 @@ pub record IsUnmounted {D : Type 0} (moment_of : D → ℕ) (left_since : D → 
   pub counts : AreCounted (IsTold (told disk)) (backed back.log) (faults_of disk)
 
 -- What holds of a back whose cache is sound, or needn't be; and a step from such a back to such.
-abbrev pub IsBackAs : {D : Type 0} → (D → ℕ) → (D → ℕ → List ℕ → Type 0) → (D → Option (List ℕ)) → (D → List ℕ → Type 0) → (D → ℕ) → List (List Op) → ℕ → (sound : Bool) → Back D → Type 0
+abbrev pub IsBackAs : {D : Type 0} → (D → ℕ) → (D → ℕ → List ℕ → Type 0) → (D → Option (List ℕ)) → (D → List ℕ → Type 0) → (D → ℕ) → List (List Op) → ℕ
+    → (sound : Bool) → Back D → Type 0
 IsBackAs moment_of left_since told image faults_of start opening sound back =
     IsMounted moment_of left_since told image faults_of start opening sound back ⊎ IsUnmounted moment_of left_since told image faults_of start opening back
 
-abbrev pub KeepsBackAs : {D : Type 0} → (D → ℕ) → (D → ℕ → List ℕ → Type 0) → (D → Option (List ℕ)) → (D → List ℕ → Type 0) → (D → ℕ) → (sound later : Bool) → (old new : Back D) → Type 0
+abbrev pub KeepsBackAs : {D : Type 0} → (D → ℕ) → (D → ℕ → List ℕ → Type 0) → (D → Option (List ℕ)) → (D → List ℕ → Type 0) → (D → ℕ) → (sound later : Bool)
+    → (old new : Back D) → Type 0
 KeepsBackAs moment_of left_since told image faults_of sound later old new = (start : List (List Op)) (opening : ℕ)
     → IsBackAs moment_of left_since told image faults_of start opening sound old → IsBackAs moment_of left_since told image faults_of start opening later new
 
-abbrev pub CanServeAs : {D : Type 0} → (D → ℕ) → (D → ℕ → List ℕ → Type 0) → (D → Option (List ℕ)) → (D → List ℕ → Type 0) → (D → ℕ) → (sound : Bool) → Back D → Type 0
-CanServeAs moment_of left_since told image faults_of sound back = (start : List (List Op)) × (opening : ℕ) × IsBackAs moment_of left_since told image faults_of start opening sound back
+abbrev pub CanServeAs : {D : Type 0} → (D → ℕ) → (D → ℕ → List ℕ → Type 0) → (D → Option (List ℕ)) → (D → List ℕ → Type 0) → (D → ℕ) → (sound : Bool) → Back D
+    → Type 0
+CanServeAs moment_of left_since told image faults_of sound back = (start : List (List Op)) × (opening : ℕ)
+    × IsBackAs moment_of left_since told image faults_of start opening sound back
 
 -- Nothing was done that a later step sees, but to the cache and the store: the log, what is held, how the back stands and what it
 -- counts are as before.
@@ -188,15 +195,19 @@ pub record StopsBy {D A : Type 0} (result : Result A NoMemory) (new : Back D) : 
   pub wanting : OnErr result (is_stopped new ≡ true)
 
 -- What holds of a back after each of its steps: it is sound where it isn't stopped. A step keeps this.
-abbrev pub IsBack : {D : Type 0} → (D → ℕ) → (D → ℕ → List ℕ → Type 0) → (D → Option (List ℕ)) → (D → List ℕ → Type 0) → (D → ℕ) → List (List Op) → ℕ → Back D → Type 0
-IsBack moment_of left_since told image faults_of start opening back = IsBackAs moment_of left_since told image faults_of start opening (not (is_stopped back)) back
+abbrev pub IsBack : {D : Type 0} → (D → ℕ) → (D → ℕ → List ℕ → Type 0) → (D → Option (List ℕ)) → (D → List ℕ → Type 0) → (D → ℕ) → List (List Op) → ℕ → Back D
+    → Type 0
+IsBack moment_of left_since told image faults_of start opening back = IsBackAs moment_of left_since told image faults_of start opening
+    (not (is_stopped back)) back
 
-abbrev pub KeepsBack : {D : Type 0} → (D → ℕ) → (D → ℕ → List ℕ → Type 0) → (D → Option (List ℕ)) → (D → List ℕ → Type 0) → (D → ℕ) → (old new : Back D) → Type 0
+abbrev pub KeepsBack : {D : Type 0} → (D → ℕ) → (D → ℕ → List ℕ → Type 0) → (D → Option (List ℕ)) → (D → List ℕ → Type 0) → (D → ℕ) → (old new : Back D)
+    → Type 0
 KeepsBack moment_of left_since told image faults_of old new = (start : List (List Op)) (opening : ℕ)
     → IsBack moment_of left_since told image faults_of start opening old → IsBack moment_of left_since told image faults_of start opening new
 
 abbrev pub CanServe : {D : Type 0} → (D → ℕ) → (D → ℕ → List ℕ → Type 0) → (D → Option (List ℕ)) → (D → List ℕ → Type 0) → (D → ℕ) → Back D → Type 0
-CanServe moment_of left_since told image faults_of back = (start : List (List Op)) × (opening : ℕ) × IsBack moment_of left_since told image faults_of start opening back
+CanServe moment_of left_since told image faults_of back = (start : List (List Op)) × (opening : ℕ)
+    × IsBack moment_of left_since told image faults_of start opening back
 
 -- What the two ends of a flush need of the back, and what they do to it.
 pub record CanLand {D : Type 0} (back : Back D) : Type 0 where

@@ -52,7 +52,8 @@ pub record ReadsDisk {D : Type 0} (told : D → Option (List ℕ)) (old new : St
   pub end : KeepsEnd old new
 
 -- A batch is staged behind those that were, or memory was wanting and the same are; the journal's file is as it was.
-pub record Stages {D : Type 0} (told : D → Option (List ℕ)) (image : D → List ℕ → Type 0) (old : Journal D) (after : Store D) (object : Object) (batch : List Op)
+pub record Stages {D : Type 0} (told : D → Option (List ℕ)) (image : D → List ℕ → Type 0) (old : Journal D) (after : Store D) (object : Object)
+    (batch : List Op)
     (result : Result (Unit {0}) NoMemory) : Type 0 where
   pub new : Journal D
   pub is : after ≡ store.Journal new
@@ -81,13 +82,16 @@ pub record Appends {D : Type 0} (moment_of : D → ℕ) (left_since : D → ℕ 
     (faults_of : D → ℕ) (old : Journal D) (after : Store D) (result : Result (Unit {0}) Fault) : Type 0 where
   pub new : Journal D
   pub is : after ≡ store.Journal new
-  pub appended : OnOk result ((frames : List Frame) (object : Object) (batches : List (List Op)) → IsAtRest told image old frames → IsStaged old object batches → Name object frames
+  pub appended : OnOk result
+      ((frames : List Frame) (object : Object) (batches : List (List Op)) → IsAtRest told image old frames → IsStaged old object batches → Name object frames
       → IsAtRest told image new (frames ++ frame_of object batches ∷ []))
   pub unstaged : OnOk result ((object : Object) → IsStaged new object [])
-  pub any_moment : (frames : List Frame) (object : Object) (batches : List (List Op)) → IsAtRest told image old frames → IsStaged old object batches → Name object frames
+  pub any_moment : (frames : List Frame) (object : Object) (batches : List (List Op)) → IsAtRest told image old frames → IsStaged old object batches
+      → Name object frames
       → LeavesOnly moment_of left_since (disk_in old) (disk_in new) (RecoversToOneOf frames (frame_of object batches))
   pub ended : IfErr result (λ fault. IsFaultOf faults_of old new fault)
-  pub full_keeps : IfErr result (λ fault. (n limit : ℕ) (frames : List Frame) → fault.cause ≡ cause.Full n limit → IsAtRest told image old frames → IsAtRest told image new frames)
+  pub full_keeps : IfErr result
+      (λ fault. (n limit : ℕ) (frames : List Frame) → fault.cause ≡ cause.Full n limit → IsAtRest told image old frames → IsAtRest told image new frames)
   pub later : faults_of (disk_in old) ≤ faults_of (disk_in new)
   pub telling : TellsAsBefore (told (disk_in old)) (told (disk_in new))
   pub limit : limit_of new ≡ limit_of old

@@ -56,7 +56,8 @@ fit_in behind within own mounted known b = fit_as (behind && within && fits_so o
 
 abbrev pub fit_of : {D : Type 0} → Back D → Entry → Fit
 fit_of back e =
-    fit_in (comes_behind (last_of back.log.taken.items) e) (not (nat_lt back.number e.incarnation)) (e.incarnation == back.number) (is_mounted_mode back.mode) (is_some back.identity) e.body
+    fit_in (comes_behind (last_of back.log.taken.items) e) (not (nat_lt back.number e.incarnation)) (e.incarnation == back.number) (is_mounted_mode back.mode)
+    (is_some back.identity) e.body
 
 -- the log has the room of an entry, a flight and a stop
 pub record LogRoom (log : BackLog) : Type 0 where

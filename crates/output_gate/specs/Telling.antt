@@ -27,7 +27,8 @@ use Rattle.output_gate.specs.declared.back.Mode.TheVariants.{Mounted}
 -- recovers to the batches of the start and a prefix of those of a line, and since a release to one that has what the release
 -- needs. Each end kept what an end of its cause keeps, and incarnations are followed for the causes for which they stopped. Each mounting
 -- that failed is of an incarnation behind an end. The counts of faults that the log keeps go up to the disk's, and rose at each.
-pub record HasTold {D : Type 0} (moment_of : D → ℕ) (left_since : D → ℕ → List ℕ → Type 0) (faults_of : D → ℕ) (object : Option Object) (start : List (List Op)) (opening : ℕ)
+pub record HasTold {D : Type 0} (moment_of : D → ℕ) (left_since : D → ℕ → List ℕ → Type 0) (faults_of : D → ℕ) (object : Option Object)
+    (start : List (List Op)) (opening : ℕ)
     (front : Fronted) (disk : D) (back : Backed) : Type 0 where
   pub logs : AreLogs back
   pub left : List Passed
@@ -57,8 +58,10 @@ NoticesAnswer = (number : ℕ) (m : Contents) (b : Body) (n : Notice) → notice
 -- While the newest incarnation is mounted, and memory wasn't wanting, the map of a back is what that incarnation has written on the
 -- map with which it started.
 abbrev pub MapIsWritten : {D : Type 0} → (D → ℕ) → (D → ℕ → List ℕ → Type 0) → (D → Option (List ℕ)) → (D → List ℕ → Type 0) → (D → ℕ) → Back D → Type 0
-MapIsWritten {D} moment_of left_since told image faults_of back = (start : List (List Op)) (opening : ℕ) (disk : D) → IsDiskOf back.store disk → IsTold (told disk)
-    → IsBack moment_of left_since told image faults_of start opening back → is_stopped back ≡ false → back.mode ≡ Mounted → (front : Fronted) (i : Incarnation) (older : History)
+MapIsWritten {D} moment_of left_since told image faults_of back = (start : List (List Op)) (opening : ℕ) (disk : D) → IsDiskOf back.store disk
+    → IsTold (told disk)
+    → IsBack moment_of left_since told image faults_of start opening back → is_stopped back ≡ false → back.mode ≡ Mounted
+    → (front : Fronted) (i : Incarnation) (older : History)
     → history front (backed back.log) ≡ i ∷ older → back.cache ≡ written (start_after (opened_map start) older) (said_in i.taken)
 
 -- The newest of these kept no more batches than were taken of it.
