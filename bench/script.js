@@ -27,6 +27,25 @@ export class Bench extends DurableObject {
     return null;
   }
 
+  // This text under as many keys.
+  async store(from, count, text) {
+    for (let i = from; i < from + count; i++) { this.ctx.storage.put("v" + i, text); }
+    return null;
+  }
+
+  // As many reads, each of the key so many behind the last one.
+  async reads(count, step, keys) {
+    for (let i = 0; i < count; i++) { await this.ctx.storage.get("v" + i * step % keys); }
+    return null;
+  }
+
+  // How many pairs listings of so many have.
+  async lists(count, limit) {
+    let pairs = 0;
+    for (let i = 0; i < count; i++) { pairs += (await this.ctx.storage.list({ prefix: "v", limit })).length; }
+    return pairs;
+  }
+
   // Nothing.
   take(value) { return null; }
 

@@ -1,5 +1,5 @@
 -- What is told of a script, from the bytes that were read of it.
-use Rattle.std.proofs.Common.{◌≡◌, ◌<◌, ◌≤◌, ◌⊎◌, ⊎_elim, inl, inr, ℕ, min, List, length, take, Option, Some, Result, Err, OnErr, Vec, Global, refl, sym, ap, subst, ◌∙◌, arith}
+use Rattle.std.proofs.Common.{◌≡◌, ◌<◌, ◌≤◌, ◌⊎◌, ⊎_elim, inl, inr, ℕ, min, List, length, take, Option, Some, Result, Err, refl, sym, ap, subst, ◌∙◌, arith}
 use Rattle.std.proofs.lemmas.Bool.{cases_order}
 use Rattle.std.proofs.lemmas.List.{length-take, take_all}
 use Rattle.do_disk.specs.declared.depot.TheConstants.{MOST_TEXT_BYTES}
@@ -17,7 +17,7 @@ use Rattle.do_host.specs.Scripts.{check_word, parse_word, IsAccepted, IsRefused,
 use Rattle.do_host.specs.declared.early_end.EarlyEnd.{EarlyEnd}
 use Rattle.do_host.specs.declared.early_end.EarlyEnd.TheVariants.{Refused, Stopped}
 use Rattle.do_host.specs.declared.run_end.RunEnd.{RunEnd}
-use Rattle.do_host.specs.declared.run_end.RunEnd.TheVariants.{DepotFailed, NoMemory}
+use Rattle.do_host.specs.declared.run_end.RunEnd.TheVariants.{NoMemory}
 
 -- of the text's first bytes, which are fewer than were read, there are no more
 take_is_whole : (n : ℕ) (xs ys : List ℕ) → take n xs ≡ ys → length ys < n → xs ≡ ys

@@ -1,14 +1,11 @@
 -- Texts that are written one behind the other, and the text of a slot.
 use Rattle.std.proofs.Common.{◌≡◌, ◌+◌, ℕ, List, [], ◌∷◌, ◌++◌, length, take, false, Option, Some, None, option_map, Result, Ok, Err, OnOk, refl, sym, ap, subst, ◌∙◌, arith, append_assoc}
-use Rattle.std.specs.List.{filter}
 use Rattle.std.proofs.lemmas.List.{append-nil, length-append, take-append-le}
 use Rattle.std.proofs.lemmas.Grind.{flat_map-append}
 use Rattle.std.proofs.Math.Seq.{take-append-add, take-length}
 use Rattle.serde_json.specs.Written.{has_float}
 use Rattle.do_value.specs.Seen.{tree_of}
 use Rattle.do_value.specs.declared.value.Value.{Value}
-use Rattle.storage_map.specs.Readings.{keeps, listed}
-use Rattle.storage_map.specs.declared.options.Options.{Options}
 use Rattle.do_host.specs.Dump.{pairs_text}
 use Rattle.do_host.specs.Written.{WritesAll, WritesFirstOf, Writes}
 use Rattle.do_host.specs.SlotLines.{pair_json, pair_line}
@@ -103,14 +100,3 @@ printed_part slot before middle after pair left rest all so_far first part =
     ∙ ap (λ text. text ++ pairs_text slot rest) (pairs_on slot so_far.done pair) in
     subst (λ text. WritesFirstOf before after text) (sym whole)
     (front_longer before after (pairs_text slot so_far.done ++ pair_line slot pair) (pairs_text slot rest) (front_on before middle after (pairs_text slot so_far.done) (pair_line slot pair) so_far.written part))
-
--- options without a bound list all pairs
-abbrev pub everything : Options
-everything = record { start = None; after = None; end = None; prefix = None; reverse = false; limit = None }
-
-all_kept : (pairs : List (List ℕ × Value)) → filter (λ p. keeps everything p.0) pairs ≡ pairs
-all_kept [] = refl
-all_kept (pair ∷ pairs) = ap (λ rest. pair ∷ rest) (all_kept pairs)
-
-pub lists_all : (options : Options) (pairs : List (List ℕ × Value)) → options ≡ everything → listed options pairs ≡ pairs
-lists_all options pairs is = ap (λ o. listed o pairs) is ∙ all_kept pairs

@@ -1,15 +1,14 @@
 -- The end of a dump, as the run shows it.
-use Rattle.std.proofs.Common.{◌≡◌, ◌≢◌, ◌≤◌, ◌<◌, ◌+◌, ◌⊎◌, ⊎_elim, inl, inr, ℕ, List, [], ◌++◌, length, map, get_or, Option, Some, None, Result, Ok, Err, OnOk, OnErr, option_map, refl, sym, ap, subst, ◌∙◌, arith}
-use Rattle.std.specs.Prelude.{IfSome, IsErrOf, slice_get}
+use Rattle.std.proofs.Common.{◌≡◌, ◌≢◌, ◌≤◌, ◌<◌, ◌⊎◌, ⊎_elim, inl, inr, ℕ, List, [], ◌++◌, length, map, get_or, Option, Some, None, Result, Ok, Err, OnOk, OnErr, option_map, refl, sym, ap, subst, ◌∙◌, arith}
+use Rattle.std.specs.Prelude.{IfSome, IsErrOf, IsSome, slice_get}
 use Rattle.std.proofs.lemmas.List.{append-nil, ext_get_or, length-map}
 use Rattle.std.proofs.lemmas.Option.{get_or_from_slice_get, slice_get-map, slice_get_cases}
 use Rattle.command_words.specs.Asked.{dumps}
 use Rattle.do_disk.specs.Disk.{Rose}
 use Rattle.placement.specs.Slots.{Slots, object_at}
-use Rattle.storage_map.specs.Contents.{Contents}
 use Rattle.storage_map.specs.Limits.{Object}
 use Rattle.host_core.specs.Ends.{opening_end}
-use Rattle.host_core.specs.Opening.{Asks, LeavesHanded, slot_asks}
+use Rattle.host_core.specs.Opening.{Asks, HasFailedDisk, LeavesHanded, slot_asks}
 use Rattle.host_core.specs.Report.{IsEmpty, is_opening_end}
 use Rattle.host_core.specs.declared.opening.OpenEnd.{OpenEnd}
 use Rattle.host_core.specs.declared.opening.OpenEnd.TheVariants as opening
@@ -17,13 +16,14 @@ use Rattle.host_core.specs.declared.report.SlotReport.{SlotReport}
 use Rattle.host_core.specs.declared.settings.Bad.{Bad}
 use Rattle.host_core.specs.declared.settings.ServeEnd.{ServeEnd}
 use Rattle.host_core.specs.declared.settings.ServeEnd.TheVariants as ends
-use Rattle.do_host.specs.Dump.{AreIdleRows, IsDumpOf, slots_text}
+use Rattle.do_host.specs.Dump.{AreIdleRows, HasNoValue, IsDumpOf, slots_text}
 use Rattle.do_host.specs.Endings.{TellsEnd}
 use Rattle.do_host.specs.Mounted.{AllMounted, StopsMounting}
 use Rattle.do_host.specs.DumpRuns.{DumpsSlots}
 use Rattle.do_host.specs.Outside.{Given, Left, Outside}
 use Rattle.do_host.specs.Runs.{AtAnyEnd, Runs}
 use Rattle.do_host.specs.Status.{dump_end}
+use Rattle.do_host.specs.Storage.{Storage}
 use Rattle.do_host.specs.Written.{WritesAll, Writes}
 use Rattle.do_host.specs.declared.run_end.RunEnd.{RunEnd}
 use Rattle.do_host.specs.declared.run_end.RunEnd.TheVariants.{NoMemory, WriteFailed}
@@ -61,7 +61,7 @@ pub dump_stopped : {S R W : Type 0} (outside : Outside S R W) (folder : List ℕ
     → left.input ≡ given.input → left.out ≡ given.out → (left.report.switch ≡ given.report.switch) × (left.report.lines ≡ given.report.lines)
     → StopsMounting outside.disks.told outside.disks.image outside.disks.moment_of outside.disks.left_since outside.disks.faults_of (given.depot.slots folder) slots given.depot.faults left.depot.faults left.report end
     → Asks given.depot.asked left.depot.asked (slot_asks folder slots) → DumpsSlots outside folder slots (opening_end end) given left
-dump_stopped outside folder slots given left end empty same_input same_out same stops asks = record {
+dump_stopped {S} outside folder slots given left end empty same_input same_out same stops asks = record {
   reads_nothing = (stopped_unread end, same.0, same.1);
   reports = record {
     named = stops.named;
@@ -69,7 +69,9 @@ dump_stopped outside folder slots given left end empty same_input same_out same 
     one_each = stops.one_each;
     rows = stops.idle;
     within = omega (arith, stops.fewer);
-    bad = λ bad is. (stops.stops.bad bad (stopped_bad end bad is)).0;
+    bad = λ bad is.
+        ⊎_elim (λ opened. inl (opened.bad bad (stopped_bad end bad is)).0)
+        (λ unread. inr (subst (λ (o : Option S). IfSome o (HasNoValue outside.disks.told (length left.report.slots.items) bad)) (sym unread.kept) (unread.bad bad (stopped_bad end bad is)))) stops.stops;
   };
   whole = λ is. absurd (stopped_is_open end (inl is));
   front = λ all. absurd (omega (arith, stops.fewer, all));
@@ -78,14 +80,15 @@ dump_stopped outside folder slots given left end empty same_input same_out same 
     none_unopened = λ all. absurd (omega (arith, stops.fewer, all));
     unread = λ fewer. (same_input, same_out, same.0, same.1 ∙ empty.lines);
     early = λ is. stops.fewer;
-    kept = λ bad is. (stops.stops.bad bad (stopped_bad end bad is)).1;
+    kept = λ bad is. ⊎_elim (λ opened. (opened.bad bad (stopped_bad end bad is)).1) (λ unread. subst (λ (o : Option S). IsSome o) (sym unread.kept) refl) stops.stops;
   };
-  unopened = record {
-    handed = stops.stops.handed;
-    untouched = λ bad is refused. stops.stops.untouched bad (stopped_bad end bad is) refused;
-  };
+  unopened =
+      ⊎_elim (λ opened. inl (record { handed = opened.handed; untouched = λ bad is refused. opened.untouched bad (stopped_bad end bad is) refused }))
+      (λ unread. inr (record { disk = unread.disk; kept = unread.kept; unread = unread.unread; no_value = λ bad is. unread.bad bad (stopped_bad end bad is) })) stops.stops;
   causes = record {
-    open_failed = λ is. stops.stops.failed (stopped_failed end is);
+    open_failed = λ is.
+        ⊎_elim (λ opened. opened.failed (stopped_failed end is))
+        (λ unread. inr (subst (λ (o : Option S). HasFailedDisk outside.disks.faults_of o) (sym unread.kept) (unread.failed (stopped_failed end is)))) stops.stops;
     read_failed = λ is. absurd (stopped_unread end is);
     write_failed = λ is. absurd (stopped_is_open end (inr is));
     sink_steady = λ other. ap outside.sink.faults_of same_out;
@@ -116,10 +119,10 @@ print_kind : (result : Result (Unit {0}) RunEnd) → OnErr result ((result ≡ E
 print_kind (Ok tt) stop = inl refl
 print_kind (Err end) stop = inr stop
 
-module _ {S R W : Type 0} (outside : Outside S R W) (folder : List ℕ) (slots : ℕ) (given : Given S R W) (left : Left S R W) (ms : List Contents) (result : Result (Unit {0}) RunEnd)
+module _ {S R W : Type 0} (outside : Outside S R W) (folder : List ℕ) (slots : ℕ) (given : Given S R W) (left : Left S R W) (storages : List Storage) (result : Result (Unit {0}) RunEnd)
     (same_input : left.input ≡ given.input) (same : (left.report.switch ≡ given.report.switch) × (left.report.lines ≡ given.report.lines))
-    (mounted : AllMounted outside.disks.left_since (given.depot.slots folder) slots left.report.slots.items ms)
-    (writes : Writes (outside.sink.taken given.out) (outside.sink.taken left.out) (slots_text 0 (map (λ (row : SlotReport S). row.identity) left.report.slots.items) ms) result)
+    (mounted : AllMounted outside.disks.told outside.disks.left_since (given.depot.slots folder) slots left.report.slots.items storages)
+    (writes : Writes (outside.sink.taken given.out) (outside.sink.taken left.out) (slots_text 0 (map (λ (row : SlotReport S). row.identity) left.report.slots.items) storages) result)
     (stop : OnErr result ((result ≡ Err WriteFailed) ⊎ (result ≡ Err NoMemory)))
     (rose : IsErrOf result WriteFailed → Rose (outside.sink.faults_of given.out) (outside.sink.faults_of left.out))
     (steady : (IsErrOf result WriteFailed → ⊥) → outside.sink.faults_of left.out ≡ outside.sink.faults_of given.out)
@@ -136,14 +139,14 @@ module _ {S R W : Type 0} (outside : Outside S R W) (folder : List ℕ) (slots :
   objects_are = row_objects outside.disks.left_since (given.depot.slots folder) mounted.named left.report.slots.items (mounted.all_rows ∙ sym mounted.all_slots) mounted.mounted.idle
 
   abbrev text_all : List ℕ
-  text_all = slots_text 0 (map (λ (row : SlotReport S). row.identity) left.report.slots.items) ms
+  text_all = slots_text 0 (map (λ (row : SlotReport S). row.identity) left.report.slots.items) storages
 
-  is_dump : IsDumpOf (given.depot.slots folder) mounted.named (slots_text 0 (map (λ (row : SlotReport S). row.identity) left.report.slots.items) ms)
+  is_dump : IsDumpOf outside.disks.told (given.depot.slots folder) mounted.named left.report.slots.items (slots_text 0 (map (λ (row : SlotReport S). row.identity) left.report.slots.items) storages)
   is_dump = record {
-    ms = ms;
+    storages = storages;
     many = mounted.mounted.many ∙ mounted.all_rows ∙ sym mounted.all_slots;
     each = mounted.mounted.each;
-    text_is = ap (λ (objects : List (Option Object)). slots_text 0 objects ms) objects_are;
+    text_is = ap (λ (objects : List (Option Object)). slots_text 0 objects storages) objects_are;
   }
 
   finished_is_good : dump_end result ≡ ends.Finished → result ≡ Ok tt
@@ -158,10 +161,10 @@ module _ {S R W : Type 0} (outside : Outside S R W) (folder : List ℕ) (slots :
       (λ bad. ⊎_elim (λ write. write) (λ memory. absurd (let no : ends.NoMemory ≡ ends.WriteFailed = sym (ap dump_end memory) ∙ is in cc)) bad)
       (print_kind result stop)
 
-  on_good : result ≡ Ok tt → WritesAll (outside.sink.taken given.out) (outside.sink.taken left.out) (slots_text 0 (map (λ (row : SlotReport S). row.identity) left.report.slots.items) ms)
+  on_good : result ≡ Ok tt → WritesAll (outside.sink.taken given.out) (outside.sink.taken left.out) (slots_text 0 (map (λ (row : SlotReport S). row.identity) left.report.slots.items) storages)
   on_good good =
       subst (λ (r : Result (Unit {0}) RunEnd). OnOk r (WritesAll (outside.sink.taken given.out) (outside.sink.taken left.out)
-      (slots_text 0 (map (λ (row : SlotReport S). row.identity) left.report.slots.items) ms))) good writes.whole
+      (slots_text 0 (map (λ (row : SlotReport S). row.identity) left.report.slots.items) storages))) good writes.whole
 
   is_no_bad : (bad : Bad) → dump_end result ≢ ends.BadSlot bad
   is_no_bad bad = is_no (ends.BadSlot bad) (λ e. cc) (λ e. cc) (λ e. cc)
@@ -187,11 +190,11 @@ module _ {S R W : Type 0} (outside : Outside S R W) (folder : List ℕ) (slots :
       early = λ is. absurd (⊎_elim (λ e. is_no ends.OpenFailed (λ f. cc) (λ f. cc) (λ f. cc) e) (λ bad. is_no_bad bad.0 bad.1) is);
       kept = λ bad is. absurd (is_no_bad bad is);
     };
-    unopened = record {
+    unopened = inl (record {
       handed = subst (λ (o : Option S). IfSome o (LeavesHanded outside.disks.told outside.disks.image outside.disks.moment_of outside.disks.left_since
           (given.depot.slots folder (length left.report.slots.items)))) (sym none) tt;
       untouched = λ bad is refused. absurd (is_no_bad bad is);
-    };
+    });
     causes = record {
       open_failed = λ is. absurd (is_no ends.OpenFailed (λ e. cc) (λ e. cc) (λ e. cc) is);
       read_failed = λ is. absurd (is_no ends.ReadFailed (λ e. cc) (λ e. cc) (λ e. cc) is);

@@ -4,6 +4,7 @@ pub mod Names
 pub mod Early
 pub mod Unread
 pub mod Served
+pub mod Values
 pub mod Dumping
 pub mod Mounts
 pub mod Dumped

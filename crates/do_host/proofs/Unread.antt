@@ -1,12 +1,11 @@
 -- A run that reads nothing of its input.
-use Rattle.std.proofs.Common.{◌≡◌, ◌≤◌, ℕ, List, [], map, length, Option, Some, refl, ap, ◌∙◌, arith}
+use Rattle.std.proofs.Common.{◌≡◌, ◌≤◌, ℕ, List, [], Option, Some, refl, ap, ◌∙◌, arith}
 use Rattle.do_disk.specs.Disk.{IfTold}
 use Rattle.line_server.specs.Going.{HasGiven}
 use Rattle.line_server.specs.Limits.{most_lines}
 use Rattle.line_server.specs.Requests.{SeenLine}
 use Rattle.line_server.proofs.Looking.{looked_none}
 use Rattle.mailbox.specs.Seen.{seen_log}
-use Rattle.mailbox.specs.declared.switch_log.SwitchLog.{SwitchLog}
 use Rattle.timeline.specs.Lines.{Line}
 use Rattle.timeline.specs.Switch as timeline
 use Rattle.host_core.specs.Reading.{Accepts, read_lines}

@@ -45,11 +45,11 @@ module _ {S R W : Type 0} (outside : Outside S R W) (given : Given S R W) (empty
   no_rows : length given.report.slots.items ≡ 0
   no_rows = ap length empty.slots
 
-  no_slot : (contents : ℕ → Option (List ℕ)) (slots : ℕ) → slots ≡ 0 → IsDumpOf contents (replicate slots None) []
-  no_slot contents slots nil = record {
-    ms = [];
+  no_slot : (contents : ℕ → Option (List ℕ)) (rows : List (SlotReport S)) (slots : ℕ) → slots ≡ 0 → IsDumpOf outside.disks.told contents (replicate slots None) rows []
+  no_slot contents rows slots nil = record {
+    storages = [];
     many = sym (length-replicate slots no_object ∙ nil);
-    each = λ slot m at. absurd (let less : slot < 0 = slice_get_within [] slot m at in omega (arith, less));
+    each = λ slot row storage here at. absurd (let less : slot < 0 = slice_get_within [] slot storage at in omega (arith, less));
     text_is = ap (λ (n : ℕ). slots_text 0 (replicate n None) []) (sym nil);
   }
 
@@ -66,7 +66,7 @@ module _ {S R W : Type 0} (outside : Outside S R W) (given : Given S R W) (empty
       bad = λ bad is. absurd (let no : ends.NoMemory ≡ ends.BadSlot bad = is in cc);
     };
     whole = λ is. absurd (let no : ends.NoMemory ≡ ends.Finished = is in cc);
-    front = λ all. ([], no_slot (given.depot.slots folder) slots (sym all ∙ no_rows), front_none (outside.sink.taken given.out) []);
+    front = λ all. ([], no_slot (given.depot.slots folder) given.report.slots.items slots (sym all ∙ no_rows), front_none (outside.sink.taken given.out) []);
     opened = record {
       all = λ late. absurd (late tt);
       none_unopened = λ all. empty.unopened;
@@ -74,11 +74,11 @@ module _ {S R W : Type 0} (outside : Outside S R W) (given : Given S R W) (empty
       early = λ is. absurd (⊎_elim (λ e. let no : ends.NoMemory ≡ ends.OpenFailed = e in cc) (λ e. let no : ends.NoMemory ≡ ends.BadSlot e.0 = e.1 in cc) is);
       kept = λ bad is. absurd (let no : ends.NoMemory ≡ ends.BadSlot bad = is in cc);
     };
-    unopened = record {
+    unopened = inl (record {
       handed = subst (λ (o : Option S). IfSome o (LeavesHanded outside.disks.told outside.disks.image outside.disks.moment_of outside.disks.left_since
           (given.depot.slots folder (length given.report.slots.items)))) (sym empty.unopened) tt;
       untouched = λ bad is refused. absurd (let no : ends.NoMemory ≡ ends.BadSlot bad = is in cc);
-    };
+    });
     causes = record {
       open_failed = λ is. absurd (let no : ends.NoMemory ≡ ends.OpenFailed = is in cc);
       read_failed = λ is. absurd (let no : ends.NoMemory ≡ ends.ReadFailed = is in cc);

@@ -6,6 +6,7 @@ pub mod Status
 pub mod Written
 pub mod EarlyEnds
 pub mod Endings
+pub mod Storage
 pub mod Dump
 pub mod Mounted
 pub mod Outside

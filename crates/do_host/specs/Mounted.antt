@@ -1,33 +1,53 @@
 -- The slots of a folder that were mounted and aren't served.
-use Rattle.std.specs.Prelude.{◌≡◌, ◌<◌, ◌++◌, ◌∷◌, ℕ, List, [], length, slice_get, Option, Some}
-use Rattle.batch_journal.specs.Rest.{disk_in}
-use Rattle.batch_journal.specs.declared.mount.Mounted.{Mounted}
+use Rattle.std.specs.Prelude.{◌≡◌, ◌<◌, ◌⊎◌, ℕ, List, length, Option, Some}
+use Rattle.batch_journal.specs.declared.read_stored.ReadFault.{ReadFault}
+use Rattle.batch_journal.specs.declared.read_stored.ReadFault.TheVariants as fault
+use Rattle.do_disk.specs.Disk.{Rose}
 use Rattle.host_core.specs.Begun.{AreFreeFrom}
 use Rattle.host_core.specs.Opening.{StopsOpening}
 use Rattle.host_core.specs.declared.opening.OpenEnd.{OpenEnd}
+use Rattle.host_core.specs.declared.opening.OpenEnd.TheVariants.{Failed, BadSlot, NoMemory}
 use Rattle.host_core.specs.declared.report.Report.{Report}
 use Rattle.host_core.specs.declared.report.SlotReport.{SlotReport}
+use Rattle.host_core.specs.declared.settings.Bad.{Bad}
+use Rattle.host_core.specs.declared.settings.Bad.TheVariants.{Damaged}
 use Rattle.placement.specs.Slots.{Slots, IsOneEach, object_at}
-use Rattle.storage_map.specs.Contents.{Contents}
-use Rattle.timeline.specs.Logs.{fronted, backed}
-use Rattle.do_host.specs.Dump.{AreIdleRows, Contains, no_back, no_front}
+use Rattle.storage_map.specs.Limits.{Object}
+use Rattle.do_host.specs.Dump.{AreContents, AreIdleRows, Contains, HasNoValue, IsIdleRow, IsUnread}
+use Rattle.do_host.specs.Storage.{Storage}
 
 -- The first slots were mounted, which have these objects: a row of each, and what the storage of each contains. The others have none yet.
-pub record AreMounted {S : Type 0} (left_since : S → ℕ → List ℕ → Type 0) (contents : ℕ → Option (List ℕ)) (named : Slots)
-    (rows : List (SlotReport S)) (ms : List Contents) : Type 0 where
+pub record AreMounted {S : Type 0} (told : S → Option (List ℕ)) (left_since : S → ℕ → List ℕ → Type 0) (contents : ℕ → Option (List ℕ)) (named : Slots)
+    (rows : List (SlotReport S)) (storages : List Storage) : Type 0 where
   pub idle : AreIdleRows left_since contents named rows
-  pub many : length ms ≡ length rows
-  pub each : (slot : ℕ) (m : Contents) → slice_get ms slot ≡ Some m → Contains (contents slot) (object_at named slot) m
+  pub many : length storages ≡ length rows
+  pub each : AreContents told contents named rows storages
   pub free : AreFreeFrom (length rows) named
 
 -- So many were, and that is all.
-pub record AllMounted {S : Type 0} (left_since : S → ℕ → List ℕ → Type 0) (contents : ℕ → Option (List ℕ)) (slots : ℕ)
-    (rows : List (SlotReport S)) (ms : List Contents) : Type 0 where
+pub record AllMounted {S : Type 0} (told : S → Option (List ℕ)) (left_since : S → ℕ → List ℕ → Type 0) (contents : ℕ → Option (List ℕ)) (slots : ℕ)
+    (rows : List (SlotReport S)) (storages : List Storage) : Type 0 where
   pub named : Slots
   pub all_slots : length named ≡ slots
   pub one_each : IsOneEach named
-  pub mounted : AreMounted left_since contents named rows ms
+  pub mounted : AreMounted told left_since contents named rows storages
   pub all_rows : length rows ≡ slots
+
+-- Why opening stops at a slot that was mounted, of which a value wasn't read: its disk, which is kept, failed; or bytes of it are no value; or
+-- memory was wanting.
+pub record StopsReading {S : Type 0} (told : S → Option (List ℕ)) (left_since : S → ℕ → List ℕ → Type 0) (faults_of : S → ℕ) (content : Option (List ℕ))
+    (named : Option Object) (slot : ℕ) (unopened : Option S) (end : OpenEnd) : Type 0 where
+  pub disk : S
+  pub kept : unopened ≡ Some disk
+  pub unread : IsUnread left_since content named disk
+  pub failed : end ≡ Failed → Rose 0 (faults_of disk)
+  pub bad : (bad : Bad) → end ≡ BadSlot bad → HasNoValue told slot bad disk
+
+-- how opening ends whose slot's values aren't read for this fault
+abbrev pub reading_end : ℕ → ReadFault → OpenEnd
+reading_end slot fault.DiskFailed = Failed
+reading_end slot (fault.BadValue place) = BadSlot (Damaged slot place)
+reading_end slot fault.NoMemory = NoMemory
 
 -- Fewer were, and that is why it stops.
 pub record StopsMounting {S : Type 0} (told : S → Option (List ℕ)) (image : S → List ℕ → Type 0) (moment_of : S → ℕ)
@@ -39,19 +59,11 @@ pub record StopsMounting {S : Type 0} (told : S → Option (List ℕ)) (image : 
   pub idle : AreIdleRows left_since contents named report.slots.items
   pub fewer : length report.slots.items < slots
   pub stops : StopsOpening told image moment_of left_since faults_of contents named (length report.slots.items) faults faults_after report.unopened end
+      ⊎ StopsReading told left_since faults_of (contents (length report.slots.items)) (object_at named (length report.slots.items))
+      (length report.slots.items) report.unopened end
 
--- A row that was made of what was mounted.
-pub record IsRowOf {S : Type 0} (mounted : Mounted S) (row : SlotReport S) (m : Contents) : Type 0 where
-  pub store : row.store ≡ disk_in mounted.journal
-  pub identity : row.identity ≡ mounted.identity
-  pub front : fronted row.front ≡ no_front
-  pub back : backed row.back ≡ no_back
-  pub map : m ≡ mounted.map
-
--- A row of what was mounted was put behind the others, and what its storage contains behind that of the others.
-pub record PutsRow {S : Type 0} (mounted : Mounted S) (rows rows_after : List (SlotReport S)) (ms ms_after : List Contents) : Type 0 where
-  pub row : SlotReport S
-  pub m : Contents
-  pub made : IsRowOf mounted row m
-  pub rows_are : rows_after ≡ rows ++ row ∷ []
-  pub ms_are : ms_after ≡ ms ++ m ∷ []
+-- The row of a slot that was mounted and read, and what its storage contains.
+pub record IsReadRow {S : Type 0} (told : S → Option (List ℕ)) (left_since : S → ℕ → List ℕ → Type 0) (content : Option (List ℕ)) (named : Option Object)
+    (row : SlotReport S) (storage : Storage) : Type 0 where
+  pub idle : IsIdleRow left_since content named row
+  pub contains : Contains content (told row.store) named storage

@@ -1,38 +1,37 @@
 //! What slots have, as lines.
 ghost use Rattle.std.specs.Prelude.{◌≡◌, ◌⊎◌, ◌<◌, ◌^◌, ℕ, List, Err, IfOk, OnErr, IsErrOf, length, map, option_map};
-ghost use Rattle.std.specs.FinMap.{entries};
 ghost use Rattle.do_disk.specs.Disk.{Rose};
 ghost use Rattle.do_host.specs.Dump.{alarm_text, dump_text, pairs_text, slots_text};
 ghost use Rattle.do_host.specs.Written.{Writes};
 
 use crate::run_end::RunEnd;
 use crate::slot_lines::{alarm_line, object_line, pair_line};
+use crate::stored::Stored;
 use do_disk::Sink;
-use do_value::Mem;
+use do_value::{Mem, Value};
 use host_core::SlotReport;
 use line_server::put;
 use std::alloc::Global;
-use storage_cache::Cache;
-use storage_map::{Alarm, Identity, Map, Options};
+use storage_map::{Alarm, Identity, Key};
 
 // Writes what each slot has, from slot 0 on.
 pub(crate) fn dump_slots<S, W: Sink>(
     alloc: Global,
     rows: &[SlotReport<S>],
-    maps: Vec<Map>,
+    storages: Vec<Stored>,
     out: &mut W,
 ) -> Result<(), RunEnd>
-    requires many { length rows.now ≡ length maps.items }
-    requires few { length maps.items < 2 ^ 32 }
-    ensures writes { Writes (W.taken out.old) (W.taken out.new) (slots_text 0 (map (λ row. row.identity) rows.now) maps.items) result }
+    requires many { length rows.now ≡ length storages.items }
+    requires few { length storages.items < 2 ^ 32 }
+    ensures writes { Writes (W.taken out.old) (W.taken out.new) (slots_text 0 (map (λ row. row.identity) rows.now) storages.items) result }
     ensures stop { OnErr result ((result ≡ Err RunEnd.WriteFailed) ⊎ (result ≡ Err RunEnd.NoMemory)) }
     ensures failed { IsErrOf result RunEnd.WriteFailed → Rose (W.faults_of out.old) (W.faults_of out.new) }
     ensures steady { (IsErrOf result RunEnd.WriteFailed → ⊥) → W.faults_of out.new ≡ W.faults_of out.old }
 {
     let mut slot: u32 = 0;
-    for map in maps {
+    for stored in storages {
         let object = rows[slot as usize].identity.as_ref();
-        dump(alloc, slot, object, map, out)?;
+        dump(alloc, slot, object, stored, out)?;
         slot += 1;
     }
     Ok(())
@@ -43,10 +42,10 @@ fn dump<W: Sink>(
     alloc: Global,
     slot: u32,
     object: Option<&Identity>,
-    map: Map,
+    stored: Stored,
     out: &mut W,
 ) -> Result<(), RunEnd>
-    ensures writes { Writes (W.taken out.old) (W.taken out.new) (dump_text slot (option_map (λ object. object.now) object.entry) map) result }
+    ensures writes { Writes (W.taken out.old) (W.taken out.new) (dump_text slot (option_map (λ object. object.now) object.entry) stored) result }
     ensures stop { OnErr result ((result ≡ Err RunEnd.WriteFailed) ⊎ (result ≡ Err RunEnd.NoMemory)) }
     ensures failed { IsErrOf result RunEnd.WriteFailed → Rose (W.faults_of out.old) (W.faults_of out.new) }
     ensures steady { (IsErrOf result RunEnd.WriteFailed → ⊥) → W.faults_of out.new ≡ W.faults_of out.old }
@@ -54,30 +53,27 @@ fn dump<W: Sink>(
     let Some(object) = object else {
         return Ok(());
     };
-    let alarm = map.alarm();
-    let cache = Cache::new(map);
+    let Stored { pairs, alarm } = stored;
     put_line(object_line(alloc, slot, object), out)?;
-    dump_pairs(alloc, slot, &cache, out)?;
+    dump_pairs(alloc, slot, pairs, out)?;
     dump_alarm(alloc, slot, alarm, out)
 }
 
-// Writes the pairs, ascending by key.
-fn dump_pairs<W: Sink>(alloc: Global, slot: u32, cache: &Cache, out: &mut W) -> Result<(), RunEnd>
-    ensures writes { Writes (W.taken out.old) (W.taken out.new) (pairs_text slot (entries cache.now.values)) result }
+// Writes the pairs, in their order.
+fn dump_pairs<W: Sink>(
+    alloc: Global,
+    slot: u32,
+    pairs: Vec<(Key, Value)>,
+    out: &mut W,
+) -> Result<(), RunEnd>
+    ensures writes { Writes (W.taken out.old) (W.taken out.new) (pairs_text slot pairs.items) result }
     ensures stop { OnErr result ((result ≡ Err RunEnd.WriteFailed) ⊎ (result ≡ Err RunEnd.NoMemory)) }
     ensures failed { IsErrOf result RunEnd.WriteFailed → Rose (W.faults_of out.old) (W.faults_of out.new) }
     ensures steady { (IsErrOf result RunEnd.WriteFailed → ⊥) → W.faults_of out.new ≡ W.faults_of out.old }
 {
-    let all = Options {
-        start: None,
-        after: None,
-        end: None,
-        prefix: None,
-        reverse: false,
-        limit: None,
-    };
-    for (key, value) in cache.range(&all) {
-        put_line(pair_line(alloc, slot, key, value), out)?;
+    for pair in pairs {
+        let (key, value) = pair;
+        put_line(pair_line(alloc, slot, key.as_str(), &value), out)?;
     }
     Ok(())
 }

@@ -12,6 +12,7 @@ mod run_end;
 mod script;
 mod script_lines;
 mod slot_lines;
+mod stored;
 
 pub use host_core::{Report, SlotReport};
 pub use mailbox::SwitchLog;

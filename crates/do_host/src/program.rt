@@ -191,7 +191,7 @@ fn check_script<P: Depot, R: Source, W: Sink>(
     }
 }
 
-// Mounts the slots, prints what each has once all are mounted, and tells the end.
+// Mounts and reads the slots, prints what each has once all are read, and tells the end.
 fn run_dump<P: Depot, R: Source, W: Sink>(
     alloc: Global,
     folder: &str,
@@ -211,8 +211,8 @@ fn run_dump<P: Depot, R: Source, W: Sink>(
 {
     let mut out = out;
     match mount_slots(alloc, folder, slots, depot, report) {
-        Ok(maps) => {
-            let printed = dump_slots(alloc, report.slots.as_slice(), maps, &mut out);
+        Ok(storages) => {
+            let printed = dump_slots(alloc, report.slots.as_slice(), storages, &mut out);
             end_served(alloc, dump_end(printed), input, out)
         }
         Err(end) => end_served(alloc, opening_end(end), input, out),

@@ -1,5 +1,5 @@
 -- What a turn takes is one item of an intake, or none, and its class stays what it was.
-use Rattle.std.proofs.Common.{◌≡◌, ◌∙◌, ap, sym, subst, inl, inr, ℕ, true, false, List, [], ◌∷◌, ◌++◌, append_assoc, true≢false}
+use Rattle.std.proofs.Common.{◌≡◌, ◌∙◌, ap, sym, subst, inl, inr, ℕ, true, List, [], ◌∷◌, ◌++◌, append_assoc, true≢false}
 use Rattle.std.proofs.lemmas.List.{append_cancel_left}
 use Rattle.do_tree.specs.Tree.{Script}
 use Rattle.timeline.specs.Intake.{FitsMode, Taken, noticed, delivered, wanted}

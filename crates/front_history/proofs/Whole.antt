@@ -1,5 +1,5 @@
 -- What a front that goes on has said is whole where it waits for no notice.
-use Rattle.std.proofs.Common.{◌≡◌, ◌∙◌, ap, subst, ℕ, suc, false, List, [], ◌++◌, ◌-◌, append-nil, arith}
+use Rattle.std.proofs.Common.{◌≡◌, ◌∙◌, ap, subst, ℕ, suc, false, List, [], ◌++◌, append-nil, arith}
 use Rattle.std.specs.List.{flat_map}
 use Rattle.storage_map.specs.Contents.{Contents}
 use Rattle.timeline.specs.Headline.{IsPrefix, parts_of}

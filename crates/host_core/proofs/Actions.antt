@@ -39,10 +39,10 @@ not_true true other = absurd (other refl)
 not_true false other = refl
 
 -- A step that answers that there is nothing to do.
-pub idle_by : {D : Type 0} (moment_of : D → ℕ) (told : D → Option (List ℕ)) (faults_of : D → ℕ) (script : Script) (old new : Core D) (choice : Choice) (before result : Result Bool NoMemory)
-    → before ≡ Ok false → Steps moment_of told faults_of script old new choice result → result ≡ Ok false → IsIdle script old new choice before
-idle_by moment_of told faults_of script old new choice before result none steps is =
-    let last = subst (λ (r : Result Bool NoMemory). Steps moment_of told faults_of script old new choice r) is steps in
+pub idle_by : {D : Type 0} (moment_of : D → ℕ) (told : D → Option (List ℕ)) (image : D → List ℕ → Type 0) (faults_of : D → ℕ) (script : Script) (old new : Core D) (choice : Choice) (before result : Result Bool NoMemory)
+    → before ≡ Ok false → Steps moment_of told image faults_of script old new choice result → result ≡ Ok false → IsIdle script old new choice before
+idle_by moment_of told image faults_of script old new choice before result none steps is =
+    let last = subst (λ (r : Result Bool NoMemory). Steps moment_of told image faults_of script old new choice r) is steps in
     record {
       none_before = none;
       same = (last.nothing refl).1;

@@ -2,6 +2,7 @@
 use Rattle.std.proofs.Common.{◌≡◌, ◌≤◌, ◌∙◌, ap, sym, subst, refl, ℕ, true, List, [], length, Option, Some, Ok, Err, Result}
 use Rattle.std.specs.Prelude.{IfErr, slice_get}
 use Rattle.do_disk.specs.Disk.{IfTold}
+use Rattle.do_disk.specs.Slots.{most_slots}
 use Rattle.do_tree.specs.Tree.{Script}
 use Rattle.line_server.specs.Lines.{IsReading, source_of}
 use Rattle.line_server.specs.declared.lines.Lines.{Lines}
@@ -47,7 +48,7 @@ module _ {D : Type 0} (moment_of : D → ℕ) (left_since : D → ℕ → List �
   module _ {R W : Type 0} (left : R → Option (List ℕ)) (read_faults : R → ℕ) (taken : W → Option (List ℕ)) (write_faults : W → ℕ) (ran : Ran D R W) where
     -- The workers ran over halves that were just mounted, with a switch that had done nothing and a reader that had read nothing.
     abbrev pub came_from : (all : List (Halves D)) (switch : Switch W) (lines : Lines R) (input : R)
-        → AreBegun moment_of left_since told image faults_of limit script contents named all → length named ≡ length all → length all ≤ 256
+        → AreBegun moment_of left_since told image faults_of limit script contents named all → length named ≡ length all → length all ≤ most_slots
         → state_of switch ≡ opened named → log_of switch ≡ no_log → source_of lines ≡ input → IfTold (left input) (λ whole. IsReading left whole [] lines)
         → HasRun moment_of left_since told image faults_of left read_faults taken write_faults script all switch lines ran
         → CameFrom moment_of left_since told image faults_of left read_faults taken write_faults limit script contents named ran

@@ -34,9 +34,9 @@ gave_none core inbox = record {
   out = refl;
 }
 
-module _ {D : Type 0} (moment_of : D → ℕ) (told : D → Option (List ℕ)) (faults_of : D → ℕ) (script : Script) (a b c : Core D) (i j k : Both Event) (event : Event) (step : Result Bool NoMemory) where
+module _ {D : Type 0} (moment_of : D → ℕ) (told : D → Option (List ℕ)) (image : D → List ℕ → Type 0) (faults_of : D → ℕ) (script : Script) (a b c : Core D) (i j k : Both Event) (event : Event) (step : Result Bool NoMemory) where
   abbrev Given : Result Bool NoMemory → Type 0
-  Given = Steps moment_of told faults_of script b c (Give event)
+  Given = Steps moment_of told image faults_of script b c (Give event)
 
   pub gave_more : (did : Bool) → step ≡ Ok did → GaveSoFar a b i j → Took j k event → Given step → GaveSoFar a c i k
   gave_more did is gave took stepped =

@@ -3,6 +3,7 @@ use Rattle.std.proofs.Common.{◌≡◌, ◌≢◌, ◌+◌, ◌<◌, ⊎_elim, 
 use Rattle.std.specs.Prelude.{IfErr, IfOk, IfSome, IsSome, OnErr, OnOk}
 use Rattle.std.proofs.lemmas.Bool.{cases_lt}
 use Rattle.std.proofs.lemmas.List.{take-append-drop}
+use Rattle.std.proofs.lemmas.Option.{slice_get_within}
 use Rattle.std.proofs.lemmas.List.FromFn.{map-range_with_len_more, take-map-range_with_len}
 use Rattle.batch_journal.specs.Moments.{LeavesOnly}
 use Rattle.batch_journal.specs.Mounting.{ImageOrHeader, IsMountOf}
@@ -18,7 +19,7 @@ use Rattle.host_core.proofs.Pushed.{push_before, push_last, push_within}
 use Rattle.host_core.specs.Begun.{AreBegun, HasBegun, IsMountedAt, IsNotTaken, OnlyAt}
 use Rattle.host_core.specs.Opening.{Asks, IsBad, IsRefused, LeavesHanded, StopsOpening, slot_asks}
 use Rattle.host_core.specs.declared.opening.OpenEnd.{OpenEnd}
-use Rattle.host_core.specs.declared.opening.OpenEnd.TheVariants.{BadSlot}
+use Rattle.host_core.specs.declared.opening.OpenEnd.TheVariants.{BadSlot, NoMemory}
 use Rattle.host_core.specs.declared.settings.Bad.{Bad}
 use Rattle.host_core.specs.declared.settings.Bad.TheVariants.{Twice}
 
@@ -67,6 +68,13 @@ module _ {D : Type 0} (moment_of : D → ℕ) (left_since : D → ℕ → List �
       (subst (λ (x : Halves D). HasBegun moment_of left_since told image faults_of limit script (contents slot) (object_at after slot) x)
       (push_last old halves that at last is) begun))
       (cases_lt at (length old))
+
+  -- the halves, where the next slot isn't opened
+  pub begun_below : (contents : ℕ → Option (List ℕ)) (named after : Slots) (old : List (Halves D)) (slot : ℕ) → length old ≡ slot → OnlyAt slot named after
+      → AreBegun moment_of left_since told image faults_of limit script contents named old → AreBegun moment_of left_since told image faults_of limit script contents after old
+  begun_below contents named after old slot many only are = λ at that is.
+      let other : at ≢ slot = λ same. omega (arith, same, slice_get_within old at that is, many) in
+      subst (λ (object : Option Object). HasBegun moment_of left_since told image faults_of limit script (contents at) object that) (sym (only.others at other)) (are at that is)
 
 -- what was mounted and kept its object
 mounted_at : {D : Type 0} (told : D → Option (List ℕ)) (image : D → List ℕ → Type 0) (moment_of : D → ℕ) (left_since : D → ℕ → List ℕ → Type 0)
@@ -128,6 +136,27 @@ stopped_adopting told image moment_of left_since faults_of disk mounted (Ok valu
 stopped_adopting told image moment_of left_since faults_of disk mounted (Err end) content slot old named unopened faults later first content_is mount leaves kept same why = λ contents is.
     stops_adopting told image moment_of left_since contents named slot disk mounted (content_is ∙ is) mount faults_of faults later unopened end first leaves kept
     (subst (λ (slots : Slots). IsNotTaken slots slot mounted.identity end) (sym same) why)
+
+-- memory was wanting for the halves of what was mounted
+pub stopped_beginning : {S : Type 0} (told : S → Option (List ℕ)) (image : S → List ℕ → Type 0) (moment_of : S → ℕ) (left_since : S → ℕ → List ℕ → Type 0) (faults_of : S → ℕ)
+    (contents : ℕ → Option (List ℕ)) (named : Slots) (slot faults later : ℕ) (disk left : S) → disk ≡ left → LeavesHanded told image moment_of left_since (contents slot) left
+    → StopsOpening told image moment_of left_since faults_of contents named slot faults later (Some disk) NoMemory
+stopped_beginning {S} told image moment_of left_since faults_of contents named slot faults later disk left same leaves = record {
+  failed = λ is. absurd cc;
+  bad = λ bad is. absurd cc;
+  handed = subst (λ (d : S). LeavesHanded told image moment_of left_since (contents slot) d) (sym same) leaves;
+  untouched = λ bad is refused. absurd cc;
+}
+
+-- what was handed out and mounted
+pub was_handed : {D : Type 0} (told : D → Option (List ℕ)) (image : D → List ℕ → Type 0) (moment_of : D → ℕ) (left_since : D → ℕ → List ℕ → Type 0)
+    (disk : D) (mounted : Mounted D) (result : Result (Mounted D) OpenEnd) (content : Option (List ℕ)) → moment_of disk ≡ 0 → told disk ≡ content
+    → IfOk result (λ adopted. adopted ≡ mounted) → LeavesOnly moment_of left_since disk (disk_in mounted.journal) (ImageOrHeader (told disk) (image disk))
+    → IfOk result (λ adopted. LeavesHanded told image moment_of left_since content (disk_in adopted.journal))
+was_handed {D} told image moment_of left_since disk mounted (Ok adopted) content first content_is same leaves =
+    subst (λ (m : Mounted D). LeavesHanded told image moment_of left_since content (disk_in m.journal)) (sym same)
+    (record { handed = disk; first = first; content_is = content_is; leaves = leaves })
+was_handed told image moment_of left_since disk mounted (Err end) content first content_is same leaves = tt
 
 -- the answer is what was mounted
 pub was_mounted : {D : Type 0} (told : D → Option (List ℕ)) (image : D → List ℕ → Type 0) (moment_of : D → ℕ) (left_since : D → ℕ → List ℕ → Type 0)

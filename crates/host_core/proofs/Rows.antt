@@ -31,7 +31,8 @@ use Rattle.front_half.specs.declared.half.Half.{Half}
 use Rattle.output_gate.proofs.Written.{written_history}
 use Rattle.output_gate.specs.Storing.{IsDiskOf}
 use Rattle.output_gate.specs.Telling.{HasTold, opened_map}
-use Rattle.output_gate.specs.Written.{AreFilled, MayBe}
+use Rattle.output_gate.specs.Kept.{MayBe}
+use Rattle.output_gate.specs.Written.{AreFilled}
 use Rattle.placement.specs.Slots.{Slots, object_at}
 use Rattle.storage_map.specs.Limits.{Object}
 use Rattle.timeline.specs.Headline.{IsHistory, IsPrefix}

@@ -54,7 +54,8 @@ pub record IsMountedAt {D : Type 0} (moment_of : D → ℕ) (left_since : D → 
   pub limited : limit_of mounted.journal ≡ limit
 
 -- The halves of a slot that was just mounted, whose file had this content, and which names this object; its journal may have so many bytes.
-pub record HasBegun {D : Type 0} (moment_of : D → ℕ) (left_since : D → ℕ → List ℕ → Type 0) (told : D → Option (List ℕ)) (image : D → List ℕ → Type 0) (faults_of : D → ℕ)
+pub record HasBegun {D : Type 0} (moment_of : D → ℕ) (left_since : D → ℕ → List ℕ → Type 0) (told : D → Option (List ℕ)) (image : D → List ℕ → Type 0)
+    (faults_of : D → ℕ)
     (limit : ℕ) (script : Script) (content : Option (List ℕ)) (named : Option Object) (halves : Halves D) : Type 0 where
   pub start : List (List Op)
   pub opening : ℕ

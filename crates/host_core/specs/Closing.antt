@@ -28,25 +28,31 @@ use Rattle.host_core.specs.Slots.{IsGoing, IsResting, IsSlot}
 use Rattle.host_core.specs.declared.report.SlotReport.{SlotReport}
 
 -- The row tells of this object, whichever slot it stands in.
-abbrev pub IsRowOf : {D : Type 0} (moment_of : D → ℕ) (left_since : D → ℕ → List ℕ → Type 0) (told : D → Option (List ℕ)) (image : D → List ℕ → Type 0) (faults_of : D → ℕ)
+abbrev pub IsRowOf : {D : Type 0} (moment_of : D → ℕ) (left_since : D → ℕ → List ℕ → Type 0) (told : D → Option (List ℕ)) (image : D → List ℕ → Type 0)
+    (faults_of : D → ℕ)
     → Core D → SlotReport D → Type 0
 IsRowOf moment_of left_since told image faults_of core row = (limit : ℕ) (script : Script) (content : Option (List ℕ)) (named : Option Object)
-    (posts : List Event) (routed : List Message) (inbox : Both Event) (out : Both Message) → IsSlot moment_of left_since told image faults_of limit script content named posts routed core inbox out
+    (posts : List Event) (routed : List Message) (inbox : Both Event) (out : Both Message)
+    → IsSlot moment_of left_since told image faults_of limit script content named posts routed core inbox out
     → IsRow moment_of left_since told faults_of limit script content named posts routed row
 
 -- The halves of each slot from this one on are those of an object that stands by what was posted to the slot and routed from it.
-abbrev pub AreHalves : {D : Type 0} (moment_of : D → ℕ) (left_since : D → ℕ → List ℕ → Type 0) (told : D → Option (List ℕ)) (image : D → List ℕ → Type 0) (faults_of : D → ℕ)
+abbrev pub AreHalves : {D : Type 0} (moment_of : D → ℕ) (left_since : D → ℕ → List ℕ → Type 0) (told : D → Option (List ℕ)) (image : D → List ℕ → Type 0)
+    (faults_of : D → ℕ)
     → (limit : ℕ) → Script → (contents : ℕ → Option (List ℕ)) → (named : Slots) → SwitchLog → (from : ℕ) → List (Halves D) → Type 0
-AreHalves {D} moment_of left_since told image faults_of limit script contents named log from apart = (at : ℕ) (halves : Halves D) → slice_get apart at ≡ Some halves
+AreHalves {D} moment_of left_since told image faults_of limit script contents named log from apart = (at : ℕ) (halves : Halves D)
+    → slice_get apart at ≡ Some halves
     → (core : Core D) × (inbox : Both Event) × (out : Both Message) × (core.front ≡ halves.front) × (core.back ≡ halves.back)
     × IsSlot moment_of left_since told image faults_of limit script (contents (from + at)) (object_at named (from + at))
     (of_slot (from + at) log.posts) (of_slot (from + at) log.routed) core inbox out
 
 -- Where the object goes on and rests, and none of its messages waits to be routed, the row tells that nothing of it is held back.
-abbrev pub IsLetGoOf : {D : Type 0} (moment_of : D → ℕ) (left_since : D → ℕ → List ℕ → Type 0) (told : D → Option (List ℕ)) (image : D → List ℕ → Type 0) (faults_of : D → ℕ)
+abbrev pub IsLetGoOf : {D : Type 0} (moment_of : D → ℕ) (left_since : D → ℕ → List ℕ → Type 0) (told : D → Option (List ℕ)) (image : D → List ℕ → Type 0)
+    (faults_of : D → ℕ)
     → Core D → SlotReport D → Type 0
 IsLetGoOf moment_of left_since told image faults_of core row = (limit : ℕ) (script : Script) (content : Option (List ℕ)) (named : Option Object)
-    (posts : List Event) (routed : List Message) (inbox : Both Event) (out : Both Message) → IsGoing moment_of left_since told image faults_of limit script content named posts routed core inbox out
+    (posts : List Event) (routed : List Message) (inbox : Both Event) (out : Both Message)
+    → IsGoing moment_of left_since told image faults_of limit script content named posts routed core inbox out
     → IsResting script core inbox → out.waiting ≡ [] → IsLetGo told script named routed row
 
 -- A front that waits for no answer of its back has left this.
@@ -66,17 +72,20 @@ pub record AddsLeft (slot : ℕ) (front : Half Evaluated) (asked : Result (Unit 
 
 -- A slot with an object of a class that the script has, or with none, is quiet while its disk tells its content; or its front stands still at an
 -- answer to what it didn't ask. One with an object of another class is as it was where nothing was posted to it.
-pub record IsSettledUnless {D : Type 0} (told : D → Option (List ℕ)) (limit : ℕ) (script : Script) (content : Option (List ℕ)) (named : Option Object) (posts : List Event)
+pub record IsSettledUnless {D : Type 0} (told : D → Option (List ℕ)) (limit : ℕ) (script : Script) (content : Option (List ℕ)) (named : Option Object)
+    (posts : List Event)
     (routed : List Message) (remaining : List (Caller × Waits)) (row : SlotReport D) : Type 0 where
   pub known : IsTold (told row.store) → HasItsClass script named
       → IsGivenUnasked (fronted row.front) posts ⊎ IsSettled limit script content named posts routed remaining row
   pub unknown : IsTold (told row.store) → IsOfNoClass script named → posts ≡ [] → IsUntouched posts routed remaining row
 
 -- So does the row of this object tell, where it goes on and rests, none of its messages waits to be routed, and its front has left this.
-abbrev pub IsSettledOf : {D : Type 0} (moment_of : D → ℕ) (left_since : D → ℕ → List ℕ → Type 0) (told : D → Option (List ℕ)) (image : D → List ℕ → Type 0) (faults_of : D → ℕ)
+abbrev pub IsSettledOf : {D : Type 0} (moment_of : D → ℕ) (left_since : D → ℕ → List ℕ → Type 0) (told : D → Option (List ℕ)) (image : D → List ℕ → Type 0)
+    (faults_of : D → ℕ)
     → Core D → SlotReport D → Type 0
 IsSettledOf moment_of left_since told image faults_of core row = (limit : ℕ) (script : Script) (content : Option (List ℕ)) (named : Option Object)
-    (posts : List Event) (routed : List Message) (inbox : Both Event) (out : Both Message) → IsGoing moment_of left_since told image faults_of limit script content named posts routed core inbox out
+    (posts : List Event) (routed : List Message) (inbox : Both Event) (out : Both Message)
+    → IsGoing moment_of left_since told image faults_of limit script content named posts routed core inbox out
     → IsResting script core inbox → out.waiting ≡ [] → (remaining : List (Caller × Waits)) → IsLeftOf core.front.half remaining
     → IsSettledUnless told limit script content named posts routed remaining row
 

@@ -16,8 +16,10 @@ use Rattle.host_core.specs.declared.report.SlotReport.{SlotReport}
 -- posted was dropped, a tick or an eviction only where a mounting had failed, and an answer only where its incarnation had ended, or where one to the
 -- same call or fetch was delivered. While all disks tell their content there is none such, of any slot: an answer was dropped only where its incarnation had
 -- ended; and to a slot with an object of another class nothing was posted.
-pub record AreDropsOnly {S : Type 0} (told : S → Option (List ℕ)) (script : Script) (named : Slots) (log : SwitchLog) (rows : List (SlotReport S)) : Type 0 where
+pub record AreDropsOnly {S : Type 0} (told : S → Option (List ℕ)) (script : Script) (named : Slots) (log : SwitchLog)
+    (rows : List (SlotReport S)) : Type 0 where
   pub each : (slot : ℕ) (row : SlotReport S) → slice_get rows slot ≡ Some row
       → HasItsClass script (object_at named slot) → IsTold (told row.store) → DropsOnly (of_slot slot log.posts) (fronted row.front) row.back.downs.items
-  pub answers : RowsTell told rows → (slot : ℕ) (row : SlotReport S) → slice_get rows slot ≡ Some row → All (IsOfEnded (fronted row.front)) (fronted row.front).dropped
+  pub answers : RowsTell told rows → (slot : ℕ) (row : SlotReport S) → slice_get rows slot ≡ Some row
+      → All (IsOfEnded (fronted row.front)) (fronted row.front).dropped
   pub unposted : RowsTell told rows → (slot : ℕ) → IsOfNoClass script (object_at named slot) → of_slot slot log.posts ≡ []

@@ -14,7 +14,8 @@ use Rattle.host_core.specs.declared.settings.ServeEnd.TheVariants.{WriteFailed}
 
 -- The lines of what is left are logged and written, all of them where the run ends as is wanted, and else the first of them; the sink's count
 -- of faults rose exactly where a write failed.
-pub record Finishes {W : Type 0} (taken : W → Option (List ℕ)) (faults : W → ℕ) (old new : Switch W) (left : List (ℕ × Caller × Waits)) (wanted end : ServeEnd) : Type 0 where
+pub record Finishes {W : Type 0} (taken : W → Option (List ℕ)) (faults : W → ℕ) (old new : Switch W) (left : List (ℕ × Caller × Waits))
+    (wanted end : ServeEnd) : Type 0 where
   pub whole : is_served end ≡ true → (end ≡ wanted) × (log_of new ≡ gave (log_of old) (finished_by (state_of old) left))
   pub begun : Begins (log_of old) (log_of new) (finished_by (state_of old) left)
   pub written : end ≢ WriteFailed → Writes (taken (out_of old)) (taken (out_of new)) (lines_of old) (lines_of new)

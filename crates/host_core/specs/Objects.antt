@@ -21,7 +21,8 @@ pub record AllSlots {D : Type 0} (P : ℕ → Core D → Both Event → Both Mes
       → slice_get objects.inboxes.items slot ≡ Some inbox → slice_get objects.outs.items slot ≡ Some out → P slot core inbox out
 
 -- An object can run in each slot.
-abbrev pub CanAllRun : {D : Type 0} (moment_of : D → ℕ) (left_since : D → ℕ → List ℕ → Type 0) (told : D → Option (List ℕ)) (image : D → List ℕ → Type 0) (faults_of : D → ℕ)
+abbrev pub CanAllRun : {D : Type 0} (moment_of : D → ℕ) (left_since : D → ℕ → List ℕ → Type 0) (told : D → Option (List ℕ)) (image : D → List ℕ → Type 0)
+    (faults_of : D → ℕ)
     → Script → Objects D → Type 0
 CanAllRun moment_of left_since told image faults_of script = AllSlots (λ slot core inbox out. CanRun moment_of left_since told image faults_of script core)
 
@@ -30,11 +31,13 @@ module _ {D : Type 0} (moment_of : D → ℕ) (left_since : D → ℕ → List �
   -- Each slot stands by what was posted to it and routed from it; and as long as memory suffices it goes on.
   abbrev pub AreSlots : (contents : ℕ → Option (List ℕ)) (named : Slots) → SwitchLog → Objects D → Type 0
   AreSlots contents named log = AllSlots (λ slot core inbox out.
-      IsSlot moment_of left_since told image faults_of limit script (contents slot) (object_at named slot) (of_slot slot log.posts) (of_slot slot log.routed) core inbox out)
+      IsSlot moment_of left_since told image faults_of limit script (contents slot) (object_at named slot) (of_slot slot log.posts)
+      (of_slot slot log.routed) core inbox out)
 
   abbrev pub AreGoing : (contents : ℕ → Option (List ℕ)) (named : Slots) → SwitchLog → Objects D → Type 0
   AreGoing contents named log = AllSlots (λ slot core inbox out.
-      IsGoing moment_of left_since told image faults_of limit script (contents slot) (object_at named slot) (of_slot slot log.posts) (of_slot slot log.routed) core inbox out)
+      IsGoing moment_of left_since told image faults_of limit script (contents slot) (object_at named slot) (of_slot slot log.posts)
+      (of_slot slot log.routed) core inbox out)
 
 -- Each slot rests.
 abbrev pub AreResting : {D : Type 0} → Script → Objects D → Type 0

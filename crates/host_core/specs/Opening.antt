@@ -56,7 +56,8 @@ IsRefused (Twice a b) = ⊥
 IsRefused other = ⊤
 
 -- Why opening stops at this slot, and its disk, where it was handed out. Only a foreign, damaged or mixed file is as it was for sure.
-pub record StopsOpening {S : Type 0} (told : S → Option (List ℕ)) (image : S → List ℕ → Type 0) (moment_of : S → ℕ) (left_since : S → ℕ → List ℕ → Type 0) (faults_of : S → ℕ)
+pub record StopsOpening {S : Type 0} (told : S → Option (List ℕ)) (image : S → List ℕ → Type 0) (moment_of : S → ℕ) (left_since : S → ℕ → List ℕ → Type 0)
+    (faults_of : S → ℕ)
     (contents : ℕ → Option (List ℕ)) (named : Slots) (at : ℕ) (faults faults_after : ℕ) (unopened : Option S) (end : OpenEnd) : Type 0 where
   pub failed : end ≡ Failed → Rose faults faults_after ⊎ HasFailedDisk faults_of unopened
   pub bad : (bad : Bad) → end ≡ BadSlot bad → IsBad contents named at bad × IsSome unopened

@@ -89,7 +89,8 @@ pub record IsUntouched {S : Type 0} (posts : List Event) (routed : List Message)
   pub left : remaining ≡ []
 
 -- So a slot rests, by the class of its object at the opening.
-pub record IsSettledSlot {S : Type 0} (limit : ℕ) (script : Script) (content : Option (List ℕ)) (named : Option Object) (posts : List Event) (routed : List Message)
+pub record IsSettledSlot {S : Type 0} (limit : ℕ) (script : Script) (content : Option (List ℕ)) (named : Option Object) (posts : List Event)
+    (routed : List Message)
     (remaining : List (Caller × Waits)) (row : SlotReport S) : Type 0 where
   pub known : HasItsClass script named → IsSettled limit script content named posts routed remaining row
   pub unknown : IsOfNoClass script named → IsUntouched posts routed remaining row

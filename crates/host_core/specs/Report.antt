@@ -2,6 +2,7 @@
 use Rattle.std.specs.Prelude.{◌≡◌, ◌≢◌, ◌⊎◌, ◌<◌, ◌≤◌, ℕ, true, List, [], ◌++◌, length, take, Option, None, IfSome, IsSome, option_map, ⊤}
 use Rattle.do_disk.specs.Asks.{Ask}
 use Rattle.do_disk.specs.Disk.{IfTold, Rose}
+use Rattle.do_disk.specs.Slots.{most_slots}
 use Rattle.do_tree.specs.Tree.{Script}
 use Rattle.mailbox.specs.Left.{finished_by}
 use Rattle.mailbox.specs.Seen.{seen_log}
@@ -32,7 +33,7 @@ use Rattle.host_core.specs.declared.settings.Settings.{Settings}
 -- The numbers of the settings lie in their ranges.
 pub record AreInRange (settings : Settings) : Type 0 where
   pub some_slot : 1 ≤ settings.slots
-  pub slots : settings.slots ≤ 256
+  pub slots : settings.slots ≤ most_slots
   pub some_worker : 1 ≤ settings.workers
   pub workers : settings.workers ≤ 16
   pub header : 4096 ≤ settings.journal
@@ -115,7 +116,8 @@ pub record LeavesUnopened {S : Type 0} (told : S → Option (List ℕ)) (image :
       → IfSome report.unopened (LeavesFile left_since (contents (length report.slots.items)))
 
 -- Each answer has its cause: a count of faults that rose.
-pub record HasCause {S : Type 0} (faults_of : S → ℕ) (depot depot_after source source_after sink sink_after : ℕ) (end : ServeEnd) (report : Report S) : Type 0 where
+pub record HasCause {S : Type 0} (faults_of : S → ℕ) (depot depot_after source source_after sink sink_after : ℕ) (end : ServeEnd)
+    (report : Report S) : Type 0 where
   pub open_failed : end ≡ ends.OpenFailed → Rose depot depot_after ⊎ HasFailedDisk faults_of report.unopened
   pub read_failed : end ≡ ends.ReadFailed → Rose source source_after
   pub write_failed : end ≡ ends.WriteFailed → Rose sink sink_after

@@ -1,6 +1,7 @@
 -- What the workers have left, as the run goes on from it.
 use Rattle.std.specs.Prelude.{◌≡◌, ◌≢◌, ◌≤◌, ℕ, List, [], length, replicate, Option, Result, Err, OnOk}
 use Rattle.do_disk.specs.Disk.{IfTold, Rose}
+use Rattle.do_disk.specs.Slots.{most_slots}
 use Rattle.do_tree.specs.Tree.{Script}
 use Rattle.lane.specs.Lanes.{Both}
 use Rattle.line_server.specs.Lines.{IsReading, count_of, source_of}
@@ -39,7 +40,7 @@ module _ {D R W : Type 0} (moment_of : D → ℕ) (left_since : D → ℕ → Li
     pub lines : Lines R
     pub begun : AreBegun moment_of left_since told image faults_of limit script contents named all
     pub many : length named ≡ length all
-    pub few : length all ≤ 256
+    pub few : length all ≤ most_slots
     pub objects : state_of switch ≡ opened named
     pub blank : log_of switch ≡ no_log
     pub reading : IfTold (left (source_of lines)) (λ whole. IsReading left whole [] lines)
@@ -59,7 +60,8 @@ module _ {D R W : Type 0} (moment_of : D → ℕ) (left_since : D → ℕ → Li
     pub outs : objects.outs.items ≡ replicate (length objects.cores.items) unused
 
   -- All lines that were read are served, or the run has stopped: what it has accepted, printed and read since the workers began.
-  pub record ServesOn (first : Switch W) (reader : Lines R) (lines : Lines R) (switch : Switch W) (objects : Objects D) (result : Result (Unit {0}) Stop) : Type 0 where
+  pub record ServesOn (first : Switch W) (reader : Lines R) (lines : Lines R) (switch : Switch W) (objects : Objects D)
+      (result : Result (Unit {0}) Stop) : Type 0 where
     pub serving : OnOk result (IsServing moment_of left_since told image faults_of limit script contents named switch objects)
     pub read_serving : result ≡ Err stops.ReadFailed → IsServing moment_of left_since told image faults_of limit script contents named switch objects
     pub served : HasServed moment_of left_since told image faults_of limit script contents named switch objects

@@ -20,7 +20,8 @@ use Rattle.object_messages.specs.Ends.{TellNoEnd}
 use Rattle.object_messages.specs.Unmoved.{AreAnswers}
 use Rattle.output_gate.specs.Kept.{RecoversTo}
 use Rattle.output_gate.specs.Telling.{HasTold, opened_map}
-use Rattle.output_gate.specs.Written.{AreFilled, MayBe}
+use Rattle.output_gate.specs.Kept.{MayBe}
+use Rattle.output_gate.specs.Written.{AreFilled}
 use Rattle.placement.specs.Slots.{Slots, object_at}
 use Rattle.storage_map.specs.Limits.{Object}
 use Rattle.timeline.specs.Headline.{IsHistory, IsPrefix}
@@ -65,7 +66,8 @@ RecoversAsOpened left_since origin row = (c : List ℕ) → left_since row.store
 -- what was posted fits, no call and no binding of it was dropped; and an object of no class of the script, to which nothing but answers was
 -- posted, asked nothing. Over any disk: an end by a full journal names this number of bytes, and tells more than these.
 pub record IsRow {S : Type 0} (moment_of : S → ℕ) (left_since : S → ℕ → List ℕ → Type 0) (told : S → Option (List ℕ)) (faults_of : S → ℕ)
-    (limit : ℕ) (script : Script) (content : Option (List ℕ)) (named : Option Object) (posts : List Event) (routed : List Message) (row : SlotReport S) : Type 0 where
+    (limit : ℕ) (script : Script) (content : Option (List ℕ)) (named : Option Object) (posts : List Event) (routed : List Message)
+    (row : SlotReport S) : Type 0 where
   pub origin : Origin
   pub begun : IsBegun limit content named origin
   pub object : IsObjectIn named row

@@ -19,7 +19,8 @@ use Rattle.host_core.specs.declared.serving.Stop.{Stop}
 use Rattle.host_core.specs.declared.serving.Stop.TheVariants as stops
 use Rattle.host_core.specs.declared.objects.Objects.{Objects}
 
-module _ {D W : Type 0} (moment_of : D → ℕ) (left_since : D → ℕ → List ℕ → Type 0) (told : D → Option (List ℕ)) (image : D → List ℕ → Type 0) (faults_of : D → ℕ)
+module _ {D W : Type 0} (moment_of : D → ℕ) (left_since : D → ℕ → List ℕ → Type 0) (told : D → Option (List ℕ)) (image : D → List ℕ → Type 0)
+    (faults_of : D → ℕ)
     (limit : ℕ) (script : Script) where
   -- Between two steps, as long as nothing has failed: the switch's log is a run from the objects that the slots had, and each slot goes on.
   pub record IsServing (contents : ℕ → Option (List ℕ)) (named : Slots) (switch : Switch W) (objects : Objects D) : Type 0 where
@@ -38,7 +39,8 @@ module _ {D W : Type 0} (moment_of : D → ℕ) (left_since : D → ℕ → List
     pub slots : AreSlots moment_of left_since told image faults_of limit script contents named (log_of switch) objects
     pub there : AreThere (length named) (log_of switch)
 
-module _ {D W : Type 0} (moment_of : D → ℕ) (left_since : D → ℕ → List ℕ → Type 0) (told : D → Option (List ℕ)) (image : D → List ℕ → Type 0) (faults_of : D → ℕ)
+module _ {D W : Type 0} (moment_of : D → ℕ) (left_since : D → ℕ → List ℕ → Type 0) (told : D → Option (List ℕ)) (image : D → List ℕ → Type 0)
+    (faults_of : D → ℕ)
     (script : Script) where
   -- Where it serves, it does so again.
   abbrev pub KeepsServing : (old new : Switch W) → (before after : Objects D) → Type 0

@@ -29,7 +29,8 @@ pub record IsBegun (limit : ℕ) (content : Option (List ℕ)) (named : Option O
 
 -- The object is one; what was posted to the slot went to the object before it had this queue, or into its queue, and the first of it to the object;
 -- what was routed from the slot was taken of the object before, or came out of its queue, into which the first of what left went.
-pub record IsSlot {D : Type 0} (moment_of : D → ℕ) (left_since : D → ℕ → List ℕ → Type 0) (told : D → Option (List ℕ)) (image : D → List ℕ → Type 0) (faults_of : D → ℕ)
+pub record IsSlot {D : Type 0} (moment_of : D → ℕ) (left_since : D → ℕ → List ℕ → Type 0) (told : D → Option (List ℕ)) (image : D → List ℕ → Type 0)
+    (faults_of : D → ℕ)
     (limit : ℕ) (script : Script) (content : Option (List ℕ)) (named : Option Object) (posts : List Event) (routed : List Message)
     (core : Core D) (inbox : Both Event) (out : Both Message) : Type 0 where
   pub origin : Origin
@@ -43,7 +44,8 @@ pub record IsSlot {D : Type 0} (moment_of : D → ℕ) (left_since : D → ℕ �
   pub handed : StartsWith (sent_on core.out) (taken_before ++ sent_on out)
 
 -- As long as memory suffices, all that was taken out of either queue went on.
-pub record IsGoing {D : Type 0} (moment_of : D → ℕ) (left_since : D → ℕ → List ℕ → Type 0) (told : D → Option (List ℕ)) (image : D → List ℕ → Type 0) (faults_of : D → ℕ)
+pub record IsGoing {D : Type 0} (moment_of : D → ℕ) (left_since : D → ℕ → List ℕ → Type 0) (told : D → Option (List ℕ)) (image : D → List ℕ → Type 0)
+    (faults_of : D → ℕ)
     (limit : ℕ) (script : Script) (content : Option (List ℕ)) (named : Option Object) (posts : List Event) (routed : List Message)
     (core : Core D) (inbox : Both Event) (out : Both Message) : Type 0 where
   pub origin : Origin

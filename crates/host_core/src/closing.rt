@@ -2,6 +2,7 @@
 ghost use Rattle.std.specs.Prelude.{◌≡◌, ◌≤◌, ◌+◌, ◌++◌, ◌∷◌, ℕ, List, OnOk, Option, [], length, vec_len};
 ghost use Rattle.std.specs.List.{All};
 ghost use Rattle.std.specs.Vec.{vec_capacity};
+ghost use Rattle.do_disk.specs.Slots.{most_slots};
 ghost use Rattle.do_tree.specs.Tree.{Script};
 ghost use Rattle.timeline.specs.Switch.{SwitchLog};
 ghost use Rattle.placement.specs.Slots.{Slots};
@@ -40,7 +41,7 @@ pub(crate) fn close<D: Disk + Drop>(
     requires none { rows.old.items ≡ [] }
     requires none_left { left.old.items ≡ [] }
     requires can { (script : Script) × CanAllRun D.moment_of D.left_since D.told D.image D.faults_of script objects }
-    requires few { length objects.cores.items ≤ 256 }
+    requires few { length objects.cores.items ≤ most_slots }
     ensures rows { (limit : ℕ) (script : Script) (contents : ℕ → Option (List ℕ)) (named : Slots) (log : SwitchLog)
         → AreSlots D.moment_of D.left_since D.told D.image D.faults_of limit script contents named log objects
         → AreRows D.moment_of D.left_since D.told D.faults_of limit script contents named log rows.new.items }

@@ -2,6 +2,7 @@
 ghost use Rattle.std.specs.Prelude.{◌≡◌, ◌≢◌, ◌≤◌, ◌+◌, ℕ, List, [], true, false, Option, None, Err, IfErr, IfOk, OnErr, OnOk, length, string_bytes, vec_len};
 ghost use Rattle.std.specs.Vec.{vec_capacity};
 ghost use Rattle.do_disk.specs.Disk.{Rose};
+ghost use Rattle.do_disk.specs.Slots.{most_slots};
 ghost use Rattle.do_tree.specs.Checked.{tree_of as script_in};
 ghost use Rattle.line_server.specs.Lines.{source_of};
 ghost use Rattle.placement.specs.Slots.{IsOneEach, Slots};
@@ -173,7 +174,7 @@ fn serve_slots<
     requires settings { AreInRange settings.now }
     requires empty { report.old.slots.items ≡ [] }
     requires room { (vec_len report.old.slots + length slots.items ≤ vec_capacity report.old.slots) × HasRoom (length slots.items) queues }
-    requires few { length slots.items ≤ 256 }
+    requires few { length slots.items ≤ most_slots }
     requires many { length directory ≡ length slots.items }
     requires begun { (limit : ℕ) × (contents : ℕ → Option (List ℕ))
         × AreBegun D.moment_of D.left_since D.told D.image D.faults_of limit (script_in checked.now) contents directory slots.items }

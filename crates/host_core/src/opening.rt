@@ -11,7 +11,7 @@ ghost use Rattle.storage_map.specs.Limits.{Object};
 ghost use Rattle.object_core.specs.One.{class_in};
 ghost use Rattle.placement.specs.Slots.{IsOneEach, Slots, object_at};
 ghost use Rattle.host_core.specs.Begun.{AreBegun, AreFreeFrom, HasBegun, IsMountedAt, IsNotTaken, OnlyAt, mounting_end};
-ghost use Rattle.host_core.specs.Opening.{Asks, StopsOpening, slot_asks};
+ghost use Rattle.host_core.specs.Opening.{Asks, LeavesHanded, StopsOpening, slot_asks};
 
 use crate::settings::{Bad, Settings};
 use batch_journal::{Journal, MountFault, Mounted};
@@ -81,7 +81,7 @@ fn push_halves<D>(slots: &mut Vec<Halves<D>>, halves: Halves<D>)
     slots.push(halves).unwrap();
 }
 
-// Mounts one slot and makes the halves of its object. Where that stops, its disk is kept, if it was handed out, and the slot has no object.
+// Mounts one slot and makes the halves of its object. Where that stops, its disk is kept, if it was handed out.
 fn open_slot<P: Depot>(
     alloc: Global,
     checked: &Checked,
@@ -104,7 +104,6 @@ fn open_slot<P: Depot>(
         → P.slot_at depot.new (string_bytes settings.now.folder) other ≡ P.slot_at depot.old (string_bytes settings.now.folder) other }
     ensures steady { OnOk result (P.faults_of depot.new ≡ P.faults_of depot.old) }
     ensures none_left { OnOk result (unopened.new ≡ None) }
-    ensures same { OnErr result (directory.new ≡ directory.old) }
     ensures stop { IfErr result (λ end. (contents : ℕ → Option (List ℕ)) → P.slot_at depot.old (string_bytes settings.now.folder) slot ≡ contents slot
         → StopsOpening P.Store.told P.Store.image P.Store.moment_of P.Store.left_since P.Store.faults_of
         contents directory.new slot (P.faults_of depot.old) (P.faults_of depot.new) unopened.new end) }
@@ -118,7 +117,13 @@ fn open_slot<P: Depot>(
         directory,
         unopened,
     )?;
-    Ok(begin(alloc, checked, mounted))
+    match begin(alloc, checked, mounted) {
+        Ok(halves) => Ok(halves),
+        Err(disk) => {
+            *unopened = Some(disk);
+            Err(OpenEnd::NoMemory)
+        }
+    }
 }
 
 /// Mounts one slot of the folder, and gives it the object that its frames name. `journal` is how many bytes its journal may have. Where
@@ -138,6 +143,8 @@ pub fn mount_slot<P: Depot>(
     requires none_left { unopened.old ≡ None }
     ensures mounted { IfOk result (IsMountedAt P.Store.moment_of P.Store.left_since P.Store.told P.Store.image journal
         (P.slot_at depot.old folder.now slot) (object_at directory.new slot)) }
+    ensures handed { IfOk result (λ mounted. LeavesHanded P.Store.told P.Store.image P.Store.moment_of P.Store.left_since
+        (P.slot_at depot.old folder.now slot) (disk_in mounted.journal)) }
     ensures only { OnlyAt slot directory.old directory.new }
     ensures asked { Asks (P.asked depot.old) (P.asked depot.new) (for_slot folder.now slot ∷ []) }
     ensures all_asked { OnOk result (P.asked depot.new ≡ P.asked depot.old ++ for_slot folder.now slot ∷ []) }
@@ -231,7 +238,6 @@ fn adopt<D: Disk + Drop>(
             let Mounted {
                 journal,
                 identity: _identity,
-                map: _map,
                 index: _index,
             } = mounted;
             *unopened = Some(journal.into_disk());
@@ -265,17 +271,23 @@ fn take_in(identity: Option<&Identity>, slot: u32, directory: &mut Directory) ->
     }
 }
 
-// The halves of what was mounted.
-fn begin<D: Disk>(alloc: Global, checked: &Checked, mounted: Mounted<D>) -> Halves<D>
+// The halves of what was mounted. For want of memory it hands the disk back.
+fn begin<D: Disk>(alloc: Global, checked: &Checked, mounted: Mounted<D>) -> Result<Halves<D>, D>
     requires { (object : Object) → IsStaged mounted.journal object [] }
-    ensures { (limit : ℕ) (content : Option (List ℕ)) (named : Option Object) → IsMountedAt D.moment_of D.left_since D.told D.image limit content named mounted
-        → HasBegun D.moment_of D.left_since D.told D.image D.faults_of limit (script_in checked.now) content named result }
+    ensures halves { IfOk result (λ halves. (limit : ℕ) (content : Option (List ℕ)) (named : Option Object)
+        → IsMountedAt D.moment_of D.left_since D.told D.image limit content named mounted
+        → HasBegun D.moment_of D.left_since D.told D.image D.faults_of limit (script_in checked.now) content named halves) }
+    ensures disk { IfErr result (λ disk. disk ≡ disk_in mounted.journal) }
 {
     let class = class_of(checked, mounted.identity.as_ref());
-    let front = Front::new(alloc, checked, class, mounted.map.alarm());
-    let back = Back::new(alloc, mounted);
-    laws::halves_are_fresh(&back);
-    Halves { front, back }
+    let front = Front::new(alloc, checked, class, mounted.index.alarm());
+    match Back::new(alloc, mounted) {
+        Ok(back) => {
+            laws::halves_are_fresh(&back);
+            Ok(Halves { front, back })
+        }
+        Err(disk) => Err(disk),
+    }
 }
 
 // The number of the class of the slot's object, where it has an object of one.

@@ -6,7 +6,7 @@ use storage_map::Identity;
 pub struct Settings {
     /// The folder of the slots.
     pub folder: String,
-    /// How many slots there are, 1 to 256.
+    /// How many slots there are, 1 to [`do_disk::MOST_SLOTS`].
     pub slots: u32,
     /// How many threads work, 1 to 16.
     pub workers: u32,

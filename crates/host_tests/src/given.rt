@@ -41,10 +41,18 @@ fn script_of(given: &Json) -> &str {
     }
 }
 
+// The script's bytes, where it is given in pieces.
+fn text_of(alloc: Global, given: &Json) -> Result<Vec<u8>, Fail> {
+    match given.get("text").and_then(Json::as_array) {
+        Some(pieces) => bytes_of(alloc, pieces.as_slice()),
+        None => Ok(script_of(given).as_bytes().to_vec(alloc)?),
+    }
+}
+
 /// The script at the path s, and a disk for each file, or for the first so many of them.
 pub(crate) fn depot_of(alloc: Global, given: &Json, files: &[Vec<u8>]) -> Result<MemDepot, Fail> {
     let path = String::from_str(alloc, "s")?;
-    let text = script_of(given).as_bytes().to_vec(alloc)?;
+    let text = text_of(alloc, given)?;
     let disks = disks_for(alloc, given, files)?;
     Ok(MemDepot::new(vec![in alloc; (path, text)]?, disks))
 }
@@ -110,9 +118,8 @@ fn add_lines(alloc: Global, input: &mut Vec<u8>, line: &Json) -> Result<(), Fail
 fn add_line(alloc: Global, input: &mut Vec<u8>, line: &Json) -> Result<(), Fail> {
     match line.get("raw").and_then(Json::as_array) {
         Some(pieces) => {
-            for piece in pieces.as_slice() {
-                add_piece(alloc, input, piece)?;
-            }
+            let bytes = bytes_of(alloc, pieces.as_slice())?;
+            input.extend_from_slice(&bytes)?;
         }
         None => {
             let text = line.to_string(alloc)?;
@@ -123,7 +130,20 @@ fn add_line(alloc: Global, input: &mut Vec<u8>, line: &Json) -> Result<(), Fail>
     Ok(())
 }
 
-// A text as it stands, so many letters, or the bytes of a record `{"hex": ..}`.
+// The bytes of pieces.
+fn bytes_of(alloc: Global, pieces: &[Json]) -> Result<Vec<u8>, Fail> {
+    let mut bytes = Vec::new(alloc);
+    for piece in pieces {
+        let times = number_of(piece, "times").unwrap_or(1);
+        let one = piece.get("piece").unwrap_or(piece);
+        for _ in 0..times {
+            add_piece(alloc, &mut bytes, one)?;
+        }
+    }
+    Ok(bytes)
+}
+
+// A text as it stands, so many letters, or the bytes of a record `{"hex": ..}`. A record `{"times": n, "piece": PIECE}` is that piece so many times.
 fn add_piece(alloc: Global, input: &mut Vec<u8>, piece: &Json) -> Result<(), Fail> {
     match (piece.as_str(), piece.get("hex").and_then(Json::as_str)) {
         (Some(text), _) => input.extend_from_slice(text.as_bytes())?,

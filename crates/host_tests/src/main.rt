@@ -2,6 +2,8 @@
 //! it, but for those of the workers.
 #![tactic(auto)]
 
+mod counts;
+mod each;
 mod given;
 mod requests;
 mod runs;
@@ -39,7 +41,7 @@ impl Drop for State {
 // `part NAME`
 fn choose(alloc: Global, state: &mut State, name: &str) -> Result<String, Fail> {
     state.part = match name {
-        "host" => Part::Host,
+        "host" | "devices" | "stops" | "journals" | "texts" | "lines" | "streams" => Part::Host,
         "workers" => Part::Workers,
         _ => Err("no part")?,
     };
@@ -56,6 +58,7 @@ fn answer_host<T: Threads + Wait + Copy + Send + Sync>(
     let answered = match word(row, 0) {
         "lines" => requests::answer(alloc, row, &mut line),
         "print" => requests::answer_print(alloc, row, &mut line),
+        "each" => each::answer(rt, alloc, runs, row, &mut line),
         _ => runs::answer(rt, alloc, runs, row, &mut line),
     };
     answered?;

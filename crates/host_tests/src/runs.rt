@@ -1,5 +1,6 @@
 //! Runs over the disks of some slots, one after the other, with crashes between them.
-use crate::given::{depot_of, sink_of, source_of, tell_bytes, tell_sorted};
+use crate::counts;
+use crate::given::{depot_of, number_of, sink_of, source_of, tell_bytes, tell_sorted};
 use do_disk::{HoldGate, MemDisk, MemSink, MemSource, Pick};
 use do_host::{Ran, Report, run};
 use serde_json::Value as Json;
@@ -48,7 +49,7 @@ fn no_files(alloc: Global) -> Result<Vec<Vec<u8>>, Fail> {
     Ok(files)
 }
 
-/// `file HEX SLOT` makes the slot's file, `empty` makes all empty, `run WORDS GIVEN` runs over them, and `crash PICK` or `keep PICK`
+/// `file HEX SLOT CHANGE` makes the slot's file, `empty` makes all empty, `run WORDS GIVEN` runs over them, and `crash PICK` or `keep PICK`
 /// makes them what a crash after that run leaves. Slot 0's file is told in hexadecimal behind `crash`.
 pub(crate) fn answer<T: Threads + Wait + Copy + Send + Sync>(
     rt: &T,
@@ -75,11 +76,31 @@ pub(crate) fn answer<T: Threads + Wait + Copy + Send + Sync>(
 }
 
 fn set_file(alloc: Global, runs: &mut Runs, row: &Json) -> Result<(), Fail> {
-    let bytes = hex::decode(alloc, word(row, 1).as_bytes())?;
+    let mut bytes = hex::decode(alloc, word(row, 1).as_bytes())?;
+    if let Some(change) = row.get(3) {
+        change_bytes(&mut bytes, change);
+    }
     if let Some(file) = runs.files.get_mut(count(row, 2) as usize) {
         *file = bytes;
     }
     Ok(())
+}
+
+// `{"cut": n}` leaves the first n bytes, `{"turn": p}` turns the lowest bit of the byte at p, and `{"open": p}` makes that byte A5.
+fn change_bytes(bytes: &mut Vec<u8>, change: &Json) {
+    if let Some(left) = number_of(change, "cut") {
+        bytes.truncate(left as usize);
+    }
+    if let Some(at) = number_of(change, "turn") {
+        if let Some(byte) = bytes.get_mut(at as usize) {
+            *byte ^= 1;
+        }
+    }
+    if let Some(at) = number_of(change, "open") {
+        if let Some(byte) = bytes.get_mut(at as usize) {
+            *byte = 0xa5;
+        }
+    }
 }
 
 fn pick_of(row: &Json) -> Pick {
@@ -156,6 +177,7 @@ fn tell_run<T: Threads + Wait + Copy + Send + Sync>(
     } else {
         tell_end(alloc, &ran, &report, line);
     }
+    counts::tell(given, &report, line);
     runs.disks = disks_of(alloc, report)?;
     Ok(())
 }

@@ -4,7 +4,6 @@ use Rattle.std.proofs.lemmas.Bool.{cases_eq}
 use Rattle.std.specs.Prelude.{Bool, true, false, not, ◌&&◌, ◌⊎◌, option_to_list, is_some, Result, Ok, Err}
 use Rattle.std.specs.List.{Contains}
 use Rattle.do_value.specs.declared.fault.NoMemory.{NoMemory}
-use Rattle.storage_map.specs.Contents.{Contents}
 use Rattle.storage_map.specs.Limits.{Object}
 use Rattle.storage_map.specs.declared.op.Op.{Op}
 use Rattle.timeline.specs.Logs.{Backed, backed}
@@ -29,8 +28,8 @@ use Rattle.output_gate.specs.declared.back.Back.{Back}
 use Rattle.output_gate.specs.Written.{FindsEnd}
 use Rattle.output_gate.specs.declared.back.Ending.{Ending}
 use Rattle.output_gate.specs.declared.back.Mode.TheVariants.{Mounted, Wanted}
-use Rattle.object_history.specs.Seen.{stand_of}
-use Rattle.object_core.proofs.Due.{is_due}
+use Rattle.output_gate.specs.Serving.{alarm_of}
+use Rattle.object_core.proofs.Due.{alarm_due}
 use Rattle.object_core.proofs.Knowing.{knows_enters, knows_still}
 use Rattle.object_core.proofs.Limiting.{limited_as_before, limited_enters, limited_flush, limited_noted, limited_release, limited_remounts, limited_stays, never_mends}
 use Rattle.object_core.proofs.Naming.{named_enters, named_still}
@@ -311,9 +310,9 @@ module _ {D : Type 0} (moment_of : D → ℕ) (left_since : D → ℕ → List �
 pub begins_alone : {D : Type 0} (moment_of : D → ℕ) (left_since : D → ℕ → List ℕ → Type 0) (told : D → Option (List ℕ)) (image : D → List ℕ → Type 0) (faults_of : D → ℕ)
     (start : List (List Op)) (opening : ℕ) (back : Back D) → IsFresh back → IsBack moment_of left_since told image faults_of start opening back → HasLimit back.limit back.store
     → (got : List Entry) (notices : List Notice) (out : List Sent) → got ≡ [] → notices ≡ [] → out ≡ []
-    → IsBackAlone moment_of left_since told image faults_of start opening back.identity (extent_of back) back.cache.alarm back got notices out
+    → IsBackAlone moment_of left_since told image faults_of start opening back.identity (extent_of back) (alarm_of back) back got notices out
 begins_alone moment_of left_since told image faults_of start opening back fresh known has got notices out no_entry no_notice no_message =
-    alone_by moment_of left_since told image faults_of start opening back.identity (extent_of back) back.cache.alarm back got notices out
+    alone_by moment_of left_since told image faults_of start opening back.identity (extent_of back) (alarm_of back) back got notices out
     (begins_back moment_of left_since told image faults_of start opening back fresh known got notices out no_entry no_notice no_message) (inl refl)
     (record {
       kept = refl;
@@ -323,10 +322,9 @@ begins_alone moment_of left_since told image faults_of start opening back fresh 
           written_fresh moment_of left_since told image faults_of start opening (not (is_stopped back)) back back.limit (end_in back.store) fresh.log known (λ journal is. sym (ap end_in is));
     })
     (λ tells.
-    ap (λ (m : Contents). m.alarm)
-    (is_due moment_of left_since told image faults_of start opening back tells.0 tells.1 tells.2 known fresh.serves
-    (ap stand_of (is_mounted moment_of left_since told image faults_of start opening back fresh known _ known))
-    ∙ ap (λ (x : Backed). due_map (opened_map start) x) fresh.log))
+    sym (alarm_due moment_of left_since told image faults_of start opening back tells.0 tells.1 tells.2 known fresh.serves
+    (is_mounted moment_of left_since told image faults_of start opening back fresh known _ known))
+    ∙ ap (λ (x : Backed). (due_map (opened_map start) x).alarm) fresh.log)
     (λ fit. ap (λ (x : Backed). known_over (is_some back.identity) x.taken) (sym fresh.log)) (λ is on. absurd (true≢false (sym is ∙ fresh.free)))
   where
     none_has : {A : Type 0} (stop : Stop) → back.log.stops.items ≡ [] → Contains back.log.stops.items stop → A

@@ -4,11 +4,10 @@ use Rattle.std.proofs.lemmas.Bool.{cases_eq}
 use Rattle.std.proofs.lemmas.List.{map-append}
 use Rattle.std.specs.Prelude.{Bool, true, false, not, ◌&&◌, ◌⊎◌, option_to_list, Result, Ok, Err, OnOk, OnErr}
 use Rattle.do_value.specs.declared.fault.NoMemory.{NoMemory}
-use Rattle.batch_journal.specs.Moments.{IsTold}
+use Rattle.storage_map.specs.Contents.{Contents}
 use Rattle.storage_map.specs.declared.op.Op.{Op}
 use Rattle.timeline.specs.Logs.{Backed, backed}
 use Rattle.timeline.specs.declared.back_log.Release.{Release}
-use Rattle.timeline.specs.declared.caller.Cause.{Cause}
 use Rattle.timeline.specs.declared.entry.Entry.{Entry}
 use Rattle.timeline.specs.declared.message.Message.{Message as Sent}
 use Rattle.timeline.specs.declared.notice.Notice.{Notice}
@@ -16,12 +15,12 @@ use Rattle.timeline.specs.declared.notice.Stepped.{Stepped}
 use Rattle.timeline.specs.declared.notice.Stepped.TheVariants.{Did, Nothing}
 use Rattle.output_gate.proofs.Stored.{still_tells}
 use Rattle.output_gate.proofs.Unfit.{unfit_log, unfit_holds, unfit_mode, unfit_before, fit_taken, released_still}
-use Rattle.output_gate.specs.Entering.{Enters, Failed, IsIdle, LosesEntry, Takes, is_unfit, notice_at}
+use Rattle.output_gate.specs.Entering.{Enters, Failed, IsIdle, LosesEntry, Takes, is_unfit, notice_with}
 use Rattle.output_gate.specs.Flushing.{Flushes}
 use Rattle.output_gate.specs.Mending.{IsIdleMend, LosesMend, Mends, Remounts, may_mend}
 use Rattle.output_gate.specs.Releasing.{IsIdleRelease, Releases, Stays, may_release, released_log, released_messages, released_notices}
 use Rattle.output_gate.specs.Serving.{IsAsBefore, IsBack, KeepsBack, StopsBy, is_stopped}
-use Rattle.output_gate.specs.Storing.{IsDiskOf, KeepsDisk, KeepsTelling, ReadsDisk}
+use Rattle.output_gate.specs.Storing.{KeepsDisk, KeepsTelling, ReadsDisk}
 use Rattle.output_gate.specs.Written.{FindsEnd}
 use Rattle.output_gate.specs.Taking.{fit_of, may_take}
 use Rattle.output_gate.specs.Telling.{opened_map}
@@ -34,11 +33,11 @@ use Rattle.output_gate.specs.declared.held.HeldBody.TheVariants.{Message, Sync, 
 use Rattle.object_history.proofs.GateReleasing as releasing
 use Rattle.object_history.proofs.GateStepping as stepping
 use Rattle.object_history.proofs.GateTaking as taking
-use Rattle.object_history.specs.Pair.{mounted, wanted}
-use Rattle.object_history.specs.Seen.{rear_of, stand_of}
 use Rattle.object_history.specs.Stepping.{BackSteps}
+use Rattle.object_core.proofs.Due.{AnswersSo, alarm_due, alarm_released, answers_due, unfit_closes}
 use Rattle.object_core.proofs.Rebuilding.{seen_same}
 use Rattle.object_core.specs.One.{messages}
+use Rattle.object_core.specs.Seen.{due_map, seen_of}
 use Rattle.host_workers.proofs.Stepping.{disk_of, earlier, heard, none_is_few, one_is_few, silent_by, unheard_by, unseen_by}
 use Rattle.host_workers.specs.Backs.{IsBackOver}
 use Rattle.host_workers.specs.Runs.{Tells}
@@ -46,13 +45,6 @@ use Rattle.host_workers.specs.Runs.{Tells}
 pub free_of : (stuck waits few : Bool) → (not stuck && waits && few) ≡ true → stuck ≡ false
 free_of true waits few is = absurd cc
 free_of false waits few is = refl
-
-not_empty : {A : Type 0} (e : Entry) → e ∷ [] ≡ [] → A
-not_empty e is = absurd cc
-
--- a mounting that is wanted isn't there yet
-not_mounted : {A : Type 0} (c : Cause) → wanted c ≡ mounted → A
-not_mounted c is = absurd cc
 
 abbrev answer : Stepped → Result Stepped NoMemory
 answer stepped = Ok stepped
@@ -112,6 +104,10 @@ module _ {D : Type 0} (moment_of : D → ℕ) (left_since : D → ℕ → List �
   abbrev Known : Type 0
   Known = IsBack moment_of left_since told image faults_of start opening new
 
+  -- the map that is due
+  abbrev due_of : Back D → Contents
+  due_of back = due_map (opened_map start) (backed back.log)
+
   -- Nothing is done.
   idle : new ≡ old → later_got ≡ got → later ≡ notices → later_out ≡ out → After
   idle same took said left =
@@ -145,8 +141,8 @@ module _ {D : Type 0} (moment_of : D → ℕ) (left_since : D → ℕ → List �
 
     -- It isn't logged, and nothing else that is seen changes.
     unlogged : backed new.log ≡ backed old.log → new.held.items ≡ old.held.items → new.mode ≡ old.mode → new.before ≡ old.before → new.durable ≡ old.durable
-        → (new.stuck ≡ false → is_stopped new ≡ false → ⊥) → later ≡ notices → After
-    unlogged log held mode before durable bad said = record {
+        → new.closed ≡ old.closed → (new.stuck ≡ false → is_stopped new ≡ false → ⊥) → later ≡ notices → After
+    unlogged log held mode before durable closed bad said = record {
       stands = known;
       lost = e ∷ [];
       few = one_is_few;
@@ -155,7 +151,7 @@ module _ {D : Type 0} (moment_of : D → ℕ) (left_since : D → ℕ → List �
       left = left_as (ap (λ (x : Backed). x.released) log);
       tells = unseen_by moment_of left_since told image faults_of start opening old new one.stands known telling []
           (ap (λ (x : Backed). x.taken) log ∙ sym (append-nil old.log.taken.items)) notices later refl (λ goes. on)
-          (seen_same (opened_map start) old new log held mode before durable) said one.tells;
+          (seen_same (opened_map start) old new log held mode before durable closed) said one.tells;
     }
 
     unfit_enters : (failed : Failed) → Enters failed old new e → is_unfit (fit_of old e) ≡ true → later ≡ notices → After
@@ -163,7 +159,7 @@ module _ {D : Type 0} (moment_of : D → ℕ) (left_since : D → ℕ → List �
         unlogged (enters.log ∙ unfit_log (fit_of old e) (backed old.log) e is)
         (enters.held ∙ ap (λ (x : List BackHeld). old.held.items ++ x) (unfit_holds failed old e enters.may is) ∙ append-nil old.held.items)
         (enters.mode ∙ unfit_mode (fit_of old e) old.mode e.body is) (enters.before ∙ unfit_before (fit_of old e) old.before e.body is) enters.durable
-        (λ free goes. true≢false (sym is ∙ sym enters.stuck ∙ free)) said
+        (enters.closed ∙ unfit_closes failed old e enters.may is) (λ free goes. true≢false (sym is ∙ sym enters.stuck ∙ free)) said
 
     -- It is logged.
     logs : (failed : Failed) → Enters failed old new e → is_unfit (fit_of old e) ≡ false
@@ -180,23 +176,29 @@ module _ {D : Type 0} (moment_of : D → ℕ) (left_since : D → ℕ → List �
           tells = tells taken;
         }
 
+    -- What the front is told: what the map that is due answers.
+    abbrev heard_of : Failed → List Notice
+    heard_of failed = option_to_list (notice_with failed (fit_of old e) e (due_of old))
+
     steps_so : (failed : Failed) → Enters failed old new e → is_unfit (fit_of old e) ≡ false → may_take old ≡ true
-        → BackSteps (rear_of old) (rear_of new) (e ∷ []) (option_to_list (notice_at failed old e))
-    steps_so failed enters is may = taking.take_steps moment_of left_since told image faults_of start opening (not (is_stopped old)) old new one.stands may e failed enters is
+        → BackSteps (seen_of (opened_map start) old) (seen_of (opened_map start) new) (e ∷ []) (heard_of failed)
+    steps_so failed enters is may =
+        taking.take_steps moment_of left_since told image faults_of start opening (not (is_stopped old)) old new one.stands may e failed enters (due_of old) (due_of new) is
 
     -- It is taken, and the front is told.
     entered_as : (failed : Failed) (answered : Option Notice) (unfit : Bool) → is_unfit (fit_of old e) ≡ unfit → Enters failed old new e → may_take old ≡ true → is_stopped new ≡ false
         → later ≡ notices ++ option_to_list answered → (is_unfit (fit_of old e) ≡ true → answered ≡ None)
-        → ((disk : D) → IsDiskOf old.store disk → IsTold (told disk) → answered ≡ notice_at failed old e) → After
+        → AnswersSo told image old failed e answered → After
     entered_as failed answered true is enters may goes said none answers =
         unfit_enters failed enters is (said ∙ ap (λ (n : Option Notice). notices ++ option_to_list n) (none is) ∙ append-nil notices)
     entered_as failed answered false is enters may goes said none answers =
         logs failed enters is
-        (λ taken tells.
+        (λ taken. heard moment_of left_since told image faults_of start opening old new one.stands known telling (e ∷ []) taken notices later
+        (heard_of failed) on (λ tells. steps_so failed enters is may)
+        (λ tells.
         let before = earlier moment_of left_since told image faults_of start opening old new telling one.stands tells in
-        heard moment_of left_since told image faults_of start opening old new one.stands known telling (e ∷ []) taken notices later
-        (option_to_list (notice_at failed old e)) on goes (steps_so failed enters is may)
-        (said ∙ ap (λ (n : Option Notice). notices ++ option_to_list n) (answers before.0 before.1 before.2)) one.tells tells)
+        said ∙ ap (λ (n : Option Notice). notices ++ option_to_list n)
+        (answers_due moment_of left_since told image faults_of start opening old before.0 before.1 before.2 one.stands on failed e answered answers)) one.tells)
 
     -- It is taken, and what the front is told is lost.
     unheard_as : (failed : Failed) (unfit : Bool) → is_unfit (fit_of old e) ≡ unfit → Enters failed old new e → may_take old ≡ true → is_stopped new ≡ true → later ≡ notices → After
@@ -204,11 +206,11 @@ module _ {D : Type 0} (moment_of : D → ℕ) (left_since : D → ℕ → List �
     unheard_as failed false is enters may off said =
         logs failed enters is
         (λ taken. unheard_by moment_of left_since told image faults_of start opening old new one.stands known telling (e ∷ []) taken notices later
-        (option_to_list (notice_at failed old e)) on off (steps_so failed enters is may) (λ stand empty. not_empty e empty) said one.tells)
+        (heard_of failed) on off (steps_so failed enters is may) said one.tells)
 
     -- Memory was wanting.
     loses : may_take old ≡ true → is_stopped new ≡ true → (IsAsBefore old new ⊎ ((failed : Failed) × Enters failed old new e)) → later ≡ notices → After
-    loses may off (inl same) said = unlogged same.log same.held same.mode same.before same.durable (λ free goes. true≢false (sym off ∙ goes)) said
+    loses may off (inl same) said = unlogged same.log same.held same.mode same.before same.durable same.closed (λ free goes. true≢false (sym off ∙ goes)) said
     loses may off (inr (failed, enters)) said = unheard_as failed (is_unfit (fit_of old e)) refl enters may off said
 
   -- What the back's own contract says of a take.
@@ -216,7 +218,7 @@ module _ {D : Type 0} (moment_of : D → ℕ) (left_since : D → ℕ → List �
     pub stopped : is_stopped old ≡ true → OnOk result ⊥ × (new ≡ old) × (later_got ≡ got) × (later ≡ notices)
     pub barred : is_stopped old ≡ false → may_take old ≡ false → IsIdle old new got later_got notices later result
     pub nothing : result ≡ Ok Nothing → IsIdle old new got later_got notices later result
-    pub took : result ≡ Ok Did → Takes told old new got later_got notices later
+    pub took : result ≡ Ok Did → Takes told image old new got later_got notices later
     pub lost : is_stopped old ≡ false → OnErr result (LosesEntry old new got later_got notices later)
     pub stops : StopsBy result new
     pub disk : ReadsDisk told old.store new.store
@@ -249,9 +251,10 @@ module _ {D : Type 0} (moment_of : D → ℕ) (left_since : D → ℕ → List �
       let taken = flushed_taken faults_of old new flushes in
       no_entry known taken took (λ free on. one.none_lost (sym (flushed_stuck faults_of old new flushes) ∙ free) (sym stopped ∙ on))
       (ap messages (flushed_released faults_of old new flushes) ∙ one.left ∙ sym left)
-      (silent_by moment_of left_since told image faults_of start opening old new one.stands known telling [] (taken ∙ sym (append-nil old.log.taken.items)) notices later refl
+      (silent_by moment_of left_since told image faults_of start opening old new one.stands known telling [] (taken ∙ sym (append-nil old.log.taken.items)) notices later
       (λ on. sym stopped ∙ on)
-      (stepping.flush_steps moment_of left_since told image faults_of start opening (not (is_stopped old)) old new one.stands differ flushes) said one.tells)
+      (stepping.flush_steps moment_of left_since told image faults_of start opening (not (is_stopped old)) old new (due_of old) (due_of new) one.stands differ flushes) said
+      one.tells)
 
   pub flush_keeps : (result : Stepped) → later_got ≡ got → later ≡ notices → later_out ≡ out → (old.before ≡ old.durable → (result ≡ Nothing) × (new ≡ old))
       → (old.before ≢ old.durable → (result ≡ Did) × Flushes faults_of old new) → KeepsTelling told old.store new.store → is_stopped new ≡ is_stopped old
@@ -281,8 +284,14 @@ module _ {D : Type 0} (moment_of : D → ℕ) (left_since : D → ℕ → List �
       (ap (λ (x : Backed). messages x.released) log ∙ log_left old (moment_of disk.0) r.first r.first.body
       ∙ ap (λ (x : List Sent). x ++ released_messages r.first.body) one.left ∙ sym r.left)
       (heard moment_of left_since told image faults_of start opening old new one.stands known (still_tells told old.store new.store same_disk) []
-      (taken ∙ sym (append-nil old.log.taken.items)) notices later (released_notices old r.first.body) on goes
-      (releasing.release_steps moment_of left_since told image faults_of start opening (not (is_stopped old)) old new notices later out later_out one.stands r) r.told one.tells)
+      (taken ∙ sym (append-nil old.log.taken.items)) notices later (released_notices old r.first.body) on
+      (λ tells.
+      releasing.release_steps moment_of left_since told image faults_of start opening (not (is_stopped old)) old new (due_of old) (due_of new) notices later out later_out
+      one.stands r
+      (λ mounted.
+      alarm_due moment_of left_since told image faults_of start opening new tells.0 tells.1 tells.2 known goes (r.mode ∙ mounted)
+      ∙ alarm_released moment_of old new notices later out later_out r))
+      (λ tells. r.told) one.tells)
 
   released_as : is_stopped old ≡ false → Known → (result : Result Stepped NoMemory) → ReleasesBy result → After
   released_as on known (Ok Did) by = let_go on by.stops.good known by.disk by.line (by.released refl)
@@ -295,7 +304,7 @@ module _ {D : Type 0} (moment_of : D → ℕ) (left_since : D → ℕ → List �
       no_entry known taken by.line (λ free goes. absurd (true≢false (sym by.stops.wanting ∙ goes))) (ap (λ (x : Backed). messages x.released) s.log ∙ one.left ∙ sym s.left)
       (unseen_by moment_of left_since told image faults_of start opening old new one.stands known (still_tells told old.store new.store by.disk) []
       (taken ∙ sym (append-nil old.log.taken.items)) notices later refl (λ goes. on)
-      (seen_same (opened_map start) old new s.log (ap (λ h. h.items) s.held) s.mode s.before s.durable) s.told one.tells)
+      (seen_same (opened_map start) old new s.log (ap (λ h. h.items) s.held) s.mode s.before s.durable s.closed) s.told one.tells)
 
   release_as : (off : Bool) → is_stopped old ≡ off → (result : Result Stepped NoMemory) → ReleasesBy result → After
   release_as true off result by = let s = by.stopped off in idle s.1 by.line s.2 s.3
@@ -320,12 +329,12 @@ module _ {D : Type 0} (moment_of : D → ℕ) (left_since : D → ℕ → List �
 
   mounts : is_stopped old ≡ false → Known → (result : Result Stepped NoMemory) → MendsBy result → is_stopped new ≡ false → Mends faults_of old new notices later → After
   mounts on known result by goes m =
-      let s = stepping.mend_steps moment_of left_since told image faults_of start opening (not (is_stopped old)) old new notices later one.stands m in
+      let s = stepping.mend_steps moment_of left_since told image faults_of start opening (not (is_stopped old)) old new (due_of old) (due_of new) one.stands notices later m in
       let taken = taken_still faults_of old new m.ending m.notice m.remounts in
       no_entry known taken by.line (λ free off. one.none_lost (sym (stuck_still faults_of old new m.ending m.notice m.remounts) ∙ free) on)
       (ap messages (left_still faults_of old new m.ending m.notice m.remounts) ∙ one.left ∙ sym by.same_out)
-      (heard moment_of left_since told image faults_of start opening old new one.stands known by.tells [] (taken ∙ sym (append-nil old.log.taken.items)) notices later s.0 on goes
-      s.2 s.1 one.tells)
+      (heard moment_of left_since told image faults_of start opening old new one.stands known by.tells [] (taken ∙ sym (append-nil old.log.taken.items)) notices later s.0 on
+      (λ tells. s.1) (λ tells. s.2 (alarm_due moment_of left_since told image faults_of start opening new tells.0 tells.1 tells.2 known goes)) one.tells)
 
   -- What the front is told of it is lost.
   unheard_mend : is_stopped old ≡ false → Known → (result : Result Stepped NoMemory) → MendsBy result → is_stopped new ≡ true → later ≡ notices
@@ -333,12 +342,13 @@ module _ {D : Type 0} (moment_of : D → ℕ) (left_since : D → ℕ → List �
   unheard_mend on known result by off said ending notice wants remounts =
       let noted : Back D = record new { stopped = old.stopped } in
       let m : Mends faults_of old noted [] (notice ∷ []) = record { ending = ending; notice = notice; wanted = wants; remounts = remounts; told = refl } in
-      let s = stepping.mend_steps moment_of left_since told image faults_of start opening (not (is_stopped old)) old noted [] (notice ∷ []) one.stands m in
+      let s =
+      stepping.mend_steps moment_of left_since told image faults_of start opening (not (is_stopped old)) old noted (due_of old) (due_of new) one.stands [] (notice ∷ []) m in
       let taken = taken_still faults_of old noted ending notice remounts in
       no_entry known taken by.line (λ free goes. absurd (true≢false (sym off ∙ goes)))
       (ap messages (left_still faults_of old noted ending notice remounts) ∙ one.left ∙ sym by.same_out)
       (unheard_by moment_of left_since told image faults_of start opening old new one.stands known by.tells [] (taken ∙ sym (append-nil old.log.taken.items)) notices later s.0 on off
-      s.2 (λ stand empty. not_mounted ending.cause (sym (ap stand_of wants) ∙ stand)) said one.tells)
+      s.1 said one.tells)
 
   loses_mend : is_stopped old ≡ false → Known → (result : Result Stepped NoMemory) → MendsBy result → is_stopped new ≡ true → later ≡ notices
       → IsAsBefore old new ⊎ ((ending : Ending) × (notice : Notice) × (old.mode ≡ Wanted ending) × Remounts faults_of old (record new { stopped = old.stopped }) ending notice)
@@ -347,7 +357,7 @@ module _ {D : Type 0} (moment_of : D → ℕ) (left_since : D → ℕ → List �
       let taken = ap (λ (x : Backed). x.taken) same.log in
       no_entry known taken by.line (λ free goes. absurd (true≢false (sym off ∙ goes))) (ap (λ (x : Backed). messages x.released) same.log ∙ one.left ∙ sym by.same_out)
       (unseen_by moment_of left_since told image faults_of start opening old new one.stands known by.tells [] (taken ∙ sym (append-nil old.log.taken.items)) notices later refl
-      (λ goes. on) (seen_same (opened_map start) old new same.log same.held same.mode same.before same.durable) said one.tells)
+      (λ goes. on) (seen_same (opened_map start) old new same.log same.held same.mode same.before same.durable same.closed) said one.tells)
   loses_mend on known result by off said (inr lost) = unheard_mend on known result by off said lost.0 lost.1 lost.2 lost.3
 
   mended_as : is_stopped old ≡ false → Known → (result : Result Stepped NoMemory) → MendsBy result → After

@@ -1,15 +1,14 @@
 -- Work on a cell keeps what is named for its place.
-use Rattle.std.proofs.Common.{◌≡◌, ◌≤◌, ◌∙◌, ℕ, ℤ, List, Option, Some, length, map, slice_get, refl, sym, ap, subst}
+use Rattle.std.proofs.Common.{◌≡◌, ◌∙◌, ℕ, List, Option, length, refl, sym, ap, subst}
 use Rattle.std.proofs.lemmas.List.{length-map}
-use Rattle.lane.specs.Lanes.{LaneId, Sending, Taking}
-use Rattle.timeline.specs.declared.event.Event.{Event}
+use Rattle.lane.specs.Lanes.{LaneId, Taking}
 use Rattle.timeline.specs.declared.message.Message.{Message}
-use Rattle.host_workers.specs.Backs.{CanStep, IsBackCell, KeepsBackCell, KeepsCellAlone, SameLanes as SameBackLanes}
+use Rattle.host_workers.specs.Backs.{CanStep, KeepsBackCell, KeepsCellAlone, SameLanes as SameBackLanes}
 use Rattle.host_workers.specs.Board.{AreNamed, IsBackOf, IsFrontOf, IsLinesOf, IsSwitchOf}
-use Rattle.host_workers.specs.Fronts.{IsFrontCell, KeepsFrontCell, SameLanes as SameFrontLanes}
+use Rattle.host_workers.specs.Fronts.{KeepsFrontCell, SameLanes as SameFrontLanes}
 use Rattle.host_workers.specs.Lines.{HasCounted, IsLinesCell, IsNumbered}
 use Rattle.host_workers.specs.Names.{Run}
-use Rattle.host_workers.specs.Switches.{HasPrinted, IsSwitchCell, KeepsPrinted, KeepsSwitchCell, SameLanes as SameSwitchLanes}
+use Rattle.host_workers.specs.Switches.{KeepsPrinted, KeepsSwitchCell, SameLanes as SameSwitchLanes}
 use Rattle.host_workers.specs.declared.back_cell.BackCell.{BackCell}
 use Rattle.host_workers.specs.declared.front_cell.FrontCell.{FrontCell}
 use Rattle.host_workers.specs.declared.lines_cell.LinesCell.{LinesCell}

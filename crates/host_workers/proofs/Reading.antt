@@ -1,14 +1,14 @@
 -- The cell of the lines is kept.
-use Rattle.std.proofs.Common.{◌≡◌, ◌∙◌, ap, sym, refl, subst, true≢false, ℕ, ◌≤◌, arith, List, [], ◌∷◌, ◌++◌, length, map, append-nil, append_assoc, Option, Some, None}
+use Rattle.std.proofs.Common.{◌≡◌, ◌∙◌, ap, sym, refl, subst, true≢false, ℕ, ◌≤◌, arith, List, [], ◌∷◌, ◌++◌, length, map, append-nil, Option, Some, None}
 use Rattle.std.proofs.lemmas.List.{map-append}
-use Rattle.std.specs.Prelude.{Bool, true, false, Result, Ok, Err}
+use Rattle.std.specs.Prelude.{false, Result, Ok, Err}
 use Rattle.do_disk.specs.Disk.{Rose}
 use Rattle.line_server.specs.Given.{CountsReads}
-use Rattle.line_server.specs.Lines.{IsReading, IsFirstOf, LooksAt, IsAllRead, fault_in, fault_of, source_of}
+use Rattle.line_server.specs.Lines.{IsReading, LooksAt, fault_in, fault_of, source_of}
 use Rattle.line_server.specs.Requests.{SeenLine}
 use Rattle.line_server.specs.Seen.{seen}
 use Rattle.line_server.specs.declared.fault.LineFault.{LineFault}
-use Rattle.line_server.specs.declared.fault.LineFault.TheVariants.{ReadFailed, NoMemory}
+use Rattle.line_server.specs.declared.fault.LineFault.TheVariants.{ReadFailed}
 use Rattle.line_server.specs.declared.line.Line.{Line}
 use Rattle.line_server.specs.declared.lines.Lines.{Lines}
 use Rattle.line_server.proofs.Given.{has_given_now}

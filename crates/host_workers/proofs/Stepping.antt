@@ -12,14 +12,13 @@ use Rattle.output_gate.specs.Storing.{IsDiskOf, KeepsTelling}
 use Rattle.output_gate.specs.Telling.{opened_map}
 use Rattle.output_gate.specs.declared.back.Back.{Back}
 use Rattle.output_gate.specs.declared.store.Store.{Store}
-use Rattle.object_history.specs.Pair.{Rear, mounted}
-use Rattle.object_history.specs.Seen.{rear_of}
+use Rattle.object_history.specs.Pair.{Rear}
 use Rattle.object_history.specs.Stepping.{BackSteps, takes_own, read_fails, takes_down, takes_late, flies, stops, sends, syncs, halts, begins, misses}
-use Rattle.object_core.proofs.Due.{is_due, seen_is_rear, steps_as_due, steps_unheard}
+use Rattle.object_core.proofs.Due.{seen_is_rear}
 use Rattle.object_core.specs.Alone.{HasTold}
 use Rattle.object_core.specs.Apart.{BackRuns, goes_on as goes_by}
 use Rattle.object_core.specs.One.{TellsNow}
-use Rattle.object_core.specs.Seen.{as_due, seen_of}
+use Rattle.object_core.specs.Seen.{seen_of}
 use Rattle.host_workers.specs.Runs.{Tells}
 
 pub none_is_few : 0 ≤ 1
@@ -42,24 +41,9 @@ told_few r _ _ _ (flies count map) = none_is_few
 told_few r _ _ _ (stops stop held map stand less flown by_append is_held) = none_is_few
 told_few r _ _ _ (sends release map) = none_is_few
 told_few r _ _ _ (syncs number needs rest map is_held) = one_is_few
-told_few r _ _ _ (halts c needs rest stop end is_held stand flown by_halt) = one_is_few
+told_few r _ _ _ (halts c needs rest stop end map is_held stand flown by_halt) = one_is_few
 told_few r _ _ _ (begins c end before map stand) = one_is_few
-told_few r _ _ _ (misses c counts_before counts_after stand) = one_is_few
-
--- A step that takes nothing and tells nothing is one whatever map the back has.
-silent : (opened : Contents) (r later : Rear) (got : List Entry) (told : List Notice) → BackSteps r later got told → got ≡ [] → told ≡ []
-    → BackSteps (as_due opened r) (as_due opened later) [] []
-silent opened r _ _ _ (takes_own e map stand is unended) none empty = absurd cc
-silent opened r _ _ _ (read_fails e a free counts_before counts_after map stand is unended asks) none empty = absurd cc
-silent opened r _ _ _ (takes_down e c map stand is fits) none empty = absurd cc
-silent opened r _ _ _ (takes_late e map is) none empty = absurd cc
-silent opened r _ _ _ (flies count map) none empty = flies count _
-silent opened r _ _ _ (stops stop held map stand less flown by_append is_held) none empty = stops stop held _ stand less flown by_append is_held
-silent opened r _ _ _ (sends release map) none empty = sends release _
-silent opened r _ _ _ (syncs number needs rest map is_held) none empty = absurd cc
-silent opened r _ _ _ (halts c needs rest stop end is_held stand flown by_halt) none empty = absurd cc
-silent opened r _ _ _ (begins c end before map stand) none empty = absurd cc
-silent opened r _ _ _ (misses c counts_before counts_after stand) none empty = absurd cc
+told_few r _ _ _ (misses c counts_before counts_after map stand) = one_is_few
 
 module _ {D : Type 0} (moment_of : D → ℕ) (left_since : D → ℕ → List ℕ → Type 0) (told : D → Option (List ℕ)) (image : D → List ℕ → Type 0) (faults_of : D → ℕ)
     (start : List (List Op)) (opening : ℕ) where
@@ -94,47 +78,39 @@ module _ {D : Type 0} (moment_of : D → ℕ) (left_since : D → ℕ → List �
     drops_none was on more = ap (λ (l : List Notice). (sent ++ l) ++ more) (was.none_unheard on) ∙ ap (λ (l : List Notice). l ++ more) (append-nil sent)
 
     -- What the step tells was sent.
-    pub heard : (more : List Notice) → is_stopped old ≡ false → is_stopped new ≡ false → BackSteps (rear_of old) (rear_of new) got more → later ≡ sent ++ more
-        → Tells told start old sent → Tells told start new later
-    heard more on goes steps said before tells =
-        let at = earlier old new keeps known tells in
-        let was : HasTold opened old sent = before at in
-        let due = is_due moment_of left_since told image faults_of start opening old at.0 at.1 at.2 known on in
-        let due_now = is_due moment_of left_since told image faults_of start opening new tells.0 tells.1 tells.2 now goes in
+    pub heard : (more : List Notice) → is_stopped old ≡ false → (TellsNow told new → BackSteps (seen_of opened old) (seen_of opened new) got more)
+        → (TellsNow told new → later ≡ sent ++ more) → Tells told start old sent → Tells told start new later
+    heard more on steps said before tells =
+        let was : HasTold opened old sent = before (earlier old new keeps known tells) in
         record {
           unheard = [];
           few = none_is_few;
           none_unheard = λ _. refl;
-          runs = run_more was more [] (steps_as_due opened (rear_of old) (rear_of new) got more steps due due_now)
-              (drops_none was on more ∙ sym said ∙ sym (append-nil later));
+          runs = run_more was more [] (steps tells) (drops_none was on more ∙ sym (said tells) ∙ sym (append-nil later));
         }
 
     -- It is lost, and the back is stopped.
-    pub unheard_by : (more : List Notice) → is_stopped old ≡ false → is_stopped new ≡ true → BackSteps (rear_of old) (rear_of new) got more
-        → ((rear_of old).stand ≡ mounted → got ≡ [] → more ≡ []) → later ≡ sent → Tells told start old sent → Tells told start new later
-    unheard_by more on off steps no_halt said before tells =
+    pub unheard_by : (more : List Notice) → is_stopped old ≡ false → is_stopped new ≡ true → BackSteps (seen_of opened old) (seen_of opened new) got more
+        → later ≡ sent → Tells told start old sent → Tells told start new later
+    unheard_by more on off steps said before tells =
         let was : HasTold opened old sent = before (earlier old new keeps known tells) in
-        let s = steps_unheard opened (rear_of old) (rear_of new) got more steps no_halt in
         record {
-          unheard = s.0;
-          few = told_few (seen_of opened old) (seen_of opened new) got s.0 s.1;
+          unheard = more;
+          few = told_few (seen_of opened old) (seen_of opened new) got more steps;
           none_unheard = λ goes. absurd (true≢false (sym off ∙ goes));
-          runs = run_more was s.0 s.0 s.1 (drops_none was on s.0 ∙ ap (λ (l : List Notice). l ++ s.0) (sym said));
+          runs = run_more was more more steps (drops_none was on more ∙ ap (λ (l : List Notice). l ++ more) (sym said));
         }
 
     -- It tells nothing, and the back goes on as it did.
-    pub silent_by : got ≡ [] → (is_stopped new ≡ false → is_stopped old ≡ false) → BackSteps (rear_of old) (rear_of new) got [] → later ≡ sent
+    pub silent_by : (is_stopped new ≡ false → is_stopped old ≡ false) → BackSteps (seen_of opened old) (seen_of opened new) got [] → later ≡ sent
         → Tells told start old sent → Tells told start new later
-    silent_by none goes steps said before tells =
+    silent_by goes steps said before tells =
         let was : HasTold opened old sent = before (earlier old new keeps known tells) in
         record {
           unheard = was.unheard;
           few = was.few;
           none_unheard = λ on. was.none_unheard (goes on);
-          runs = run_more was [] was.unheard
-              (subst (λ (l : List Entry). BackSteps (seen_of opened old) (seen_of opened new) l []) (sym none)
-              (silent opened (rear_of old) (rear_of new) got [] steps none refl))
-              (append-nil (sent ++ was.unheard) ∙ ap (λ (l : List Notice). l ++ was.unheard) (sym said));
+          runs = run_more was [] was.unheard steps (append-nil (sent ++ was.unheard) ∙ ap (λ (l : List Notice). l ++ was.unheard) (sym said));
         }
 
     -- Nothing is done of which the front is told.

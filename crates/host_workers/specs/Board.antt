@@ -1,6 +1,6 @@
 -- The places of a board: each is empty, or holds the cell that is named for it.
-use Rattle.std.specs.Prelude.{◌≡◌, ◌≤◌, ◌<◌, ◌+◌, ℕ, Bool, true, false, List, [], ◌∷◌, length, map, slice_get, Option, Some, None, is_some, ⊤}
-use Rattle.do_tree.specs.Tree.{Script}
+use Rattle.std.specs.Prelude.{◌≡◌, ◌≤◌, ◌<◌, ◌+◌, ℕ, Bool, true, false, List, [], ◌∷◌, length, map, slice_get, Option, Some, is_some, ⊤}
+use Rattle.do_disk.specs.Slots.{most_slots}
 use Rattle.lane.specs.Lanes.{LaneId, Sending, Taking}
 use Rattle.storage_map.specs.declared.op.Op.{Op}
 use Rattle.timeline.specs.declared.event.Event.{Event}
@@ -122,7 +122,7 @@ module _ {D R W T : Type 0} (run : Run) (moment_of : D → ℕ) (left_since : D 
     (write_faults : W → ℕ) where
   -- Each cell that is there is the one named for its place.
   pub record AreCells (cells : Cells D R W T) : Type 0 where
-    pub few : run.slots ≤ 256
+    pub few : run.slots ≤ most_slots
     pub each_front : length cells.fronts.items ≡ run.slots
     pub each_back : length cells.backs.items ≡ run.slots
     pub fronts : (slot : ℕ) (cell : FrontCell T) → slice_get cells.fronts.items slot ≡ Some (Some cell) → IsFrontOf run slot cell

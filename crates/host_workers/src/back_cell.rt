@@ -10,6 +10,7 @@ ghost use Rattle.output_gate.specs.Releasing.{Releases, may_release};
 ghost use Rattle.output_gate.specs.Serving.{IsBack, is_stopped};
 ghost use Rattle.output_gate.specs.Storing.{HasLimit};
 ghost use Rattle.output_gate.specs.Taking.{may_take};
+ghost use Rattle.output_gate.specs.Serving.{alarm_of};
 ghost use Rattle.object_core.specs.Limited.{extent_of};
 ghost use Rattle.host_workers.specs.Backs.{CanStep, IsBackCell, IsCellAlone, IsFresh, KeepsBackCell, KeepsCellAlone, SameLanes};
 
@@ -62,7 +63,7 @@ impl<D: Disk, T: Wait + Copy> BackCell<D, T> {
             → IsBackCell D.moment_of D.left_since D.told D.image D.faults_of start opening result }
         ensures alone { (start : List (List Op)) (opening : ℕ) → IsBack D.moment_of D.left_since D.told D.image D.faults_of start opening back
             → HasLimit back.limit back.store
-            → IsCellAlone D.moment_of D.left_since D.told D.image D.faults_of start opening back.identity (extent_of back) back.cache.alarm result }
+            → IsCellAlone D.moment_of D.left_since D.told D.image D.faults_of start opening back.identity (extent_of back) (alarm_of back) result }
     {
         BackCell {
             back,
@@ -79,7 +80,7 @@ impl<D: Disk, T: Wait + Copy> BackCell<D, T> {
         ensures nothing { result ≡ Ok Nothing → (self.new ≡ self.old)
             × (may_take self.old.back ≡ true → StartsWith self.old.line.got self.old.line.told) }
         ensures took { result ≡ Ok Did
-            → Takes D.told self.old.back self.new.back self.old.line.got self.new.line.got self.old.notices.sent self.new.notices.sent }
+            → Takes D.told D.image self.old.back self.new.back self.old.line.got self.new.line.got self.old.notices.sent self.new.notices.sent }
         ensures wanting { OnErr result (is_stopped self.new.back ≡ true) }
         ensures lanes { SameLanes self.old self.new }
         ensures cell { KeepsBackCell D.moment_of D.left_since D.told D.image D.faults_of self.old self.new }

@@ -26,7 +26,6 @@ pub use front_cell::FrontCell;
 pub use jobs::{MOST_STEPS, WorkEnd};
 pub use joining::{Halves, join};
 pub use lines_cell::LinesCell;
-pub use marks::MOST_SLOTS;
 pub use names::Names;
 pub use shared::{Shared, Worked, work};
 pub use switch_cell::{SwitchCell, SwitchParts};

@@ -2,8 +2,8 @@
 use crate::jobs::{Found, Job};
 use timeline::Event;
 
-/// How many slots a run has at most.
-pub const MOST_SLOTS: usize = 256;
+// How many slots a run has at most, as a count of places.
+const MOST_SLOTS: usize = do_disk::MOST_SLOTS as usize;
 
 // How often in a row a back that has answered its front leaves its flight for the next look at most.
 pub(crate) const MOST_WAITS: u8 = 255;

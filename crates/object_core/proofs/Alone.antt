@@ -3,7 +3,7 @@ use Rattle.std.proofs.Common.{◌≡◌, ◌∙◌, ap, sym, refl, subst, true�
 use Rattle.std.proofs.lemmas.List.{append_cancel_left}
 use Rattle.std.specs.Prelude.{Bool, true, false, not, is_some}
 use Rattle.do_tree.specs.Tree.{Script}
-use Rattle.lane.specs.Lanes.{Both, sent_on}
+use Rattle.lane.specs.Lanes.{Both}
 use Rattle.storage_map.specs.Contents.{Contents}
 use Rattle.timeline.specs.Intake.{Front, Kind, serves}
 use Rattle.timeline.specs.Logs.{fronted}

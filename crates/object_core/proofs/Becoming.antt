@@ -35,7 +35,6 @@ use Rattle.front_half.specs.declared.half.Half.{Half}
 use Rattle.object_history.specs.Pair.{Held, IsPair, IsSilentAt, Rear, Stand, Together, answered, falls, halts, mends, misses, read_fails, silent, syncs, unreached, wants}
 use Rattle.front_half.specs.Kinds.{is_call}
 use Rattle.object_core.proofs.Sticking.{first_there}
-use Rattle.object_history.specs.Stepping as back
 use Rattle.object_messages.specs.Dropped.{DropsAreAnswered}
 use Rattle.object_messages.specs.Naming.{answered_by, answered_in}
 use Rattle.object_core.specs.Dropping.{AreFitting, IsFitFor, MayDrop}

@@ -1,6 +1,6 @@
 -- An object whose slot was just mounted.
 use Rattle.std.proofs.Common.{◌≡◌, ◌∙◌, ap, sym, refl, subst, inl, inr, true≢false, ℕ, suc, List, [], ◌++◌, length, arith, Option}
-use Rattle.std.specs.Prelude.{Bool, is_some, not}
+use Rattle.std.specs.Prelude.{ℤ, Bool, is_some, not}
 use Rattle.std.proofs.lemmas.List.Elements.{All-nil}
 use Rattle.std.specs.List.{All, Contains, flat_map}
 use Rattle.do_tree.specs.Tree.{Script}
@@ -20,7 +20,7 @@ use Rattle.object_front.specs.Classed.{class_by}
 use Rattle.object_front.specs.declared.evaluated.Evaluated.{Evaluated}
 use Rattle.front_half.specs.declared.half.Half.{Half}
 use Rattle.output_gate.proofs.Written.{written_fresh}
-use Rattle.output_gate.specs.Serving.{IsBack, IsBackAs, is_stopped}
+use Rattle.output_gate.specs.Serving.{alarm_of, IsBack, IsBackAs, is_stopped}
 use Rattle.output_gate.specs.Telling.{opened_map}
 use Rattle.output_gate.specs.declared.back.Back.{Back}
 use Rattle.output_gate.specs.declared.back.Mode.TheVariants.{Mounted}
@@ -29,7 +29,7 @@ use Rattle.object_history.specs.Seen.{held_of, stand_of}
 use Rattle.front_history.specs.Turns.{FrontBegins}
 use Rattle.object_core.proofs.Due.{seen_is_rear}
 use Rattle.object_core.proofs.Dropping.{none_said}
-use Rattle.object_core.proofs.Rebuilding.{One, due_now}
+use Rattle.object_core.proofs.Rebuilding.{One, alarm_now}
 use Rattle.object_core.specs.Dropping.{IsFitFor, MayDrop}
 use Rattle.object_core.specs.Fitting.{known_over}
 use Rattle.object_core.specs.Limited.{end_in}
@@ -54,7 +54,7 @@ module _ {D : Type 0} (moment_of : D → ℕ) (left_since : D → ℕ → List �
   no_stop stop none has = let few = has.1 in absurd (omega (arith, few, ap length none))
 
   -- nothing was taken
-  none_taken : (class : ℕ) → IsTakenBy (kind_in script class) (opened back.cache.alarm) [] (opened back.cache.alarm) (fronted front.log)
+  none_taken : (class : ℕ) → IsTakenBy (kind_in script class) (opened (alarm_of back)) [] (opened (alarm_of back)) (fronted front.log)
   none_taken class = record {
     at = refl;
     gate = tt;
@@ -70,8 +70,8 @@ module _ {D : Type 0} (moment_of : D → ℕ) (left_since : D → ℕ → List �
   pub begins_one : One moment_of left_since told image faults_of script origin front unused back unused unused unused
   begins_one = record {
     back_stands = known;
-    alarm = back.cache.alarm;
-    st = fresh (class_in script back.identity) back.cache.alarm;
+    alarm = alarm_of back;
+    st = fresh (class_in script back.identity) (alarm_of back);
     front_stands = λ on. are.stands;
     has_taken = λ on class is. ([], none_taken class, tt);
     classed = record {
@@ -79,18 +79,19 @@ module _ {D : Type 0} (moment_of : D → ℕ) (left_since : D → ℕ → List �
       stays = λ class is. ap (λ (x : Fronted). class_by script (class_in script back.identity) x) (sym are.front_log) ∙ is;
     };
     named = inl refl;
-    has_got = come.begins front (class_in script back.identity) back.cache.alarm are.front_log;
+    has_got = come.begins front (class_in script back.identity) (alarm_of back) are.front_log;
     lost = [];
     none_lost = λ free on. refl;
     is_line = ap (λ (x : Fronted). x.sent) are.front_log ∙ ap (λ (x : Backed). x.taken ++ [] ++ []) (sym are.back_log);
     left = ap (λ (x : Backed). messages x.released) are.back_log;
     pair = λ tells class is.
-        begins (kind_in script class) (opened_map start) (fresh (class_in script back.identity) back.cache.alarm) front (seen_of (opened_map start) back)
+        begins (kind_in script class) (opened_map start) (fresh (class_in script back.identity) (alarm_of back)) front (seen_of (opened_map start) back)
         (seen_is_rear moment_of left_since told image faults_of start opening back known)
         (ap stand_of (is_mounted _ known)) (ap (λ (x : List BackHeld). flat_map held_of x) are.held)
         (ap (λ (x : Backed). x.taken) are.back_log) (ap (λ (x : Backed). x.stops) are.back_log) (ap (λ (x : Backed). x.downs) are.back_log) are.front_log
-        (ap (λ (m : Contents). opened m.alarm) (due_now moment_of left_since told image faults_of script origin front unused back tells known are.serves (ap stand_of (is_mounted _ known))
-        ∙ due_first));
+        (ap (λ (a : Option (ℤ × ℕ)). opened a)
+        (sym (alarm_now moment_of left_since told image faults_of script origin front unused back tells known are.serves (is_mounted _ known))
+        ∙ ap (λ (m : Contents). m.alarm) due_first));
     fits = λ has tells on goes. (are.free, ap (λ (x : Backed). known_over (is_some back.identity) x.taken) (sym are.back_log));
     heard = λ tells on goes. record {
       news = λ differs. absurd (differs (ap (λ (x : Backed). suc (length x.stops)) are.back_log));
@@ -106,7 +107,7 @@ module _ {D : Type 0} (moment_of : D → ℕ) (left_since : D → ℕ → List �
           (λ journal is. sym (ap end_in is));
     };
     drops = λ tells. record {
-      unbound = λ on none. (ap (λ (x : Option ℕ). fresh x back.cache.alarm) none, ap (λ (x : Fronted). x.sent) are.front_log);
+      unbound = λ on none. (ap (λ (x : Option ℕ). fresh x (alarm_of back)) none, ap (λ (x : Fronted). x.sent) are.front_log);
       unsaid = λ none. none_said (fronted front.log) are.front_log;
       keeps = λ on class is. All-nil (IsFitFor script class);
       class = λ on fit. refl;

@@ -98,7 +98,7 @@ module _ {D : Type 0} (moment_of : D → ℕ) (left_since : D → ℕ → List �
         no_first t.entry line.waiting (sym empty ∙ took_first old.line line t.entry t.took by.inlet)
 
     pub take_steps : (result : Result Stepped NoMemory) → TakesBy moment_of left_since told image faults_of old.back new old.line line old.notices notices result
-        → Steps moment_of told faults_of script old (with_take line notices) Take (answer_of result)
+        → Steps moment_of told image faults_of script old (with_take line notices) Take (answer_of result)
     take_steps (Ok Did) by = record {
       touches = refl;
       passes = record { given = nothing_passes; collected = refl; left = sent_none old.out old.out refl };
@@ -130,7 +130,7 @@ module _ {D : Type 0} (moment_of : D → ℕ) (left_since : D → ℕ → List �
     }
 
   flush_even : (result : Stepped) → old.back.before ≡ old.back.durable → result ≡ Nothing → FlushesBy moment_of left_since told image faults_of old.back new result
-      → Steps moment_of told faults_of script old (record old { back = new }) Flush (answer_of (Ok result))
+      → Steps moment_of told image faults_of script old (record old { back = new }) Flush (answer_of (Ok result))
   flush_even Nothing even is by = record {
     touches = refl;
     passes = record { given = nothing_passes; collected = refl; left = sent_none old.out old.out refl };
@@ -143,7 +143,7 @@ module _ {D : Type 0} (moment_of : D → ℕ) (left_since : D → ℕ → List �
   flush_even Did even is by = absurd (did_nothing is)
 
   flush_differ : (result : Stepped) → old.back.before ≢ old.back.durable → result ≡ Did → FlushesBy moment_of left_since told image faults_of old.back new result
-      → Steps moment_of told faults_of script old (record old { back = new }) Flush (answer_of (Ok result))
+      → Steps moment_of told image faults_of script old (record old { back = new }) Flush (answer_of (Ok result))
   flush_differ Did differ is by = record {
     touches = refl;
     passes = record { given = nothing_passes; collected = refl; left = sent_none old.out old.out refl };
@@ -156,7 +156,7 @@ module _ {D : Type 0} (moment_of : D → ℕ) (left_since : D → ℕ → List �
   flush_differ Nothing differ is by = absurd (did_nothing (sym is))
 
   pub flush_steps : (result : Stepped) → FlushesBy moment_of left_since told image faults_of old.back new result
-      → Steps moment_of told faults_of script old (record old { back = new }) Flush (answer_of (Ok result))
+      → Steps moment_of told image faults_of script old (record old { back = new }) Flush (answer_of (Ok result))
   flush_steps result by = ⊎_elim (λ even. flush_even result even (by.nothing even).0 by) (λ differ. flush_differ result differ (by.flushed differ).0 by)
       (cases_eq old.back.before old.back.durable)
 
@@ -192,7 +192,7 @@ module _ {D : Type 0} (moment_of : D → ℕ) (left_since : D → ℕ → List �
     release_leaves false on (Err fault) by = sent_none old.out out by.stays.left
 
     pub release_steps : (result : Result Stepped NoMemory) → ReleasesBy moment_of left_since told image faults_of old.back new old.notices notices old.out out result
-        → Steps moment_of told faults_of script old with_release Release (answer_of result)
+        → Steps moment_of told image faults_of script old with_release Release (answer_of result)
     release_steps (Ok Did) by = record {
       touches = refl;
       passes = record { given = nothing_passes; collected = by.left; left = release_leaves (is_stopped old.back) refl (Ok Did) by };
@@ -243,7 +243,7 @@ module _ {D : Type 0} (moment_of : D → ℕ) (left_since : D → ℕ → List �
         mend_same i.back by.outlet i.told
 
     pub mend_steps : (result : Result Stepped NoMemory) → MendsBy moment_of left_since told image faults_of old.back new old.notices notices result
-        → Steps moment_of told faults_of script old with_mend Mend (answer_of result)
+        → Steps moment_of told image faults_of script old with_mend Mend (answer_of result)
     mend_steps (Ok Did) by = record {
       touches = refl;
       passes = record { given = nothing_passes; collected = refl; left = sent_none old.out old.out refl };

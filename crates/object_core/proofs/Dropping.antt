@@ -1,5 +1,5 @@
 -- A turn keeps what may stand among the events that a front dropped.
-use Rattle.std.proofs.Common.{◌≡◌, ◌≢◌, ◌≤◌, ◌∙◌, ap, sym, refl, subst, ◌⊎◌, inl, inr, ⊎_elim, true≢false, ℕ, ℤ, suc, List, [], ◌∷◌, ◌++◌, map, length, append-nil, arith, Option, Some, None}
+use Rattle.std.proofs.Common.{◌≡◌, ◌≢◌, ◌≤◌, ◌∙◌, ap, sym, refl, subst, inl, inr, ⊎_elim, true≢false, ℕ, ℤ, suc, List, [], ◌∷◌, ◌++◌, map, length, append-nil, arith, Option, Some, None}
 use Rattle.std.proofs.lemmas.List.Elements.{All-nil, All-append, All-weaker}
 use Rattle.std.specs.Prelude.{Bool, true, false, is_some, unwrap_or}
 use Rattle.std.specs.List.{All}
@@ -251,9 +251,9 @@ steps_downs r _ _ _ (back.flies count map) some = some
 steps_downs r _ _ _ (back.stops stop held map stand less flights by_append is) some = some
 steps_downs r _ _ _ (back.sends release map) some = some
 steps_downs r _ _ _ (back.syncs number needs rest map is) some = some
-steps_downs r _ _ _ (back.halts c needs rest stop end held stand flights is) some = some
+steps_downs r _ _ _ (back.halts c needs rest stop end map held stand flights is) some = some
 steps_downs r _ _ _ (back.begins c end before map stand) some = some
-steps_downs r _ _ _ (back.misses c counts_before counts_after stand) some = λ none. pushed_not r.log.downs _ none
+steps_downs r _ _ _ (back.misses c counts_before counts_after map stand) some = λ none. pushed_not r.log.downs _ none
 
 -- No incarnation has ended of which nothing was taken.
 none_ends : (taken : List Entry) (stops : List Stop) → AreInOrder taken stops → taken ≡ [] → stops ≡ []

@@ -1,5 +1,5 @@
 -- Where no call and no fetch is answered twice, an answer is dropped only where its incarnation has ended.
-use Rattle.std.proofs.Common.{◌≡◌, ◌∙◌, ap, sym, refl, subst, ◌⊎◌, inl, inr, ⊎_elim, true≢false, ℕ, List, [], ◌∷◌, ◌++◌, arith}
+use Rattle.std.proofs.Common.{◌≡◌, ◌∙◌, ap, sym, refl, subst, inl, inr, ⊎_elim, true≢false, ℕ, List, [], ◌∷◌, ◌++◌, arith}
 use Rattle.std.proofs.lemmas.Bool.Decides.{nat_tests}
 use Rattle.std.proofs.lemmas.List.Elements.{All-nil, All-cons, All-contains, All-contains_itself, All-from_recursion, Contains-append_cases}
 use Rattle.std.proofs.lemmas.Map.Keys.{IsDistinct-IsPermutation}

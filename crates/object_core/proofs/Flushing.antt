@@ -4,8 +4,8 @@ use Rattle.std.proofs.lemmas.Bool.{cases_eq}
 use Rattle.std.specs.Prelude.{not}
 use Rattle.do_tree.specs.Tree.{Script}
 use Rattle.lane.specs.Lanes.{Both}
-use Rattle.storage_map.specs.declared.op.Op.{Op}
-use Rattle.timeline.specs.Logs.{Backed}
+use Rattle.storage_map.specs.Contents.{Contents}
+use Rattle.timeline.specs.Logs.{Backed, backed}
 use Rattle.timeline.specs.declared.entry.Entry.{Entry}
 use Rattle.timeline.specs.declared.event.Event.{Event}
 use Rattle.timeline.specs.declared.message.Message.{Message as Sent}
@@ -20,13 +20,12 @@ use Rattle.output_gate.specs.Storing.{KeepsLimit, KeepsTelling}
 use Rattle.output_gate.specs.Telling.{opened_map}
 use Rattle.output_gate.specs.declared.back.Back.{Back}
 use Rattle.object_history.proofs.GateStepping as gate
-use Rattle.object_history.specs.Seen.{rear_of}
 use Rattle.object_history.specs.Stepping.{BackSteps}
 use Rattle.front_history.specs.Turns.{BackStepsKeep}
-use Rattle.object_core.proofs.Due.{steps_unheard}
 use Rattle.object_core.proofs.Limiting.{limited_flush}
 use Rattle.object_core.proofs.Rebuilding.{One, hears_on, stepped}
 use Rattle.object_core.specs.One.{Origin, messages}
+use Rattle.object_core.specs.Seen.{due_map, seen_of}
 
 -- What the back's own contract says of a flush.
 pub record FlushesBy {D : Type 0} (moment_of : D → ℕ) (left_since : D → ℕ → List ℕ → Type 0) (told : D → Option (List ℕ)) (image : D → List ℕ → Type 0) (faults_of : D → ℕ)
@@ -68,17 +67,18 @@ module _ {D : Type 0} (moment_of : D → ℕ) (left_since : D → ℕ → List �
   flown : old.before ≢ old.durable → After
   flown differ =
       let flushes = (by.flushed differ).1 in
-      let steps : BackSteps (rear_of old) (rear_of new) [] [] =
-      gate.flush_steps moment_of left_since told image faults_of origin.start origin.opening (not (is_stopped old)) old new one.back_stands differ flushes in
-      let s = steps_unheard (opened_map origin.start) (rear_of old) (rear_of new) [] [] steps (λ stand empty. refl) in
+      let opened : Contents = opened_map origin.start in
+      let steps : BackSteps (seen_of opened old) (seen_of opened new) [] [] =
+      gate.flush_steps moment_of left_since told image faults_of origin.start origin.opening (not (is_stopped old)) old new (due_map opened (backed old.log))
+      (due_map opened (backed new.log)) one.back_stands differ flushes in
       stepped moment_of left_since told image faults_of script origin front inbox keeps old new line notices notices out out one
       (by.back origin.start origin.opening one.back_stands) by.tells (flushed_identity faults_of old new flushes)
       (λ free on. one.none_lost (sym (flushed_stuck faults_of old new flushes) ∙ free) (sym by.stopped ∙ on))
       (λ on. (sym by.stopped ∙ on, flushed_stuck faults_of old new flushes))
       (flushed_taken faults_of old new flushes) (ap messages (flushed_released faults_of old new flushes) ∙ one.left)
-      (λ tells. record { heard = s.0; given = []; steps = s.1; are = inr refl; come = sym (append-nil notices.waiting) })
+      (λ tells. record { heard = []; given = []; steps = steps; are = inl refl; come = sym (append-nil notices.waiting) })
       (hears_on moment_of left_since told image faults_of script origin front inbox old new line notices out one by.tells (λ goes. sym by.stopped ∙ goes) []
-      (one.lost ++ line.waiting) [] notices.waiting steps refl (sym (append-nil notices.waiting)))
+      (one.lost ++ line.waiting) [] notices.waiting (λ tells goes. record { steps = steps; come = sym (append-nil notices.waiting) }) refl)
       (limited_flush moment_of left_since told image faults_of origin.start origin.opening (not (is_stopped old)) origin.extent old new one.back_stands by.tells one.limited
       differ flushes (by.limit old.limit))
 

@@ -1,5 +1,5 @@
 -- The runs of halves that ran apart, told from their first steps on.
-use Rattle.std.proofs.Common.{◌≡◌, ◌∙◌, ap, sym, refl, subst, inl, inr, ℕ, suc, List, [], ◌∷◌, ◌++◌, append-nil, append_assoc, Option}
+use Rattle.std.proofs.Common.{◌≡◌, ◌∙◌, ap, sym, subst, inl, inr, ℕ, suc, List, [], ◌∷◌, ◌++◌, append-nil, append_assoc, Option}
 use Rattle.std.specs.Prelude.{ℤ, false}
 use Rattle.do_tree.specs.Tree.{Script}
 use Rattle.storage_map.specs.Contents.{Contents}
@@ -15,18 +15,12 @@ use Rattle.object_front.specs.declared.evaluated.Evaluated.{Evaluated}
 use Rattle.front_half.specs.declared.half.Half.{Half}
 use Rattle.object_history.specs.Pair.{Rear}
 use Rattle.object_history.specs.Stepping.{BackSteps, IsRear}
-use Rattle.object_core.proofs.Due.{IsDue, due_of, steps_as_due}
 use Rattle.object_core.specs.Apart.{BackRuns, begins, goes_on, FrontRuns, is_made, turns, halts, IsOpened}
-use Rattle.object_core.specs.Seen.{due_map, as_due}
-
--- A back has the map that is due, mounted or not.
-abbrev pub HasDue : Contents → Rear → Type 0
-HasDue opened rear = rear.map ≡ due_map opened rear.log
 
 -- What a back does from here on, in so many steps: to where it comes, the entries that it takes and the notices that it tells.
 pub data BackGoes (opened : Contents) (last : Rear) : ℕ → Rear → List Entry → List Notice → Type 0 where
   rests : BackGoes opened last 0 last [] []
-  steps : (n : ℕ) (rear next : Rear) (got more : List Entry) (told after : List Notice) → IsRear opened next → HasDue opened next
+  steps : (n : ℕ) (rear next : Rear) (got more : List Entry) (told after : List Notice) → IsRear opened next
       → BackSteps rear next got told → BackGoes opened last n next more after → BackGoes opened last (suc n) rear (got ++ more) (told ++ after)
 
 -- One turn of a front, and where it then stands: it goes on, or memory was wanting.
@@ -46,21 +40,6 @@ pub data FrontGoes (script : Script) (last : Half Evaluated) (end : Stood) (all 
       → FrontGoes script last end all n new next later more after → FrontGoes script last end all (suc n) old st events (heard ++ more) (sent ++ after)
 
 -- ---- the back
--- What is known of a back is so of it with the map that is due.
-pub rear_as_due : (opened : Contents) (rear : Rear) → IsRear opened rear → IsRear opened (as_due opened rear)
-rear_as_due opened rear known = record {
-  logs = known.logs;
-  followed = known.followed;
-  begun = known.begun;
-  map = λ stand front i older is. due_of opened rear.log front i older is;
-  owns = known.owns;
-  kept = known.kept;
-}
-
--- A mounted one has it.
-rear_has_due : (opened : Contents) (rear : Rear) → IsRear opened rear → IsDue opened rear
-rear_has_due opened rear known stand = known.map stand nothing_logged _ _ refl ∙ sym (due_of opened rear.log nothing_logged _ _ refl)
-
 -- What is known of a back is so after each run.
 runs_rear : (opened : Contents) (rear : Rear) (taken : List Entry) (told : List Notice) → BackRuns opened rear taken told → IsRear opened rear
 runs_rear opened rear _ _ (begins _ is) = is.is_rear
@@ -71,26 +50,25 @@ pub record BackWent (opened : Contents) (last : Rear) (taken : List Entry) (told
   pub first : Rear
   pub is_opened : IsOpened opened first
   pub count : ℕ
-  pub goes : BackGoes opened last count (as_due opened first) taken told
+  pub goes : BackGoes opened last count first taken told
 
 module _ (opened : Contents) (last : Rear) where
   -- A run of a back, and what it does from there on.
   back_from : (rear : Rear) (taken : List Entry) (told : List Notice) → BackRuns opened rear taken told → (n : ℕ) (more : List Entry) (after : List Notice)
-      → BackGoes opened last n (as_due opened rear) more after → BackWent opened last (taken ++ more) (told ++ after)
+      → BackGoes opened last n rear more after → BackWent opened last (taken ++ more) (told ++ after)
   back_from _ _ _ (begins rear is) n more after goes = record { first = rear; is_opened = is; count = n; goes = goes }
   back_from _ _ _ (goes_on rear later taken got told heard runs known step) n more after goes =
       subst (λ (x : List Entry × List Notice). BackWent opened last x.0 x.1)
       (λ i. (sym (append_assoc taken got more) i, sym (append_assoc told heard after) i))
       (back_from rear taken told runs (suc n) (got ++ more) (heard ++ after)
-      (steps n (as_due opened rear) (as_due opened later) got more heard after (rear_as_due opened later known) refl
-      (steps_as_due opened rear later got heard step (rear_has_due opened rear (runs_rear opened rear taken told runs)) (rear_has_due opened later known)) goes))
+      (steps n rear later got more heard after known step goes))
 
 -- So all of its run.
 pub back_went : (opened : Contents) (rear : Rear) (taken : List Entry) (told : List Notice) → BackRuns opened rear taken told
-    → BackWent opened (as_due opened rear) taken told
+    → BackWent opened rear taken told
 back_went opened rear taken told runs =
-    subst (λ (x : List Entry × List Notice). BackWent opened (as_due opened rear) x.0 x.1) (λ i. (append-nil taken i, append-nil told i))
-    (back_from opened (as_due opened rear) rear taken told runs 0 [] [] rests)
+    subst (λ (x : List Entry × List Notice). BackWent opened rear x.0 x.1) (λ i. (append-nil taken i, append-nil told i))
+    (back_from opened rear rear taken told runs 0 [] [] rests)
 
 -- ---- the front
 -- What a turn got of the notices.

@@ -12,10 +12,11 @@ use Rattle.timeline.specs.declared.entry.Body.TheVariants as body
 use Rattle.timeline.specs.declared.entry.Entry.{Entry}
 use Rattle.timeline.specs.declared.notice.Notice.{Notice}
 use Rattle.timeline.specs.declared.notice.Notice.TheVariants as notice
+use Rattle.front_half.specs.Standing.{nothing_logged}
 use Rattle.output_gate.specs.Taking.{notice_of}
 use Rattle.object_history.specs.Pair.{Held, sync, halt, Rear}
 use Rattle.object_history.specs.Stepping.{BackSteps, IsRear, IsUnended, is_end, holds, before_next, with_entry, takes_own, read_fails, takes_down, takes_late, flies, stops, sends, syncs, halts, begins, misses}
-use Rattle.object_core.proofs.Forward.{BackGoes, rests, steps, HasDue}
+use Rattle.object_core.proofs.Forward.{BackGoes, rests, steps}
 use Rattle.object_core.proofs.Hearing.{not_none}
 use Rattle.object_core.specs.Heard.{is_news, IsWanted}
 
@@ -39,16 +40,16 @@ wanted_step rear _ _ _ (flies count map) want none n after rest told on = on wan
 wanted_step rear _ _ _ (stops stop held map stand less flown by_append is_held) want none n after rest told on = absurd (subst IsWanted stand want)
 wanted_step rear _ _ _ (sends release map) want none n after rest told on = on want none told
 wanted_step rear _ _ _ (syncs number needs others map is_held) want none n after rest told on = absurd (not_none _ others (sym is_held ∙ none))
-wanted_step rear _ _ _ (halts c needs others stop end is_held stand flown by_halt) want none n after rest told on =
+wanted_step rear _ _ _ (halts c needs others stop end map is_held stand flown by_halt) want none n after rest told on =
     absurd (not_none _ others (sym is_held ∙ none))
 wanted_step rear _ _ _ (begins c end before map stand) want none n after rest told on = ap is_news (sym (same_first _ n after rest told))
-wanted_step rear _ _ _ (misses c counts_before counts_after stand) want none n after rest told on = ap is_news (sym (same_first _ n after rest told))
+wanted_step rear _ _ _ (misses c counts_before counts_after map stand) want none n after rest told on = ap is_news (sym (same_first _ n after rest told))
 
 -- So each run of such a back begins.
 pub wanted_news : (opened : Contents) (last : Rear) (count : ℕ) (rear : Rear) (taken : List Entry) (told : List Notice) → BackGoes opened last count rear taken told
     → IsWanted rear.stand → rear.held ≡ [] → (n : Notice) (rest : List Notice) → told ≡ n ∷ rest → is_news n ≡ true
 wanted_news opened last _ _ _ _ rests want none n rest is = absurd (not_none n rest (sym is))
-wanted_news opened last _ _ _ _ (steps count rear next got more told after known due step goes) want none n rest is =
+wanted_news opened last _ _ _ _ (steps count rear next got more told after known step goes) want none n rest is =
     wanted_step rear next got told step want none n after rest is
     (λ wants frees comes. wanted_news opened last count next more after goes wants frees n rest comes)
 
@@ -94,14 +95,14 @@ module _ (c : Cause) (needs : ℕ) (n : Notice) (after rest : List Notice) where
   halted_step rear _ _ _ (syncs number needed others map is_held) held told on mounts =
       absurd (true≢false (sym (ap (λ (h : Held). is_end h.hold)
       (same_first (record { hold = sync number; needs = needed }) (halt_of c needs) others [] (sym is_held ∙ held)))))
-  halted_step rear _ _ _ (halts d needed others stop end is_held stand flown by_halt) held told on mounts = ap is_news (sym (same_first _ n after rest told))
+  halted_step rear _ _ _ (halts d needed others stop end map is_held stand flown by_halt) held told on mounts = ap is_news (sym (same_first _ n after rest told))
   halted_step rear _ _ _ (begins d end before map stand) held told on mounts = ap is_news (sym (same_first _ n after rest told))
-  halted_step rear _ _ _ (misses d counts_before counts_after stand) held told on mounts = ap is_news (sym (same_first _ n after rest told))
+  halted_step rear _ _ _ (misses d counts_before counts_after map stand) held told on mounts = ap is_news (sym (same_first _ n after rest told))
 
 pub halted_news : (opened : Contents) (last : Rear) (count : ℕ) (rear : Rear) (taken : List Entry) (told : List Notice) → BackGoes opened last count rear taken told
     → (c : Cause) (needs : ℕ) → rear.held ≡ halt_of c needs ∷ [] → (n : Notice) (rest : List Notice) → told ≡ n ∷ rest → is_news n ≡ true
 halted_news opened last _ _ _ _ rests c needs held n rest is = absurd (not_none n rest (sym is))
-halted_news opened last _ _ _ _ (steps count rear next got more told after known due step goes) c needs held n rest is =
+halted_news opened last _ _ _ _ (steps count rear next got more told after known step goes) c needs held n rest is =
     halted_step c needs n after rest rear next got told step held is
     (λ held_then comes. halted_news opened last count next more after goes c needs held_then n rest comes)
     (λ wants none comes. wanted_news opened last count next more after goes wants none n rest comes)
@@ -164,6 +165,7 @@ rear_holding opened rear held known = record {
   followed = known.followed;
   begun = known.begun;
   map = known.map;
+  closed = known.closed;
   owns = known.owns;
   kept = known.kept;
 }
@@ -181,43 +183,43 @@ module _ (opened : Contents) (last : Rear) (number needs : ℕ) (rest_told : Lis
       → after ≡ notice.Synced number ∷ rest_told → Freed count next rest more
 
   -- A step that tells nothing is one of a back without it.
-  frees_on : (rear next : Rear) (got : List Entry) (count : ℕ) (more : List Entry) (rest rest_then : List Held) → IsRear opened next → HasDue opened next
+  frees_on : (rear next : Rear) (got : List Entry) (count : ℕ) (more : List Entry) (rest rest_then : List Held) → IsRear opened next
       → BackSteps (record rear { held = rest }) (record next { held = rest_then }) got [] → Freed count next rest_then more → Freed (suc count) rear rest (got ++ more)
-  frees_on rear next got count more rest rest_then known due step freed = (
+  frees_on rear next got count more rest rest_then known step freed = (
     suc freed.0,
     ap suc freed.1,
-    steps freed.0 (record rear { held = rest }) (record next { held = rest_then }) got more [] rest_told (rear_holding opened next rest_then known) due step freed.2,
+    steps freed.0 (record rear { held = rest }) (record next { held = rest_then }) got more [] rest_told (rear_holding opened next rest_then known) step freed.2,
   )
 
   -- A step of a back that holds the sync first is one of a back without it; or it is the answer.
-  frees_step : (rear next : Rear) (got : List Entry) (told : List Notice) → BackSteps rear next got told → HasDue opened rear → (count : ℕ) (more : List Entry)
-      (after : List Notice) → IsRear opened next → HasDue opened next → BackGoes opened last count next more after → (rest : List Held)
+  frees_step : (rear next : Rear) (got : List Entry) (told : List Notice) → BackSteps rear next got told → IsRear opened rear → (count : ℕ) (more : List Entry)
+      (after : List Notice) → IsRear opened next → BackGoes opened last count next more after → (rest : List Held)
       → rear.held ≡ sync_of number needs ∷ rest → NeedMore needs rest → needs ≤ rear.before → told ++ after ≡ notice.Synced number ∷ rest_told
       → FreesAfter count next more after → Freed (suc count) rear rest (got ++ more)
-  frees_step rear _ _ _ (takes_own e map stand is unended) due count more after known due_then goes rest held all less told on =
+  frees_step rear _ _ _ (takes_own e map stand is unended) was count more after known goes rest held all less told on =
       let none = no_sync e.number rear.map e.body number after rest_told told in
       let behind : List Held = holds e.number rear.before e.body in
-      frees_on rear _ (e ∷ []) count more rest (rest ++ behind) known due_then
+      frees_on rear _ (e ∷ []) count more rest (rest ++ behind) known
       (subst (λ (t : List Notice). BackSteps (record rear { held = rest })
       (record rear { log = with_entry rear e; held = rest ++ behind; before = before_next rear.before e.body; map = map }) (e ∷ []) t) none
       (takes_own e map stand is (unended_rest rear.held (sync_of number needs) rest held unended)))
       (on (rest ++ behind) (ap (λ (h : List Held). h ++ behind) held)
       (All-append (λ h. needs ≤ h.needs) rest behind all (holds_more needs e.number rear.before e.body less)) (before_more needs rear.before e.body less)
       (ap (λ (t : List Notice). t ++ after) (sym none) ∙ told))
-  frees_step rear _ _ _ (read_fails e a free counts_before counts_after map stand is unended asks) due count more after known due_then goes rest held all less told on =
+  frees_step rear _ _ _ (read_fails e a free counts_before counts_after map stand is unended asks) was count more after known goes rest held all less told on =
       let behind : List Held = halt_of (causes.Disk counts_before counts_after) rear.before ∷ [] in
-      frees_on rear _ (e ∷ []) count more rest (rest ++ behind) known due_then
+      frees_on rear _ (e ∷ []) count more rest (rest ++ behind) known
       (read_fails e a free counts_before counts_after map stand is (unended_rest rear.held (sync_of number needs) rest held unended) asks)
       (on (rest ++ behind) (ap (λ (h : List Held). h ++ behind) held)
       (All-append (λ h. needs ≤ h.needs) rest behind all (All-cons (λ h. needs ≤ h.needs) (halt_of (causes.Disk counts_before counts_after) rear.before) [] less
       (All-nil (λ h. needs ≤ h.needs)))) less told)
-  frees_step rear _ _ _ (takes_down e c map stand is fits) due count more after known due_then goes rest held all less told on =
-      frees_on rear _ (e ∷ []) count more rest rest known due_then (takes_down e c map stand is fits) (on rest held all less told)
-  frees_step rear _ _ _ (takes_late e map is) due count more after known due_then goes rest held all less told on =
-      frees_on rear _ (e ∷ []) count more rest rest known due_then (takes_late e map is) (on rest held all less told)
-  frees_step rear _ _ _ (flies flown map) due count more after known due_then goes rest held all less told on =
-      frees_on rear _ [] count more rest rest known due_then (flies flown map) (on rest held all less told)
-  frees_step rear _ _ _ (stops stop held_then map stand fewer flown by_append is_held) due count more after known due_then goes rest held all less told on =
+  frees_step rear _ _ _ (takes_down e c map stand is fits) was count more after known goes rest held all less told on =
+      frees_on rear _ (e ∷ []) count more rest rest known (takes_down e c map stand is fits) (on rest held all less told)
+  frees_step rear _ _ _ (takes_late e map is) was count more after known goes rest held all less told on =
+      frees_on rear _ (e ∷ []) count more rest rest known (takes_late e map is) (on rest held all less told)
+  frees_step rear _ _ _ (flies flown map) was count more after known goes rest held all less told on =
+      frees_on rear _ [] count more rest rest known (flies flown map) (on rest held all less told)
+  frees_step rear _ _ _ (stops stop held_then map stand fewer flown by_append is_held) was count more after known goes rest held all less told on =
       kept_as (nat_le needs rear.durable) refl
     where
       others : List Held
@@ -228,33 +230,33 @@ module _ (opened : Contents) (last : Rear) (number needs : ℕ) (rest_told : Lis
 
       kept_as : (kept : Bool) → nat_le needs rear.durable ≡ kept → Freed (suc count) rear rest more
       kept_as true is =
-          frees_on rear _ [] count more rest others known due_then (stops stop others map stand fewer flown by_append refl)
+          frees_on rear _ [] count more rest others known (stops stop others map stand fewer flown by_append refl)
           (on others (is_then ∙ ap (λ (b : Bool). cond b (sync_of number needs ∷ others) others) is)
           (All-filter (kept_at rear.durable) (λ h. needs ≤ h.needs) rest all) (leb-true needs rear.durable is) told)
       kept_as false is =
           let none = is_then ∙ ap (λ (b : Bool). cond b (sync_of number needs ∷ others) others) is ∙ none_kept needs rear.durable rest (leb-false needs rear.durable is) all in
           absurd (true≢false (sym (wanted_news opened last count _ more after goes tt none (notice.Synced number) rest_told told)))
-  frees_step rear _ _ _ (sends release map) due count more after known due_then goes rest held all less told on =
-      frees_on rear _ [] count more rest rest known due_then (sends release map) (on rest held all less told)
-  frees_step rear _ _ _ (syncs other needed others map is_held) due count more after known due_then goes rest held all less told on =
+  frees_step rear _ _ _ (sends release map) was count more after known goes rest held all less told on =
+      frees_on rear _ [] count more rest rest known (sends release map) (on rest held all less told)
+  frees_step rear _ _ _ (syncs other needed others map is_held) was count more after known goes rest held all less told on =
       let same : others ≡ rest = same_rest (sync_of other needed) (sync_of number needs) others rest (sym is_held ∙ held) in (
         count,
         refl,
         subst (λ (x : List Held × Contents × List Notice). BackGoes opened last count (record rear { held = x.0; map = x.1 }) more x.2)
-            (λ i. (same i, (due_then ∙ sym due) i, same_rest (notice.Synced other) (notice.Synced number) after rest_told told i)) goes,
+            (λ i. (same i, (known.map nothing_logged _ _ refl ∙ sym (was.map nothing_logged _ _ refl)) i, same_rest (notice.Synced other) (notice.Synced number) after rest_told told i)) goes,
       )
-  frees_step rear _ _ _ (halts c needed others stop end is_held stand flown by_halt) due count more after known due_then goes rest held all less told on =
+  frees_step rear _ _ _ (halts c needed others stop end map is_held stand flown by_halt) was count more after known goes rest held all less told on =
       absurd (no_answer number _ after rest_told told refl)
-  frees_step rear _ _ _ (begins c end before map stand) due count more after known due_then goes rest held all less told on =
+  frees_step rear _ _ _ (begins c end before map stand) was count more after known goes rest held all less told on =
       absurd (no_answer number _ after rest_told told refl)
-  frees_step rear _ _ _ (misses c counts_before counts_after stand) due count more after known due_then goes rest held all less told on =
+  frees_step rear _ _ _ (misses c counts_before counts_after map stand) was count more after known goes rest held all less told on =
       absurd (no_answer number _ after rest_told told refl)
 
 -- Of a back that holds a sync first, whose answer it tells first, the rest of the run without it.
 pub frees : (opened : Contents) (last : Rear) (number needs : ℕ) (rest_told : List Notice) (count : ℕ) (rear : Rear) (taken : List Entry) (told : List Notice)
-    → BackGoes opened last count rear taken told → HasDue opened rear → (rest : List Held) → rear.held ≡ sync_of number needs ∷ rest → NeedMore needs rest
+    → BackGoes opened last count rear taken told → IsRear opened rear → (rest : List Held) → rear.held ≡ sync_of number needs ∷ rest → NeedMore needs rest
     → needs ≤ rear.before → told ≡ notice.Synced number ∷ rest_told → Freed opened last number needs rest_told count rear rest taken
-frees opened last number needs rest_told _ _ _ _ rests due rest held all less is = absurd (not_none (notice.Synced number) rest_told (sym is))
-frees opened last number needs rest_told _ _ _ _ (steps count rear next got more told after known due_then step goes) due rest held all less is =
-    frees_step opened last number needs rest_told rear next got told step due count more after known due_then goes rest held all less is
-    (λ rest_then held_then all_then less_then is_then. frees opened last number needs rest_told count next more after goes due_then rest_then held_then all_then less_then is_then)
+frees opened last number needs rest_told _ _ _ _ rests was rest held all less is = absurd (not_none (notice.Synced number) rest_told (sym is))
+frees opened last number needs rest_told _ _ _ _ (steps count rear next got more told after known step goes) was rest held all less is =
+    frees_step opened last number needs rest_told rear next got told step was count more after known goes rest held all less is
+    (λ rest_then held_then all_then less_then is_then. frees opened last number needs rest_told count next more after goes known rest_then held_then all_then less_then is_then)

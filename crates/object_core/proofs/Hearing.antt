@@ -26,7 +26,6 @@ use Rattle.object_history.specs.Pair.{Held, Stand, mounted, fallen, Rear, newest
 use Rattle.object_history.specs.Saying.{is_asked}
 use Rattle.object_history.specs.Stepping.{BackSteps, holds, stands_after, takes_own, read_fails as fails_read, takes_down, takes_late, flies, stops, sends, syncs as gives_sync, halts as gives_halt, begins, misses as gives_miss}
 use Rattle.object_core.specs.Heard.{is_news, IsWanted, IsUnderWay, by_notice, by_hold, by_mounting, by_entry, IsHeard}
-use Rattle.object_core.specs.Seen.{as_due}
 
 -- Something stays something, whatever stands before or behind it.
 pub some_first : {X : Type 0} (xs ys : List X) → xs ≢ [] → xs ++ ys ≢ []
@@ -158,11 +157,8 @@ module _ (start : Contents) (f : Front) (front : Fronted) (back : Backed) (unrea
   down_mends c now stand held notices (silent other none may) is = absurd (not_none b [] (sym last ∙ none))
 
 module _ (well : StepsSayWell) (k : Kind) (opened : Contents) (f : Front) (front : Fronted) (r : Rear) (line : List Entry) (notices : List Notice) where
-  abbrev now : Rear
-  now = as_due opened r
-
   -- what the news is, where the back is ahead
-  ahead : (entries : List Entry) (later : Rear) (told : List Notice) → IsHeard f now entries notices → newest r.log ≢ f.incarnation
+  ahead : (entries : List Entry) (later : Rear) (told : List Notice) → IsHeard f r entries notices → newest r.log ≢ f.incarnation
       → (IsWanted r.stand → IsUnderWay f later line (notices ++ told)) → IsUnderWay f later line (notices ++ told)
   ahead entries later told heard differs by = of (heard.news differs)
     where
@@ -170,7 +166,7 @@ module _ (well : StepsSayWell) (k : Kind) (opened : Contents) (f : Front) (front
       of (inl has) = by_notice (some_first notices told (some_news notices has))
       of (inr want) = by want
 
-  module _ (e : Entry) (pair : IsPair k opened f front now (e ∷ line) notices) (heard : IsHeard f now (e ∷ line) notices) (waits_so : waits f.mode ≡ true) where
+  module _ (e : Entry) (pair : IsPair k opened f front r (e ∷ line) notices) (heard : IsHeard f r (e ∷ line) notices) (waits_so : waits f.mode ≡ true) where
     -- the last entry of the mounted incarnation
     module _ (map : Contents) (stand : r.stand ≡ mounted) (is : e.incarnation ≡ newest r.log) (later : Rear)
         (held : later.held ≡ r.held ++ holds e.number r.before e.body) where
@@ -191,7 +187,7 @@ module _ (well : StepsSayWell) (k : Kind) (opened : Contents) (f : Front) (front
           ends [] none = some none
           ends (n ∷ first) none = not_none n (first ++ holds e.number r.before e.body) none
 
-      own_by : entries_of f.incarnation line ≡ [] → IsPhase opened pair.below pair.start f front now pair.lined.unread pair.lined.late notices
+      own_by : entries_of f.incarnation line ≡ [] → IsPhase opened pair.below pair.start f front r pair.lined.unread pair.lined.late notices
           → IsUnderWay f later line (notices ++ told)
       own_by none (inl together) =
           given_as (own_gives pair.start f front r.log pair.lined.unread e.body
@@ -204,7 +200,7 @@ module _ (well : StepsSayWell) (k : Kind) (opened : Contents) (f : Front) (front
       own_as [] none = own_by none pair.phase
       own_as (x ∷ own) some = by_entry (λ none. not_none x own (sym some ∙ none))
 
-      pub own_answer : IsUnderWay f now (e ∷ line) notices → IsUnderWay f later line (notices ++ told)
+      pub own_answer : IsUnderWay f r (e ∷ line) notices → IsUnderWay f later line (notices ++ told)
       own_answer (by_notice some) = by_notice (some_first notices told some)
       own_answer (by_hold some) = by_hold (λ none. some_first r.held (holds e.number r.before e.body) some (sym held ∙ none))
       own_answer (by_mounting want) = absurd (subst IsWanted stand want)
@@ -217,7 +213,7 @@ module _ (well : StepsSayWell) (k : Kind) (opened : Contents) (f : Front) (front
       mends_as (inl some) = by_notice (some_first notices [] some)
       mends_as (inr want) = by_mounting (subst IsWanted (sym stands) want)
 
-      down_by : entries_of f.incarnation line ≡ [] → IsPhase opened pair.below pair.start f front now pair.lined.unread pair.lined.late notices
+      down_by : entries_of f.incarnation line ≡ [] → IsPhase opened pair.below pair.start f front r pair.lined.unread pair.lined.late notices
           → IsUnderWay f later line (notices ++ [])
       down_by none (inl together) =
           mends_as (down_mends pair.start f front r.log pair.lined.unread e.body
@@ -230,7 +226,7 @@ module _ (well : StepsSayWell) (k : Kind) (opened : Contents) (f : Front) (front
       down_as [] none = down_by none pair.phase
       down_as (x ∷ own) some = by_entry (λ none. not_none x own (sym some ∙ none))
 
-      pub down_answer : IsUnderWay f now (e ∷ line) notices → IsUnderWay f later line (notices ++ [])
+      pub down_answer : IsUnderWay f r (e ∷ line) notices → IsUnderWay f later line (notices ++ [])
       down_answer (by_notice some) = by_notice (some_first notices [] some)
       down_answer (by_hold some) = by_hold (λ none. some (sym held ∙ none))
       down_answer (by_mounting want) = absurd (subst IsWanted stand want)
@@ -238,21 +234,21 @@ module _ (well : StepsSayWell) (k : Kind) (opened : Contents) (f : Front) (front
 
     -- one of the incarnation before
     module _ (is : suc e.incarnation ≡ newest r.log) (later : Rear) (held : later.held ≡ r.held) (stands : later.stand ≡ r.stand) where
-      late_by : entries_of f.incarnation (e ∷ line) ≢ [] → IsPhase opened pair.below pair.start f front now pair.lined.unread pair.lined.late notices
+      late_by : entries_of f.incarnation (e ∷ line) ≢ [] → IsPhase opened pair.below pair.start f front r pair.lined.unread pair.lined.late notices
           → IsUnderWay f later line (notices ++ [])
       late_by some (inl together) =
           by_entry (λ none. some (other_first f.incarnation e line (λ same. omega (arith, same, is, together.0, pair.number)) ∙ none))
       late_by some (inr behind) =
           ahead (e ∷ line) later [] heard (λ same. omega (arith, same, behind.0, pair.number)) (λ want. by_mounting (subst IsWanted (sym stands) want))
 
-      pub late_answer : IsUnderWay f now (e ∷ line) notices → IsUnderWay f later line (notices ++ [])
+      pub late_answer : IsUnderWay f r (e ∷ line) notices → IsUnderWay f later line (notices ++ [])
       late_answer (by_notice some) = by_notice (some_first notices [] some)
       late_answer (by_hold some) = by_hold (λ none. some (sym held ∙ none))
       late_answer (by_mounting want) = by_mounting (subst IsWanted (sym stands) want)
       late_answer (by_entry some) = late_by some pair.phase
 
   -- nothing of the line is taken, and nothing that the front hears of is gone
-  still_answer : (later : Rear) (more : List Notice) → later.held ≡ r.held → later.stand ≡ r.stand → IsUnderWay f now line notices
+  still_answer : (later : Rear) (more : List Notice) → later.held ≡ r.held → later.stand ≡ r.stand → IsUnderWay f r line notices
       → IsUnderWay f later line (notices ++ more)
   still_answer later more held stands (by_notice some) = by_notice (some_first notices more some)
   still_answer later more held stands (by_hold some) = by_hold (λ none. some (sym held ∙ none))
@@ -261,8 +257,8 @@ module _ (well : StepsSayWell) (k : Kind) (opened : Contents) (f : Front) (front
 
 -- A step keeps the front hearing, where it is told what the step tells.
 pub back_heard : (well : StepsSayWell) (k : Kind) (opened : Contents) (f : Front) (front : Fronted) (r later : Rear) (got line : List Entry)
-    (told notices : List Notice) → BackSteps r later got told → IsPair k opened f front (as_due opened r) (got ++ line) notices
-    → IsHeard f (as_due opened r) (got ++ line) notices → IsHeard f (as_due opened later) line (notices ++ told)
+    (told notices : List Notice) → BackSteps r later got told → IsPair k opened f front r (got ++ line) notices
+    → IsHeard f r (got ++ line) notices → IsHeard f later line (notices ++ told)
 back_heard well k opened f front r _ _ line _ notices (takes_own e map stand is unended) pair heard = record {
   news = λ differs. news_stays notices _ r.stand (heard.news differs);
   answer = λ so. own_answer well k opened f front r line notices e pair heard so r.map stand is _ refl (heard.answer so);
@@ -299,7 +295,7 @@ back_heard well k opened f front r _ _ line _ notices (gives_sync number needs r
   news = λ differs. news_stays notices _ r.stand (heard.news differs);
   answer = λ so. by_notice (some_last notices _ []);
 }
-back_heard well k opened f front r _ _ line _ notices (gives_halt c needs rest stop end is_held stand flown by_halt) pair heard = record {
+back_heard well k opened f front r _ _ line _ notices (gives_halt c needs rest stop end map is_held stand flown by_halt) pair heard = record {
   news = λ differs. inl (news_last notices _ refl);
   answer = λ so. by_notice (some_last notices _ []);
 }
@@ -307,7 +303,7 @@ back_heard well k opened f front r _ _ line _ notices (begins c end before map s
   news = λ differs. inl (news_last notices _ refl);
   answer = λ so. by_notice (some_last notices _ []);
 }
-back_heard well k opened f front r _ _ line _ notices (gives_miss c counts_before counts_after stand) pair heard = record {
+back_heard well k opened f front r _ _ line _ notices (gives_miss c counts_before counts_after map stand) pair heard = record {
   news = λ differs. inl (news_last notices _ refl);
   answer = λ so. by_notice (some_last notices _ []);
 }

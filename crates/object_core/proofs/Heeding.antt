@@ -2,7 +2,7 @@
 use Rattle.std.proofs.Common.{◌≡◌, ◌≢◌, ◌∙◌, ap, sym, subst, refl, inl, inr, true≢false, ℕ, suc, List, [], ◌∷◌, ◌++◌, append_assoc, arith, Option, Some, None}
 use Rattle.std.proofs.lemmas.List.{append_cancel_left}
 use Rattle.std.proofs.lemmas.List.Elements.{filter-append}
-use Rattle.std.specs.Prelude.{ℤ, true, false, ◌==◌, ◌⊎◌}
+use Rattle.std.specs.Prelude.{ℤ, true, ◌==◌, ◌⊎◌}
 use Rattle.std.specs.List.{list_any}
 use Rattle.storage_map.specs.Contents.{Contents}
 use Rattle.do_value.specs.declared.value.Value.TheVariants as value

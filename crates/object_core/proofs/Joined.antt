@@ -24,7 +24,7 @@ use Rattle.front_history.specs.Turns.{BackStepsKeep, FrontBegins, TurnSteps}
 use Rattle.object_messages.specs.Dropped.{DropsAreAnswered}
 use Rattle.object_messages.specs.Laws.{EarlyIsUnasked}
 use Rattle.object_core.proofs.Dropping.{downs_drops, first_none, halt_drops, none_said, steps_downs, turn_drops}
-use Rattle.object_core.proofs.Forward.{FrontSteps, HasDue, turned, halted}
+use Rattle.object_core.proofs.Forward.{FrontSteps, turned, halted}
 use Rattle.object_core.proofs.Hearing.{not_none, some_last}
 use Rattle.object_core.proofs.Joining.{Keeps}
 use Rattle.object_core.proofs.Meeting.{begin_meets, joins, step_meets, turn_meets, way_on}
@@ -32,7 +32,6 @@ use Rattle.object_core.proofs.Pairing.{pair_now, taken_now}
 use Rattle.object_core.proofs.Sticking.{given_unasked, turn_sticks}
 use Rattle.object_core.specs.Apart.{BackRuns, FrontRuns, IsOpened, Joined}
 use Rattle.object_core.specs.Dropping.{IsFitFor, MayDrop}
-use Rattle.object_core.specs.Seen.{as_due}
 
 -- Of a back that has taken nothing no incarnation has ended, and it holds nothing.
 record IsUntaken (rear : Rear) : Type 0 where
@@ -53,10 +52,10 @@ step_untaken opened r _ _ _ (stops stop held map stand less flown by_append is_h
     absurd (known.owns less (ap (λ (taken : List Entry). batches_in (entries_of (newest r.log) taken)) none))
 step_untaken opened r _ _ _ (sends release map) known was none = record { none_ended = (was none).none_ended; none_held = (was none).none_held }
 step_untaken opened r _ _ _ (syncs number needs rest map is_held) known was none = absurd (not_none _ rest (sym is_held ∙ (was none).none_held))
-step_untaken opened r _ _ _ (halts c needs rest stop end is_held stand flown by_halt) known was none =
+step_untaken opened r _ _ _ (halts c needs rest stop end map is_held stand flown by_halt) known was none =
     absurd (not_none _ rest (sym is_held ∙ (was none).none_held))
 step_untaken opened r _ _ _ (begins c end before map stand) known was none = record { none_ended = (was none).none_ended; none_held = (was none).none_held }
-step_untaken opened r _ _ _ (misses c counts_before counts_after stand) known was none =
+step_untaken opened r _ _ _ (misses c counts_before counts_after map stand) known was none =
     record { none_ended = (was none).none_ended; none_held = (was none).none_held }
 
 module _ (front_begins : FrontBegins) (laws : TurnSteps) (back_keeps : BackStepsKeep) (come : EventsCome) (unasked : EarlyIsUnasked) (answered : DropsAreAnswered)
@@ -136,11 +135,11 @@ module _ (front_begins : FrontBegins) (laws : TurnSteps) (back_keeps : BackSteps
 
   -- A step of the back leaves them so.
   step_joint : (half : Half Evaluated) (st : Stood) (events : List Event) (rear next : Rear) (got line : List Entry) (told notices : List Notice)
-      → IsRear opened rear → HasDue opened rear → IsRear opened next → HasDue opened next → BackSteps rear next got told
+      → IsRear opened rear → IsRear opened next → BackSteps rear next got told
       → Joint half st events rear (got ++ line) notices → Joint half st events next line (notices ++ told)
-  step_joint half st events rear next got line told notices known due known_then due_then step joint = record {
+  step_joint half st events rear next got line told notices known known_then step joint = record {
     joined = record {
-      meet = step_meets front_begins laws back_keeps script class opened half st rear next got line told notices known due known_then due_then step joint.joined.meet;
+      meet = step_meets front_begins laws back_keeps script class opened half st rear next got line told notices known known_then step joint.joined.meet;
       sticks = joint.joined.sticks;
       drops =
           downs_drops script first opened.alarm half st rear.log.downs next.log.downs events (steps_downs rear next got told step) joint.joined.drops;
@@ -153,7 +152,7 @@ module _ (front_begins : FrontBegins) (laws : TurnSteps) (back_keeps : BackSteps
 
   -- A front that was just made, and the back of a slot that was just mounted.
   begin_joint : (half : Half Evaluated) (rear : Rear) → IsHalf seen script half (fresh first opened.alarm) → fronted half.log ≡ nothing_logged → IsOpened opened rear
-      → Joint half (fresh first opened.alarm) [] (as_due opened rear) [] []
+      → Joint half (fresh first opened.alarm) [] rear [] []
   begin_joint half rear stands unlogged is = record {
     joined = record {
       meet = begin_meets front_begins laws back_keeps script class opened half first rear unlogged is;
@@ -181,14 +180,14 @@ module _ (front_begins : FrontBegins) (laws : TurnSteps) (back_keeps : BackSteps
     meet = λ half st events rear line notices joint. joint.joined.meet;
     turn = λ old new st next events later heard left rear line sent known on logged step is_class joint.
         turn_joint old new st next events later heard left rear line sent known on logged step is_class joint;
-    step = λ half st events rear next got line told notices known due known_then due_then step joint.
-        step_joint half st events rear next got line told notices known due known_then due_then step joint;
+    step = λ half st events rear next got line told notices known known_then step joint.
+        step_joint half st events rear next got line told notices known known_then step joint;
   }
 
   -- So halves that ran apart stand.
   pub apart_meet : (half : Half Evaluated) (st : Stood) (rear : Rear) (events : List Event) (got told : List Notice) (sent taken line : List Entry) (notices : List Notice)
       → FrontRuns script first opened.alarm half st events got sent → BackRuns opened rear taken told → sent ≡ taken ++ line → told ≡ got ++ notices
-      → IsClass st.class class → Joined script class first opened half st events (as_due opened rear) line notices
+      → IsClass st.class class → Joined script class first opened half st events rear line notices
   apart_meet half st rear events got told sent taken line notices front back is_line is_told is_class =
       (joins front_begins laws back_keeps script class opened (λ h s es r l ns. Joint h s es r l ns) joint_keeps first
       (λ h r stands unlogged is. begin_joint h r stands unlogged is)

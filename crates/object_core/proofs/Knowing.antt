@@ -5,7 +5,7 @@ use Rattle.std.proofs.Math.Nat.{eq-or-lt_of_le}
 use Rattle.std.specs.Prelude.{Bool, true, false, not, ◌&&◌, ◌==◌, nat_lt, is_some, slice_get, if◌then◌else◌}
 use Rattle.storage_map.specs.Limits.{Object}
 use Rattle.storage_map.specs.declared.op.Op.{Op}
-use Rattle.timeline.specs.Logs.{Fronted, Backed, backed}
+use Rattle.timeline.specs.Logs.{Backed, backed}
 use Rattle.timeline.specs.declared.entry.Body.{Body}
 use Rattle.timeline.specs.declared.entry.Body.TheVariants as body
 use Rattle.timeline.specs.declared.entry.Entry.{Entry}
@@ -17,7 +17,7 @@ use Rattle.output_gate.specs.Fits.{comes_behind, is_halt, last_of}
 use Rattle.output_gate.specs.Serving.{IsBackAs, marks_of}
 use Rattle.output_gate.specs.Taking.{fit_as, fits_so, fit_of, is_mounted_mode}
 use Rattle.output_gate.specs.declared.back.Back.{Back}
-use Rattle.object_core.proofs.KnownObject.{in_order, has_ended, number_is, never_late}
+use Rattle.object_core.proofs.KnownObject.{ends_by_halt, in_order, has_ended, number_is, never_late}
 use Rattle.object_core.proofs.Sending.{known_append}
 use Rattle.object_core.specs.Alone.{KnowsObject}
 use Rattle.object_core.specs.Fitting.{known_by, known_over, last_over, FitsKnown, AreFit}
@@ -97,6 +97,10 @@ comes_least : (last : Option Entry) (e : Entry) → comes_behind last e ≡ true
 comes_least None e comes = omega arith
 comes_least (Some x) e comes = behind_least (x.incarnation == e.incarnation) x e refl comes
 
+second : (a b : Bool) → (a && b) ≡ true → b ≡ true
+second true b is = is
+second false b is = absurd (true≢false (sym is))
+
 not_less : (b : Bool) → not b ≡ true → b ≡ false
 not_less true is = absurd (true≢false (sym is))
 not_less false is = refl
@@ -116,18 +120,21 @@ module _ {D : Type 0} (moment_of : D → ℕ) (left_since : D → ℕ → List �
   comes : comes_behind (last_of taken) e ≡ true
   comes = ap (λ (last : Option Entry). comes_behind last e) (sym (last_is taken)) ∙ here.comes
 
-  parts : Fits (comes_behind (last_of taken) e) (not (nat_lt back.number e.incarnation))
+  parts : Fits (comes_behind (last_of taken) e && nat_lt back.closed e.incarnation) (not (nat_lt back.number e.incarnation))
       (fits_so (e.incarnation == back.number) (is_mounted_mode back.mode) (is_some back.identity) e.body)
   parts = fits_parts _ _ _ (e.incarnation == back.number) (is_mounted_mode back.mode) fits
 
   -- It is bound by an entry of the incarnation that is mounted.
   never_before : (bound : Object) → e.body ≡ body.Bind bound → (e.incarnation ≡ back.number → ⊥) → ⊥
   never_before bound is differs =
+      let stops : length back.log.stops.items ≡ e.incarnation =
+      between (length back.log.stops.items) e.incarnation back.number (newest_of taken) number (ltb-false back.number e.incarnation (not_less _ parts.is_within)) differs
+      (in_order moment_of left_since told image faults_of start opening sound nothing_logged back known).newest (comes_least (last_of taken) e comes) in
+      let goes : back.closed < e.incarnation = ltb-true back.closed e.incarnation (second (comes_behind (last_of taken) e) (nat_lt back.closed e.incarnation) parts.is_behind) in
       never_late (backed back.log) e first here.first comes (subst (λ (b : Body). FitsKnown (known_over first taken) b) is here.knows)
-      (in_order moment_of left_since told image faults_of start opening sound nothing_logged back known) (marks_of back) nothing_logged
-      (has_ended moment_of left_since told image faults_of start opening sound nothing_logged back known)
-      (between (length back.log.stops.items) e.incarnation back.number (newest_of taken) number (ltb-false back.number e.incarnation (not_less _ parts.is_within)) differs
-      (in_order moment_of left_since told image faults_of start opening sound nothing_logged back known).newest (comes_least (last_of taken) e comes))
+      (in_order moment_of left_since told image faults_of start opening sound nothing_logged back known)
+      (ends_by_halt moment_of left_since told image faults_of start opening sound nothing_logged back known e goes stops) (marks_of back) nothing_logged
+      (has_ended moment_of left_since told image faults_of start opening sound nothing_logged back known) stops
     where
       between : (stops i n newest : ℕ) → n ≡ suc stops → i ≤ n → (i ≡ n → ⊥) → stops ≤ newest → newest ≤ i → stops ≡ i
       between stops i n newest is_next most differs least behind =

@@ -1,5 +1,5 @@
 -- The object that is bound is bound by an entry of the incarnation that is mounted.
-use Rattle.std.proofs.Common.{◌≡◌, ◌∙◌, ap, sym, subst, refl, inl, inr, true≢false, ℕ, zero, suc, ◌-◌, ◌<◌, List, [], ◌∷◌, ◌++◌, length, arith, Option, Some, None}
+use Rattle.std.proofs.Common.{◌≡◌, ◌∙◌, ap, sym, subst, refl, inl, inr, ⊎_elim, true≢false, ℕ, zero, suc, ◌-◌, ◌<◌, List, [], ◌∷◌, ◌++◌, length, arith, Option, Some, None}
 use Rattle.std.proofs.lemmas.Bool.{eqb-true, ltb-true}
 use Rattle.std.specs.Prelude.{Bool, true, false, not, cond, ◌==◌, nat_lt, if◌then◌else◌, slice_get}
 use Rattle.storage_map.specs.declared.op.Op.{Op}
@@ -7,10 +7,12 @@ use Rattle.timeline.specs.History.{entries_of, incarnation_at, incarnations, bat
 use Rattle.timeline.specs.Logs.{Fronted, Backed, backed}
 use Rattle.timeline.specs.Passed.{discards}
 use Rattle.timeline.specs.Told.{Said, said_by, spoken, batches_of}
+use Rattle.timeline.specs.declared.back_log.Stop.{Stop}
 use Rattle.timeline.specs.declared.entry.Body.{Body}
 use Rattle.timeline.specs.declared.entry.Body.TheVariants as body
 use Rattle.timeline.specs.declared.entry.Entry.{Entry}
-use Rattle.output_gate.specs.Ended.{AreInOrder, Marks, HasEnded, HaveEnded, IsEnding, AreEnding, halts_as, newest_as}
+use Rattle.output_gate.proofs.Orderly.{is_ordered}
+use Rattle.output_gate.specs.Ended.{AreInOrder, Marks, HasEnded, HaveEnded, IsEnding, AreEnding, halts_as, last_stop, newest_as, newest_of}
 use Rattle.output_gate.specs.Fits.{comes_behind, is_halt, last_of}
 use Rattle.output_gate.specs.Serving.{IsBackAs, marks_of}
 use Rattle.output_gate.specs.declared.back.Back.{Back}
@@ -74,8 +76,13 @@ behind_same : (same : Bool) (x e : Entry) → (x.incarnation == e.incarnation) �
 behind_same true x e is comes no_less = (eqb-true x.incarnation e.incarnation is, comes)
 behind_same false x e is comes no_less = absurd (no_less (ltb-true x.incarnation e.incarnation comes))
 
+-- The newest incarnation that has ended without discarding anything ended by a halt, where nothing of a newer one was taken.
+abbrev pub EndsByHalt : Backed → Type 0
+EndsByHalt log = (stop : Stop) → last_stop log.stops ≡ Some stop → discards stop.cause stop.read ≡ false → newest_of log.taken ≡ length log.stops
+    → halts_as (last_of log.taken) ≡ true
+
 module _ (log : Backed) (e : Entry) (first : Bool) (fit : AreFit first None log.taken) (comes : comes_behind (last_of log.taken) e ≡ true)
-    (unknown : known_over first log.taken ≡ false) (ordered : AreInOrder log.taken log.stops) (marks : Marks) (front : Fronted)
+    (unknown : known_over first log.taken ≡ false) (ordered : AreInOrder log.taken log.stops) (halts : EndsByHalt log) (marks : Marks) (front : Fronted)
     (ended : (m : ℕ) → length log.stops ≡ suc m → HasEnded marks (incarnation_at front log m) (incarnations front log m)) where
   -- The incarnation before the newest isn't that of an entry behind which nothing is known: it ended by a halt, or wrote.
   end_is : (m : ℕ) (x : Entry) → length log.stops ≡ suc m → last_of log.taken ≡ Some x → x.incarnation ≡ suc m → not (is_halt x.body) ≡ true → ⊥
@@ -89,7 +96,7 @@ module _ (log : Backed) (e : Entry) (first : Bool) (fit : AreFit first None log.
           let at : length log.stops - 1 ≡ m = omega (arith, stops) in
           not_so (is_halt x.body) goes
           (sym (ap halts_as last)
-          ∙ ordered.halted (ended m stops).stop (ap (λ (n : ℕ). slice_get log.stops n) at ∙ (ended m stops).stopped) is
+          ∙ halts (ended m stops).stop (ap (λ (n : ℕ). slice_get log.stops n) at ∙ (ended m stops).stopped) is
           (ap newest_as last ∙ own ∙ sym stops))
 
   by_last : (last : Option Entry) → last_of log.taken ≡ last → comes_behind last e ≡ true → length log.stops ≡ e.incarnation → ⊥
@@ -129,3 +136,12 @@ module _ {D : Type 0} (moment_of : D → ℕ) (left_since : D → ℕ → List �
   pub number_is : IsBackAs moment_of left_since told image faults_of start opening sound back → back.number ≡ suc (length log.stops)
   number_is (inl m) = m.safe.room.number
   number_is (inr u) = u.safe.number
+
+  -- An entry of the incarnation that has ended last, of which no read has failed, finds it ended by a halt, where it discarded nothing.
+  pub ends_by_halt : IsBackAs moment_of left_since told image faults_of start opening sound back → (e : Entry) → back.closed < e.incarnation
+      → length log.stops ≡ e.incarnation → EndsByHalt log
+  ends_by_halt known e goes stops stop last none newest =
+      ⊎_elim (λ (halts : halts_as (last_of log.taken) ≡ true). halts)
+      (λ (read : stop.read ≡ true).
+      absurd (omega (arith, goes, stops, (is_ordered moment_of left_since told image faults_of start opening sound back known).read stop last read)))
+      ((in_order known).halted stop last none newest)

@@ -21,12 +21,11 @@ use Rattle.output_gate.proofs.Stored.{same_journal, still_limit}
 use Rattle.output_gate.proofs.Unfit.{stops_still}
 use Rattle.output_gate.proofs.Written.{written_as_before, written_enters, written_flush, written_release, written_remounts, written_stays}
 use Rattle.output_gate.specs.Entering.{Enters, Failed}
-use Rattle.timeline.specs.History.{is_halting}
 use Rattle.output_gate.specs.Flushing.{Ends, Flushes}
 use Rattle.output_gate.specs.Held.{HaltsLast, halts_well, has_halt, is_held_halt}
 use Rattle.output_gate.specs.Mending.{Remounts, may_mend}
 use Rattle.output_gate.specs.Releasing.{Releases, Stays, released_log}
-use Rattle.output_gate.specs.Serving.{IsAsBefore, IsBackAs, IsMounted, stop_of}
+use Rattle.output_gate.specs.Serving.{halt_of, IsAsBefore, IsBackAs, IsMounted, stop_of}
 use Rattle.output_gate.specs.Storing.{HasLimit, IsCauseOf, IsDiskOf, KeepsEnd, KeepsTelling, ReadsDisk}
 use Rattle.output_gate.specs.Taking.{fit_of, is_wanted}
 use Rattle.output_gate.specs.Written.{AreWritten, FindsEnd}
@@ -46,8 +45,8 @@ one_more : (limit : ℕ) (stops : List Stop) (last : Stop) → AreFullAt limit s
 one_more limit stops last all is stop has =
     ⊎_elim (λ before. all stop before) (λ (same : last ≡ stop). subst (λ (s : Stop). IsFullAt limit s.cause) same is) (Contains-push_cases stops last stop has)
 
--- What a front ends isn't full.
-halting_full : (limit : ℕ) (c : Cause) → is_halting c ≡ true → IsFullAt limit c
+-- What a front ends, or a read that failed, isn't full.
+halting_full : (limit : ℕ) (c : Cause) → halts_well (Halt c) ≡ true → IsFullAt limit c
 halting_full limit (cause.Disk before after) is = tt
 halting_full limit (cause.Full needs most) is = absurd (true≢false (sym is))
 halting_full limit cause.Exceeded is = tt
@@ -135,7 +134,7 @@ module _ {D : Type 0} (moment_of : D → ℕ) (left_since : D → ℕ → List �
   -- an append
   ends_full : IsMounted moment_of left_since told image faults_of start opening sound old → old.before ≢ old.durable → (e : Ends faults_of old new) → IsFullAt extent.limit e.cause
   ends_full m more e =
-      let can = can_append told image m.journal old m.safe more in
+      let can = can_append told image sound m.journal old m.safe more in
       let same : m.journal ≡ e.journal = same_journal m.journal e.journal (sym m.safe.store ∙ e.from) in
       full_by extent.limit faults_of e.journal e.after can.1 can.2 e.cause (by.journal e.journal e.from) (subst (λ (j : Journal D). IsStaged j can.1 can.2) same can.4) e.by_cause
 
@@ -153,7 +152,7 @@ module _ {D : Type 0} (moment_of : D → ℕ) (left_since : D → ℕ → List �
       (subst (AreFullAt extent.limit) (sym (ap (λ (x : Backed). x.stops) ends.log))
       (one_more extent.limit old.log.stops.items (stop_of old ends.cause) by.full (ends_full m more ends))) (flush_written more (inr ends))
 
-  -- A halt that is held is by a cause of a front.
+  -- A halt that is held is by a cause of a front, or by a read that failed.
   halts_as : (before : ℕ) (first : BackHeld) (rest : List BackHeld) (b : HeldBody) → first.body ≡ b → HaltsLast before (first ∷ rest) → halts_well b ≡ true
   halts_as before first rest (Message sent) is last = refl
   halts_as before first rest (Sync number) is last = refl
@@ -173,7 +172,7 @@ module _ {D : Type 0} (moment_of : D → ℕ) (left_since : D → ℕ → List �
   released_full : (moment : ℕ) (held : BackHeld) (b : HeldBody) → halts_well b ≡ true → AreFullAt extent.limit old.log.stops.items → AreFullAt extent.limit (released_log old moment held b).stops
   released_full moment held (Message sent) well all = all
   released_full moment held (Sync number) well all = all
-  released_full moment held (Halt c) well all = one_more extent.limit old.log.stops.items (stop_of old c) all (halting_full extent.limit c well)
+  released_full moment held (Halt c) well all = one_more extent.limit old.log.stops.items (halt_of old c) all (halting_full extent.limit c well)
 
   pub limited_release : (later : Bool) → IsBackAs moment_of left_since told image faults_of start opening later new → (disk : D) → IsDiskOf old.store disk
       → (s0 s : List Notice) (o0 o : List Sent) → Releases moment_of old new s0 s o0 o → IsLimitedBy told extent new

@@ -1,5 +1,5 @@
 -- Halves that ran apart are paired, and the front hears of its back.
-use Rattle.std.proofs.Common.{◌≡◌, ◌∙◌, ap, sym, refl, subst, inl, true≢false, ℕ, suc, ◌+◌, List, [], ◌++◌, append_assoc, length, arith, Option}
+use Rattle.std.proofs.Common.{◌≡◌, ◌∙◌, ap, sym, refl, inl, true≢false, ℕ, suc, ◌+◌, List, [], ◌++◌, append_assoc, length, arith, Option}
 use Rattle.std.specs.Prelude.{false}
 use Rattle.do_tree.specs.Tree.{Script}
 use Rattle.storage_map.specs.Contents.{Contents}
@@ -14,17 +14,15 @@ use Rattle.front_half.specs.Standing.{Stood, IsClass, IsHalf, fresh, is_stopped,
 use Rattle.object_front.specs.declared.evaluated.Evaluated.{Evaluated}
 use Rattle.front_half.specs.declared.half.Half.{Half}
 use Rattle.object_history.proofs.WellSaid.{delivers_well, answers_well}
-use Rattle.object_history.specs.Pair.{Rear, IsPair}
+use Rattle.object_history.specs.Pair.{Rear}
 use Rattle.object_history.specs.Stepping.{BackSteps, IsRear}
 use Rattle.front_history.specs.Turns.{AreUnderWay, BackStepsKeep, FrontBegins, TurnSteps}
 use Rattle.object_core.proofs.Attending.{turn_heard}
-use Rattle.object_core.proofs.Forward.{BackWent, FrontWent, FrontSteps, HasDue, turned, halted, back_went, front_went, rear_as_due}
+use Rattle.object_core.proofs.Forward.{BackWent, FrontWent, FrontSteps, turned, halted, back_went, front_went}
 use Rattle.object_core.proofs.Hearing.{back_heard}
 use Rattle.object_core.proofs.Joining.{JointOf, Keeps, all_meet}
 use Rattle.object_core.proofs.Pairing.{pair_now, taken_now}
 use Rattle.object_core.specs.Apart.{BackRuns, FrontRuns, IsOpened, Meet}
-use Rattle.object_core.specs.Heard.{IsHeard}
-use Rattle.object_core.specs.Seen.{as_due}
 
 -- What a turn leaves under way.
 pub way_on : (old new : Half Evaluated) (before got heard left : List Notice) (line sent : List Entry) → new.log.sent.items ≡ old.log.sent.items ++ sent
@@ -59,28 +57,22 @@ module _ (begins : FrontBegins) (laws : TurnSteps) (back_keeps : BackStepsKeep) 
         heard = λ on_then. absurd (true≢false (sym halts.stops.stopped ∙ on_then));
       }
 
-  -- a back that has the map that is due is the one that it then is
-  is_as_due : (rear : Rear) → HasDue opened rear → rear ≡ as_due opened rear
-  is_as_due rear due = ap (λ (m : Contents). record rear { map = m }) due
-
   -- So does a step of the back.
   pub step_meets : (half : Half Evaluated) (st : Stood) (rear next : Rear) (got line : List Entry) (told notices : List Notice)
-      → IsRear opened rear → HasDue opened rear → IsRear opened next → HasDue opened next → BackSteps rear next got told
+      → IsRear opened rear → IsRear opened next → BackSteps rear next got told
       → Meet script class opened st half rear (got ++ line) notices → Meet script class opened st half next line (notices ++ told)
-  step_meets half st rear next got line told notices known due known_then due_then step met = record {
+  step_meets half st rear next got line told notices known known_then step met = record {
     paired = back_keeps k opened st half rear next got line told told notices known known_then step (inl refl) met.paired;
     heard = λ on.
-        subst (λ (r : Rear). IsHeard st.front r line (notices ++ told)) (sym (is_as_due next due_then))
-        (back_heard (record { on_event = delivers_well; on_answer = answers_well }) k opened st.front (fronted half.log) rear next got line told notices step
-        (subst (λ (r : Rear). IsPair k opened st.front (fronted half.log) r (got ++ line) notices) (is_as_due rear due) (pair_now k opened st half rear (got ++ line) notices on met.paired))
-        (subst (λ (r : Rear). IsHeard st.front r (got ++ line) notices) (is_as_due rear due) (met.heard on)));
+        back_heard (record { on_event = delivers_well; on_answer = answers_well }) k opened st.front (fronted half.log) rear next got line told notices step
+        (pair_now k opened st half rear (got ++ line) notices on met.paired) (met.heard on);
   }
 
   -- Both halves of a slot that was just mounted.
   pub begin_meets : (half : Half Evaluated) (first : Option ℕ) (rear : Rear) → fronted half.log ≡ nothing_logged → IsOpened opened rear
-      → Meet script class opened (fresh first opened.alarm) half (as_due opened rear) [] []
+      → Meet script class opened (fresh first opened.alarm) half rear [] []
   begin_meets half first rear unlogged is = record {
-    paired = begins k opened (fresh first opened.alarm) half (as_due opened rear) (rear_as_due opened rear is.is_rear) is.stand is.held is.taken is.stops is.downs unlogged refl;
+    paired = begins k opened (fresh first opened.alarm) half rear is.is_rear is.stand is.held is.taken is.stops is.downs unlogged refl;
     heard = λ on. record {
       news = λ differs. absurd (differs (ap (λ (stops : List Stop). suc (length stops)) is.stops));
       answer = λ so. absurd (true≢false (sym so));
@@ -90,13 +82,13 @@ module _ (begins : FrontBegins) (laws : TurnSteps) (back_keeps : BackStepsKeep) 
   -- What both begin with, and what each of their steps keeps, holds where they ran apart.
   pub joins : (Joint : JointOf) → Keeps script class opened Joint → (first : Option ℕ)
       → ((half : Half Evaluated) (rear : Rear) → IsHalf seen script half (fresh first opened.alarm) → fronted half.log ≡ nothing_logged → IsOpened opened rear
-      → Joint half (fresh first opened.alarm) [] (as_due opened rear) [] [])
+      → Joint half (fresh first opened.alarm) [] rear [] [])
       → (half : Half Evaluated) (st : Stood) (rear : Rear) (events : List Event) (got told : List Notice) (sent taken line : List Entry) (notices : List Notice)
       → FrontRuns script first opened.alarm half st events got sent → BackRuns opened rear taken told → sent ≡ taken ++ line → told ≡ got ++ notices
-      → IsClass st.class class → Joint half st events (as_due opened rear) line notices
+      → IsClass st.class class → Joint half st events rear line notices
   joins Joint keeps first begin half st rear events got told sent taken line notices front back is_line is_told is_class =
       let f : FrontWent script first opened.alarm half st events got sent = front_went script first opened.alarm half st events got sent front in
-      let b : BackWent opened (as_due opened rear) taken told = back_went opened rear taken told back in
-      all_meet script class opened Joint keeps half st events (as_due opened rear) is_class (f.count + b.count) f.count b.count f.half (fresh first opened.alarm) [] got sent
-      (as_due opened b.first) taken told [] line [] notices (omega arith) f.goes b.goes (rear_as_due opened b.first b.is_opened.is_rear) refl is_line is_told
+      let b : BackWent opened rear taken told = back_went opened rear taken told back in
+      all_meet script class opened Joint keeps half st events rear is_class (f.count + b.count) f.count b.count f.half (fresh first opened.alarm) [] got sent
+      b.first taken told [] line [] notices (omega arith) f.goes b.goes b.is_opened.is_rear is_line is_told
       (begin f.half b.first f.stands f.unlogged b.is_opened)

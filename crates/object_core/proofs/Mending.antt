@@ -4,9 +4,8 @@ use Rattle.std.specs.Prelude.{Bool, true, false, not, ◌⊎◌, Result, Ok, Err
 use Rattle.do_tree.specs.Tree.{Script}
 use Rattle.do_value.specs.declared.fault.NoMemory.{NoMemory}
 use Rattle.lane.specs.Lanes.{Both, sent_on}
-use Rattle.storage_map.specs.declared.op.Op.{Op}
-use Rattle.timeline.specs.Logs.{Backed}
-use Rattle.timeline.specs.declared.caller.Cause.{Cause}
+use Rattle.storage_map.specs.Contents.{Contents}
+use Rattle.timeline.specs.Logs.{Backed, backed}
 use Rattle.timeline.specs.declared.entry.Entry.{Entry}
 use Rattle.timeline.specs.declared.event.Event.{Event}
 use Rattle.timeline.specs.declared.message.Message.{Message as Sent}
@@ -25,14 +24,12 @@ use Rattle.output_gate.specs.declared.back.Back.{Back}
 use Rattle.output_gate.specs.declared.back.Ending.{Ending}
 use Rattle.output_gate.specs.declared.back.Mode.TheVariants.{Mounted, Wanted}
 use Rattle.object_history.proofs.GateStepping as gate
-use Rattle.object_history.specs.Pair.{mounted, wanted}
-use Rattle.object_history.specs.Seen.{rear_of, stand_of}
 use Rattle.front_history.specs.Turns.{BackStepsKeep}
-use Rattle.object_core.proofs.Due.{steps_as_due, steps_unheard}
 use Rattle.object_core.proofs.Lanes.{took_none, sent_last}
 use Rattle.object_core.proofs.Limiting.{limited_as_before, limited_noted, limited_remounts, never_mends}
-use Rattle.object_core.proofs.Rebuilding.{One, hears_on, due_now, told_earlier, stepped, unseen, same_queue}
-use Rattle.object_core.specs.One.{Origin, messages}
+use Rattle.object_core.proofs.Rebuilding.{One, hears_on, alarm_now, stepped, unseen, same_queue}
+use Rattle.object_core.specs.One.{Origin, TellsNow, messages}
+use Rattle.object_core.specs.Seen.{due_map}
 
 -- What the back's own contract says of a mounting.
 pub record MendsBy {D : Type 0} (moment_of : D → ℕ) (left_since : D → ℕ → List ℕ → Type 0) (told : D → Option (List ℕ)) (image : D → List ℕ → Type 0) (faults_of : D → ℕ)
@@ -66,10 +63,6 @@ module _ {D : Type 0} (faults_of : D → ℕ) (old new : Back D) (ending : Endin
   released_still (inl begun) = ap (λ (x : Backed). x.released) begun.begins.log
   released_still (inr missed) = ap (λ (x : Backed). x.released) missed.misses.log
 
--- a mounting that is wanted isn't there yet
-not_mounted : {A : Type 0} (c : Cause) → wanted c ≡ mounted → A
-not_mounted c is = absurd cc
-
 module _ {D : Type 0} (moment_of : D → ℕ) (left_since : D → ℕ → List ℕ → Type 0) (told : D → Option (List ℕ)) (image : D → List ℕ → Type 0) (faults_of : D → ℕ)
     (keeps : BackStepsKeep) (script : Script) (origin : Origin) (front : Half Evaluated) (inbox : Both Event) (old new : Back D) (line : Both Entry)
     (notices later : Both Notice) (out : Both Sent) (one : One moment_of left_since told image faults_of script origin front inbox old line notices out) where
@@ -92,7 +85,11 @@ module _ {D : Type 0} (moment_of : D → ℕ) (left_since : D → ℕ → List �
   mounts : is_stopped old ≡ false → is_stopped new ≡ false → Known → FindsEnd told old new → KeepsTelling told old.store new.store → KeepsOwn → later.got ≡ notices.got
       → Mends faults_of old new (sent_on notices) (sent_on later) → After
   mounts on goes known finds telling own got m =
-      let s = gate.mend_steps moment_of left_since told image faults_of origin.start origin.opening (not (is_stopped old)) old new (sent_on notices) (sent_on later) one.back_stands m in
+      let opened : Contents = opened_map origin.start in
+      let s = gate.mend_steps moment_of left_since told image faults_of origin.start origin.opening (not (is_stopped old)) old new (due_map opened (backed old.log))
+      (due_map opened (backed new.log)) one.back_stands (sent_on notices) (sent_on later) m in
+      let come : TellsNow told new → later.waiting ≡ notices.waiting ++ s.0 = λ tells.
+      sent_last notices later s.0 got (s.2 (alarm_now moment_of left_since told image faults_of script origin front inbox new tells known goes)) in
       stepped moment_of left_since told image faults_of script origin front inbox keeps old new line notices later out out one known telling
       (identity_still faults_of old new m.ending m.notice m.remounts)
       (λ free off. one.none_lost (sym (stuck_still faults_of old new m.ending m.notice m.remounts) ∙ free) on)
@@ -102,15 +99,12 @@ module _ {D : Type 0} (moment_of : D → ℕ) (left_since : D → ℕ → List �
       (λ tells. record {
         heard = s.0;
         given = s.0;
-        steps = steps_as_due (opened_map origin.start) (rear_of old) (rear_of new) [] s.0 s.2
-            (due_now moment_of left_since told image faults_of script origin front inbox old
-            (told_earlier moment_of left_since told image faults_of script origin front inbox old new telling one.back_stands tells) one.back_stands on)
-            (due_now moment_of left_since told image faults_of script origin front inbox new tells known goes);
+        steps = s.1;
         are = inl refl;
-        come = sent_last notices later s.0 got s.1;
+        come = come tells;
       })
       (hears_on moment_of left_since told image faults_of script origin front inbox old new line notices out one telling (λ off. on) [] (one.lost ++ line.waiting) s.0
-      later.waiting s.2 refl (sent_last notices later s.0 got s.1))
+      later.waiting (λ tells still. record { steps = s.1; come = come tells }) refl)
       (limited_remounts moment_of left_since told image faults_of origin.start origin.opening (not (is_stopped old)) origin.extent old new one.back_stands telling one.limited
       m.ending m.notice m.wanted m.remounts finds own)
 
@@ -120,18 +114,18 @@ module _ {D : Type 0} (moment_of : D → ℕ) (left_since : D → ℕ → List �
   unheard off known finds telling own got said ending notice wants remounts =
       let noted : Back D = record new { stopped = old.stopped } in
       let m : Mends faults_of old noted [] (notice ∷ []) = record { ending = ending; notice = notice; wanted = wants; remounts = remounts; told = refl } in
-      let s = gate.mend_steps moment_of left_since told image faults_of origin.start origin.opening (not (is_stopped old)) old noted [] (notice ∷ []) one.back_stands m in
-      let u = steps_unheard (opened_map origin.start) (rear_of old) (rear_of new) [] s.0 s.2
-      (λ stand empty. not_mounted ending.cause (sym (ap stand_of wants) ∙ stand)) in
+      let opened : Contents = opened_map origin.start in
+      let s = gate.mend_steps moment_of left_since told image faults_of origin.start origin.opening (not (is_stopped old)) old noted (due_map opened (backed old.log))
+      (due_map opened (backed new.log)) one.back_stands [] (notice ∷ []) m in
       stepped moment_of left_since told image faults_of script origin front inbox keeps old new line notices later out out one known telling
       (identity_still faults_of old noted ending notice remounts)
       (λ free on. absurd (true≢false (sym off ∙ on))) (λ on. absurd (true≢false (sym off ∙ on)))
       (taken_still faults_of old noted ending notice remounts)
       (ap messages (released_still faults_of old noted ending notice remounts) ∙ one.left)
       (λ tells. record {
-        heard = u.0;
+        heard = s.0;
         given = [];
-        steps = u.1;
+        steps = s.1;
         are = inr refl;
         come = sym (took_none notices later got said) ∙ sym (append-nil notices.waiting);
       })
@@ -145,7 +139,7 @@ module _ {D : Type 0} (moment_of : D → ℕ) (left_since : D → ℕ → List �
       → After
   loses off known finds rests telling own got said (inl same) =
       unseen moment_of left_since told image faults_of script origin front inbox keeps old new line notices later out out one known telling same.identity
-      (λ free on. absurd (true≢false (sym off ∙ on))) (λ on. absurd (true≢false (sym off ∙ on))) same.log same.held same.mode same.before same.durable got said refl off
+      (λ free on. absurd (true≢false (sym off ∙ on))) (λ on. absurd (true≢false (sym off ∙ on))) same.log same.held same.mode same.before same.durable same.closed got said refl off
       (limited_as_before moment_of left_since told image faults_of origin.start origin.opening (not (is_stopped old)) origin.extent old new one.back_stands telling one.limited
       same own (λ mounted. still_end old.store new.store (ap (λ (b : Back D). b.store) (rests mounted))))
   loses off known finds rests telling own got said (inr lost) = unheard off known finds telling own got said lost.0 lost.1 lost.2 lost.3

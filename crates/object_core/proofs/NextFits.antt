@@ -1,8 +1,8 @@
 -- The next entry under way to a back is one that it takes.
-use Rattle.std.proofs.Common.{◌≡◌, ◌∙◌, ap, sym, subst, refl, inl, inr, true≢false, ℕ, suc, ◌-◌, List, [], ◌∷◌, ◌++◌, length, arith, Option, Some, None}
-use Rattle.std.proofs.lemmas.Bool.{eq-eqb, ne_eqb, le-ltb}
+use Rattle.std.proofs.Common.{◌≡◌, ◌∙◌, ap, sym, subst, refl, inl, inr, true≢false, ℕ, suc, ◌<◌, List, [], ◌∷◌, ◌++◌, length, arith, Option, None}
+use Rattle.std.proofs.lemmas.Bool.{eq-eqb, ne_eqb, le-ltb, lt-ltb}
 use Rattle.std.proofs.lemmas.List.Elements.{All-head}
-use Rattle.std.specs.Prelude.{Bool, true, false, not, ◌&&◌, ◌==◌, ◌⊎◌, nat_lt, is_some, slice_get}
+use Rattle.std.specs.Prelude.{Bool, true, false, not, ◌&&◌, ◌==◌, ◌⊎◌, nat_lt, is_some}
 use Rattle.std.specs.List.{All}
 use Rattle.storage_map.specs.Contents.{Contents}
 use Rattle.storage_map.specs.Limits.{Object}
@@ -16,7 +16,7 @@ use Rattle.timeline.specs.declared.entry.Body.TheVariants as body
 use Rattle.timeline.specs.declared.entry.Entry.{Entry}
 use Rattle.timeline.specs.declared.event.Event.{Event}
 use Rattle.timeline.specs.declared.notice.Notice.{Notice}
-use Rattle.output_gate.specs.Entering.{is_unfit, identity_by, identity_after}
+use Rattle.output_gate.specs.Entering.{is_unfit, identity_after}
 use Rattle.output_gate.specs.Fits.{comes_behind, fits_mounted, fits_down, last_of}
 use Rattle.output_gate.specs.Serving.{IsBackAs, marks_of}
 use Rattle.output_gate.specs.Taking.{fit_as, fits_so, fit_of, is_mounted_mode, is_wanted}
@@ -25,6 +25,7 @@ use Rattle.output_gate.specs.declared.back.Mode.{Mode as BackMode}
 use Rattle.output_gate.specs.declared.back.Mode.TheVariants.{Mounted, Wanted, Down}
 use Rattle.object_history.proofs.Asked.{is_asked_for}
 use Rattle.object_history.proofs.Heads.{Head, is_own, is_late, head_of}
+use Rattle.object_history.proofs.OpenLines.{line_is_open}
 use Rattle.object_history.proofs.WellSaid.{delivers_well, answers_well}
 use Rattle.object_history.proofs.Wishes.{IsNoWish, none_wished}
 use Rattle.object_history.specs.Pair.{Held, Stand, mounted, wanted, fallen, IsUnread, Together, unreached, answered, syncs, halts, read_fails, falls, wants, mends, misses, silent, IsPair, IsPhase}
@@ -34,8 +35,8 @@ use Rattle.object_core.proofs.DownSaid.{IsDown, DownFits}
 use Rattle.object_core.proofs.Emptied.{all_behind}
 use Rattle.object_core.proofs.Hearing.{not_none}
 use Rattle.object_core.proofs.Knowing.{FitsAt, fit_at, knows_as, last_is}
-use Rattle.object_core.proofs.KnownObject.{in_order, has_ended, number_is, never_late}
-use Rattle.object_core.specs.Fitting.{known_by, known_over, last_over, FitsKnown, AreFit}
+use Rattle.object_core.proofs.KnownObject.{ends_by_halt, in_order, has_ended, number_is, never_late}
+use Rattle.object_core.specs.Fitting.{known_by, known_over, FitsKnown, AreFit}
 use Rattle.object_core.specs.Seen.{seen_of}
 
 -- What fits the object, and asks for no mounting, is taken of an incarnation that is or was mounted.
@@ -57,6 +58,10 @@ fit_true true true true is = refl
 fit_true true true false is = refl
 fit_true true false on is = refl
 fit_true false own on is = absurd (true≢false (sym is))
+
+two : (a b : Bool) → a ≡ true → b ≡ true → (a && b) ≡ true
+two true b one other = other
+two false b one other = absurd (true≢false (sym one))
 
 three : (a b c : Bool) → a ≡ true → b ≡ true → c ≡ true → (a && b && c) ≡ true
 three true true true one two third = refl
@@ -122,6 +127,10 @@ module _ {D : Type 0} (moment_of : D → ℕ) (left_since : D → ℕ → List �
   asks : (o : Seen) (t : OpenTask) (x : Body) → f.mode ≡ serves (waiting o t x) → is_asked x ≡ true
   asks o t x mode = is_asked_for (record { on_event = delivers_well; on_answer = answers_well }) k _ pair.start f front (backed back.log) pair.newest_said o t x mode
 
+  -- No read of the incarnation that it is of has failed.
+  is_open : back.closed < e.incarnation
+  is_open = line_is_open k opened f front (seen_of opened back) e rest notices pair
+
   abbrev Next : Type 0
   Next = NextIs back.number (stand_of back.mode) e
 
@@ -163,15 +172,18 @@ module _ {D : Type 0} (moment_of : D → ℕ) (left_since : D → ℕ → List �
   within (own is fits) = ap not (le-ltb back.number e.incarnation (omega (arith, is)))
   within (late is fits) = ap not (le-ltb back.number e.incarnation (omega (arith, is)))
 
+  goes : (comes_behind (last_of taken) e && nat_lt back.closed e.incarnation) ≡ true
+  goes = two (comes_behind (last_of taken) e) (nat_lt back.closed e.incarnation) comes (lt-ltb back.closed e.incarnation is_open)
+
   abbrev fits_all : Bool
-  fits_all = comes_behind (last_of taken) e && not (nat_lt back.number e.incarnation)
+  fits_all = (comes_behind (last_of taken) e && nat_lt back.closed e.incarnation) && not (nat_lt back.number e.incarnation)
       && fits_so (e.incarnation == back.number) (is_mounted_mode back.mode) (is_some back.identity) e.body
 
   pub next_fits : is_unfit (fit_of back e) ≡ false
   next_fits =
       fit_true fits_all (e.incarnation == back.number) (is_mounted_mode back.mode)
-      (three (comes_behind (last_of taken) e) (not (nat_lt back.number e.incarnation))
-      (fits_so (e.incarnation == back.number) (is_mounted_mode back.mode) (is_some back.identity) e.body) comes (within next) (body_fits next))
+      (three (comes_behind (last_of taken) e && nat_lt back.closed e.incarnation) (not (nat_lt back.number e.incarnation))
+      (fits_so (e.incarnation == back.number) (is_mounted_mode back.mode) (is_some back.identity) e.body) goes (within next) (body_fits next))
 
   -- Behind it the object is known where it was, or is bound by it.
   bound_on : (bound : Object) → e.body ≡ body.Bind bound → (m : BackMode) → OwnFits (stand_of m) e.body → is_wanted m ≡ false → is_mounted_mode m ≡ true
@@ -183,7 +195,8 @@ module _ {D : Type 0} (moment_of : D → ℕ) (left_since : D → ℕ → List �
   bound_own bound is (own same fits) = (same, bound_on bound is back.mode fits no_mounting)
   bound_own bound is (late before fits) =
       absurd (never_late (backed back.log) e first here.first comes (subst (λ (b : Body). FitsKnown (known_over first taken) b) is here.knows)
-      (in_order moment_of left_since told image faults_of start opening sound front back known) (marks_of back) front
+      (in_order moment_of left_since told image faults_of start opening sound front back known)
+      (ends_by_halt moment_of left_since told image faults_of start opening sound front back known e is_open (omega (arith, before, number))) (marks_of back) front
       (has_ended moment_of left_since told image faults_of start opening sound front back known) (omega (arith, before, number)))
 
   pub known_behind : is_some (identity_after (fit_of back e) back.identity e.body) ≡ known_by e.body (known_over first taken)

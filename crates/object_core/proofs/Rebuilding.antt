@@ -6,7 +6,6 @@ use Rattle.batch_journal.specs.Rest.{disk_in}
 use Rattle.do_tree.specs.Tree.{Script}
 use Rattle.lane.specs.Lanes.{Both, sent_on}
 use Rattle.storage_map.specs.Contents.{Contents}
-use Rattle.storage_map.specs.declared.op.Op.{Op}
 use Rattle.timeline.specs.Intake.{Kind}
 use Rattle.timeline.specs.Logs.{Backed, backed, fronted}
 use Rattle.timeline.specs.declared.entry.Entry.{Entry}
@@ -17,22 +16,23 @@ use Rattle.front_half.specs.Standing.{kind_in}
 use Rattle.object_front.specs.declared.evaluated.Evaluated.{Evaluated}
 use Rattle.front_half.specs.declared.half.Half.{Half}
 use Rattle.output_gate.proofs.Steps.{told_before}
-use Rattle.output_gate.specs.Serving.{IsBack, IsBackAs, is_stopped}
+use Rattle.output_gate.specs.Serving.{alarm_of, IsBack, IsBackAs, is_stopped}
 use Rattle.output_gate.specs.Storing.{IsDiskOf, KeepsTelling}
 use Rattle.output_gate.specs.Telling.{opened_map}
 use Rattle.output_gate.specs.declared.back.Back.{Back}
 use Rattle.output_gate.specs.declared.back.Mode.{Mode}
+use Rattle.output_gate.specs.declared.back.Mode.TheVariants.{Mounted}
 use Rattle.output_gate.specs.declared.held.Held.{Held as BackHeld}
 use Rattle.output_gate.specs.declared.store.Store.{Store}
 use Rattle.object_history.specs.Pair.{Held, Stand, Rear, IsPair}
 use Rattle.object_history.proofs.WellSaid.{delivers_well, answers_well}
-use Rattle.object_history.specs.Seen.{held_of, stand_of, rear_of}
+use Rattle.object_history.specs.Seen.{held_of, stand_of}
 use Rattle.object_history.specs.Stepping.{BackSteps}
 use Rattle.front_history.specs.Paired.{ArePaired}
 use Rattle.front_history.specs.Turns.{BackStepsKeep}
 use Rattle.object_core.proofs.Alike.{class_for}
 use Rattle.object_core.proofs.Dropping.{KeepsDowns, downs_drops, steps_downs}
-use Rattle.object_core.proofs.Due.{IsDue, is_due, seen_is_rear}
+use Rattle.object_core.proofs.Due.{alarm_due, seen_is_rear}
 use Rattle.object_core.proofs.Hearing.{back_heard}
 use Rattle.object_core.proofs.Lanes.{took_none}
 use Rattle.object_core.proofs.Naming.{named_still}
@@ -43,18 +43,20 @@ use Rattle.object_core.specs.Limited.{IsLimitedBy}
 use Rattle.object_core.specs.One.{FitsItsBack, HearsOfBack, IsNamed, IsOneOf, Origin, TellsNow, class_in, messages}
 use Rattle.object_core.specs.Seen.{due_map, seen_of}
 
-abbrev looks : Contents → Backed → Stand → List Held → ℕ → ℕ → Rear
-looks opened log stand held before durable = record { log = log; stand = stand; held = held; before = before; durable = durable; map = due_map opened log }
+abbrev looks : Contents → ℕ → Backed → Stand → List Held → ℕ → ℕ → Rear
+looks opened closed log stand held before durable =
+    record { log = log; stand = stand; held = held; before = before; durable = durable; map = due_map opened log; closed = closed }
 
 -- backs that look alike
 pub seen_same : {D : Type 0} (opened : Contents) (old new : Back D) → backed new.log ≡ backed old.log → new.held.items ≡ old.held.items → new.mode ≡ old.mode
-    → new.before ≡ old.before → new.durable ≡ old.durable → seen_of opened new ≡ seen_of opened old
-seen_same opened old new log held mode before durable =
-    ap (λ (x : Backed). looks opened x (stand_of new.mode) (flat_map held_of new.held.items) new.before new.durable) log
-    ∙ ap (λ (x : Mode). looks opened (backed old.log) (stand_of x) (flat_map held_of new.held.items) new.before new.durable) mode
-    ∙ ap (λ (x : List BackHeld). looks opened (backed old.log) (stand_of old.mode) (flat_map held_of x) new.before new.durable) held
-    ∙ ap (λ (x : ℕ). looks opened (backed old.log) (stand_of old.mode) (flat_map held_of old.held.items) x new.durable) before
-    ∙ ap (λ (x : ℕ). looks opened (backed old.log) (stand_of old.mode) (flat_map held_of old.held.items) old.before x) durable
+    → new.before ≡ old.before → new.durable ≡ old.durable → new.closed ≡ old.closed → seen_of opened new ≡ seen_of opened old
+seen_same opened old new log held mode before durable closed =
+    ap (λ (x : Backed). looks opened new.closed x (stand_of new.mode) (flat_map held_of new.held.items) new.before new.durable) log
+    ∙ ap (λ (x : Mode). looks opened new.closed (backed old.log) (stand_of x) (flat_map held_of new.held.items) new.before new.durable) mode
+    ∙ ap (λ (x : List BackHeld). looks opened new.closed (backed old.log) (stand_of old.mode) (flat_map held_of x) new.before new.durable) held
+    ∙ ap (λ (x : ℕ). looks opened new.closed (backed old.log) (stand_of old.mode) (flat_map held_of old.held.items) x new.durable) before
+    ∙ ap (λ (x : ℕ). looks opened new.closed (backed old.log) (stand_of old.mode) (flat_map held_of old.held.items) old.before x) durable
+    ∙ ap (λ (x : ℕ). looks opened x (backed old.log) (stand_of old.mode) (flat_map held_of old.held.items) old.before old.durable) closed
 
 pub same_queue : {X : Type 0} (old new : Both X) → new.got ≡ old.got → new.waiting ≡ old.waiting → new ≡ old
 same_queue {X} old new got waiting =
@@ -67,10 +69,11 @@ module _ {D : Type 0} (moment_of : D → ℕ) (left_since : D → ℕ → List �
   disk_of sound back (inl m) = (disk_in m.journal, subst (λ (s : Store D). IsDiskOf s (disk_in m.journal)) (sym m.safe.store) refl)
   disk_of sound back (inr u) = (u.disk, u.safe.store)
 
-  -- A mounted back whose disk tells its content has the map that is due.
-  pub due_now : (back : Back D) → TellsNow told back → IsBack moment_of left_since told image faults_of origin.start origin.opening back → is_stopped back ≡ false
-      → IsDue (opened_map origin.start) (rear_of back)
-  due_now back tells known on = is_due moment_of left_since told image faults_of origin.start origin.opening back tells.0 tells.1 tells.2 known on
+  -- A mounted back whose disk tells its content has the alarm that is due.
+  pub alarm_now : (back : Back D) → TellsNow told back → IsBack moment_of left_since told image faults_of origin.start origin.opening back → is_stopped back ≡ false
+      → back.mode ≡ Mounted → (due_map (opened_map origin.start) (backed back.log)).alarm ≡ alarm_of back
+  alarm_now back tells known on mounted =
+      alarm_due moment_of left_since told image faults_of origin.start origin.opening back tells.0 tells.1 tells.2 known on mounted
 
   -- The disk told its content before a step behind which it does.
   pub told_earlier : (old new : Back D) → KeepsTelling told old.store new.store → IsBack moment_of left_since told image faults_of origin.start origin.opening old
@@ -93,19 +96,25 @@ module _ {D : Type 0} (moment_of : D → ℕ) (left_since : D → ℕ → List �
 
   module _ (old new : Back D) (line : Both Entry) (notices : Both Notice) (out : Both Sent) (one : One old line notices out)
       (telling : KeepsTelling told old.store new.store) (was_on : is_stopped new ≡ false → is_stopped old ≡ false) where
-    -- It does where it is told what the step tells.
-    pub hears_on : (got rest : List Entry) (tell later : List Notice) → BackSteps (rear_of old) (rear_of new) got tell → one.lost ++ line.waiting ≡ got ++ rest
-        → later ≡ notices.waiting ++ tell → StillHears old new line notices out one rest later
-    hears_on got rest tell later steps is_line come tells on goes =
+    -- A step of the back, of which the front is told.
+    pub record ToldSo (got : List Entry) (tell later : List Notice) : Type 0 where
+      pub steps : BackSteps (seen_of (opened_map origin.start) old) (seen_of (opened_map origin.start) new) got tell
+      pub come : later ≡ notices.waiting ++ tell
+
+    -- It hears where it is told what the step tells.
+    pub hears_on : (got rest : List Entry) (tell later : List Notice) → (TellsNow told new → is_stopped new ≡ false → ToldSo got tell later)
+        → one.lost ++ line.waiting ≡ got ++ rest → StillHears old new line notices out one rest later
+    hears_on got rest tell later told_so is_line tells on goes =
+        let is = told_so tells goes in
         let before : TellsNow told old = told_earlier old new telling one.back_stands tells in
         let c = class_for one.st.class in
         let k : Kind = kind_in script c.0 in
         let opened : Contents = opened_map origin.start in
         let pair = subst (λ (l : List Entry). IsPair k opened one.st.front (fronted front.log) (seen_of opened old) l notices.waiting) is_line
         (pair_now k opened one.st front (seen_of opened old) (one.lost ++ line.waiting) notices.waiting on (one.pair before c.0 c.1)) in
-        subst (λ (n : List Notice). IsHeard one.st.front (seen_of opened new) rest n) (sym come)
-        (back_heard (record { on_event = delivers_well; on_answer = answers_well }) k opened one.st.front (fronted front.log) (rear_of old) (rear_of new)
-        got rest tell notices.waiting steps pair
+        subst (λ (n : List Notice). IsHeard one.st.front (seen_of opened new) rest n) (sym is.come)
+        (back_heard (record { on_event = delivers_well; on_answer = answers_well }) k opened one.st.front (fronted front.log) (seen_of opened old) (seen_of opened new)
+        got rest tell notices.waiting is.steps pair
         (subst (λ (l : List Entry). IsHeard one.st.front (seen_of opened old) l notices.waiting) is_line (one.heard before on (was_on goes))))
 
     -- So it does where nothing that is seen has changed.
@@ -181,16 +190,16 @@ module _ {D : Type 0} (moment_of : D → ℕ) (left_since : D → ℕ → List �
 
     -- Nothing that is seen has changed where memory was wanting.
     pub unseen : backed new.log ≡ backed old.log → new.held.items ≡ old.held.items → new.mode ≡ old.mode → new.before ≡ old.before → new.durable ≡ old.durable
-        → later.got ≡ notices.got → sent_on later ≡ sent_on notices → later_out ≡ out → is_stopped new ≡ true → IsLimitedBy told origin.extent new
+        → new.closed ≡ old.closed → later.got ≡ notices.got → sent_on later ≡ sent_on notices → later_out ≡ out → is_stopped new ≡ true → IsLimitedBy told origin.extent new
         → One new line later later_out
-    unseen log held mode before durable got said left off limited =
+    unseen log held mode before durable closed got said left off limited =
         rebuilt old new line line notices later out later_out one known telling
         (named_still origin.object old new same (ap (λ (x : Backed). x.taken) log) one.named) one.lost none (still_line (ap (λ (x : Backed). x.taken) log))
         (ap (λ (x : Backed). messages x.released) log ∙ one.left ∙ ap (λ (x : Both Sent). origin.left ++ sent_on x) (sym left))
         (λ tells k paired.
         paired_as k (opened_map origin.start) one.st front (seen_of (opened_map origin.start) old) (seen_of (opened_map origin.start) new)
         (one.lost ++ line.waiting) (one.lost ++ line.waiting) notices.waiting later.waiting
-        (seen_same (opened_map origin.start) old new log held mode before durable) refl (sym (took_none notices later got said)) paired)
+        (seen_same (opened_map origin.start) old new log held mode before durable closed) refl (sym (took_none notices later got said)) paired)
         (λ tells on goes. absurd (true≢false (sym off ∙ goes)))
         (fits_still old new line notices out one telling was same (ap (λ (x : Backed). x.taken) log)) limited
         (λ tells some none. some (ap (λ (x : Backed). x.downs) (sym log) ∙ none))

@@ -5,8 +5,8 @@ use Rattle.std.specs.Prelude.{Bool, true, false, not, Result, Ok, Err, OnOk, OnE
 use Rattle.do_tree.specs.Tree.{Script}
 use Rattle.do_value.specs.declared.fault.NoMemory.{NoMemory}
 use Rattle.lane.specs.Lanes.{Both, sent_on}
-use Rattle.storage_map.specs.declared.op.Op.{Op}
-use Rattle.timeline.specs.Logs.{Backed}
+use Rattle.storage_map.specs.Contents.{Contents}
+use Rattle.timeline.specs.Logs.{Backed, backed}
 use Rattle.timeline.specs.declared.back_log.Release.{Release}
 use Rattle.timeline.specs.declared.entry.Entry.{Entry}
 use Rattle.timeline.specs.declared.event.Event.{Event}
@@ -26,13 +26,14 @@ use Rattle.output_gate.specs.declared.held.Held.{Held as BackHeld}
 use Rattle.output_gate.specs.declared.held.HeldBody.{HeldBody}
 use Rattle.output_gate.specs.declared.held.HeldBody.TheVariants.{Message, Sync, Halt}
 use Rattle.object_history.proofs.GateReleasing as gate
-use Rattle.object_history.specs.Seen.{rear_of}
+use Rattle.object_history.specs.Stepping.{BackSteps}
 use Rattle.front_history.specs.Turns.{BackStepsKeep}
-use Rattle.object_core.proofs.Due.{steps_as_due}
+use Rattle.object_core.proofs.Due.{alarm_released}
 use Rattle.object_core.proofs.Lanes.{took_none, sent_last}
 use Rattle.object_core.proofs.Limiting.{limited_release, limited_stays}
-use Rattle.object_core.proofs.Rebuilding.{One, hears_on, disk_of, due_now, told_earlier, stepped, unseen, same_queue}
-use Rattle.object_core.specs.One.{Origin, messages}
+use Rattle.object_core.proofs.Rebuilding.{One, hears_on, disk_of, alarm_now, stepped, unseen, same_queue}
+use Rattle.object_core.specs.One.{Origin, TellsNow, messages}
+use Rattle.object_core.specs.Seen.{due_map, seen_of}
 
 -- What the back's own contract says of a release over two queues.
 pub record ReleasesBy {D : Type 0} (moment_of : D → ℕ) (left_since : D → ℕ → List ℕ → Type 0) (told : D → Option (List ℕ)) (image : D → List ℕ → Type 0) (faults_of : D → ℕ)
@@ -81,8 +82,14 @@ module _ {D : Type 0} (moment_of : D → ℕ) (left_since : D → ℕ → List �
       let telling = still_tells told old.store new.store same_disk in
       let disk = disk_of moment_of left_since told image faults_of script origin front inbox _ old one.back_stands in
       let log = r.log disk.0 disk.1 in
-      let steps = gate.release_steps moment_of left_since told image faults_of origin.start origin.opening (not (is_stopped old)) old new (sent_on notices) (sent_on later)
-      (sent_on out) (sent_on later_out) one.back_stands r in
+      let opened : Contents = opened_map origin.start in
+      let heard : List Notice = released_notices old r.first.body in
+      let steps : TellsNow told new → BackSteps (seen_of opened old) (seen_of opened new) [] heard = λ tells.
+      gate.release_steps moment_of left_since told image faults_of origin.start origin.opening (not (is_stopped old)) old new (due_map opened (backed old.log))
+      (due_map opened (backed new.log)) (sent_on notices) (sent_on later) (sent_on out) (sent_on later_out) one.back_stands r
+      (λ mounted.
+      alarm_now moment_of left_since told image faults_of script origin front inbox new tells known goes (r.mode ∙ mounted)
+      ∙ alarm_released moment_of old new (sent_on notices) (sent_on later) (sent_on out) (sent_on later_out) r) in
       stepped moment_of left_since told image faults_of script origin front inbox keeps old new line notices later out later_out one known telling r.identity
       (λ free off. one.none_lost (sym r.stuck ∙ free) on) (λ off. (on, r.stuck))
       (ap (λ (x : Backed). x.taken) log ∙ log_taken old (moment_of disk.0) r.first r.first.body)
@@ -90,17 +97,14 @@ module _ {D : Type 0} (moment_of : D → ℕ) (left_since : D → ℕ → List �
       ∙ ap (λ (x : List Sent). x ++ released_messages r.first.body) one.left ∙ append_assoc origin.left (sent_on out) (released_messages r.first.body)
       ∙ ap (λ (x : List Sent). origin.left ++ x) (sym r.left))
       (λ tells. record {
-        heard = released_notices old r.first.body;
-        given = released_notices old r.first.body;
-        steps = steps_as_due (opened_map origin.start) (rear_of old) (rear_of new) [] (released_notices old r.first.body) steps
-            (due_now moment_of left_since told image faults_of script origin front inbox old
-            (told_earlier moment_of left_since told image faults_of script origin front inbox old new telling one.back_stands tells) one.back_stands on)
-            (due_now moment_of left_since told image faults_of script origin front inbox new tells known goes);
+        heard = heard;
+        given = heard;
+        steps = steps tells;
         are = inl refl;
-        come = sent_last notices later (released_notices old r.first.body) got r.told;
+        come = sent_last notices later heard got r.told;
       })
       (hears_on moment_of left_since told image faults_of script origin front inbox old new line notices out one telling (λ off. on) [] (one.lost ++ line.waiting)
-      (released_notices old r.first.body) later.waiting steps refl (sent_last notices later (released_notices old r.first.body) got r.told))
+      heard later.waiting (λ tells still. record { steps = steps tells; come = sent_last notices later heard got r.told }) refl)
       (limited_release moment_of left_since told image faults_of origin.start origin.opening (not (is_stopped old)) origin.extent old new one.back_stands telling one.limited
       (not (is_stopped new)) known disk.0 disk.1 (sent_on notices) (sent_on later) (sent_on out) (sent_on later_out) r)
 
@@ -113,7 +117,7 @@ module _ {D : Type 0} (moment_of : D → ℕ) (left_since : D → ℕ → List �
   may_as may is on known (Err fault) by =
       let s = by.stays in
       unseen moment_of left_since told image faults_of script origin front inbox keeps old new line notices later out later_out one known (still_tells told old.store new.store by.disk) s.identity
-      (λ free off. absurd (true≢false (sym by.stops.wanting ∙ off))) (λ off. absurd (true≢false (sym by.stops.wanting ∙ off))) s.log (ap (λ h. h.items) s.held) s.mode s.before s.durable by.outlet s.told
+      (λ free off. absurd (true≢false (sym by.stops.wanting ∙ off))) (λ off. absurd (true≢false (sym by.stops.wanting ∙ off))) s.log (ap (λ h. h.items) s.held) s.mode s.before s.durable s.closed by.outlet s.told
       (same_queue out later_out by.left (sym (took_none out later_out by.left s.left))) by.stops.wanting
       (limited_stays moment_of left_since told image faults_of origin.start origin.opening (not (is_stopped old)) origin.extent old new one.back_stands
       (still_tells told old.store new.store by.disk) one.limited (sent_on notices) (sent_on later) (sent_on out) (sent_on later_out) s)

@@ -11,33 +11,33 @@ use Rattle.object_core.specs.Stepping.{Steps}
 use Rattle.object_core.specs.declared.choice.Choice.{Choice}
 use Rattle.object_core.specs.declared.object.Core.{Core}
 
-module _ {D : Type 0} (moment_of : D → ℕ) (told : D → Option (List ℕ)) (faults_of : D → ℕ) (script : Script) where
-  runs_as : (old mid new : Core D) (first later : List Choice) (result after : Result (Unit {0}) NoMemory) → Runs moment_of told faults_of script old mid first result
-      → result ≡ Ok tt → Runs moment_of told faults_of script mid new later after → Runs moment_of told faults_of script old new (first ++ later) after
+module _ {D : Type 0} (moment_of : D → ℕ) (told : D → Option (List ℕ)) (image : D → List ℕ → Type 0) (faults_of : D → ℕ) (script : Script) where
+  runs_as : (old mid new : Core D) (first later : List Choice) (result after : Result (Unit {0}) NoMemory) → Runs moment_of told image faults_of script old mid first result
+      → result ≡ Ok tt → Runs moment_of told image faults_of script mid new later after → Runs moment_of told image faults_of script old new (first ++ later) after
   runs_as _ _ new _ later _ after (ends core) is then_runs = then_runs
   runs_as _ _ new _ later _ after (goes_on old next mid choice rest did result steps runs) is then_runs =
       goes_on old next new choice (rest ++ later) did after steps (runs_as next mid new rest later result after runs is then_runs)
   runs_as _ _ new _ later _ after (halts old mid choice rest fault steps) is then_runs = absurd cc
 
-  pub runs_on : (old mid new : Core D) (first later : List Choice) (after : Result (Unit {0}) NoMemory) → Runs moment_of told faults_of script old mid first (Ok tt)
-      → Runs moment_of told faults_of script mid new later after → Runs moment_of told faults_of script old new (first ++ later) after
+  pub runs_on : (old mid new : Core D) (first later : List Choice) (after : Result (Unit {0}) NoMemory) → Runs moment_of told image faults_of script old mid first (Ok tt)
+      → Runs moment_of told image faults_of script mid new later after → Runs moment_of told image faults_of script old new (first ++ later) after
   runs_on old mid new first later after runs then_runs = runs_as old mid new first later (Ok tt) after runs refl then_runs
 
   -- one choice more
-  pub runs_more : (old mid new : Core D) (first : List Choice) (choice : Choice) (did : Bool) → Runs moment_of told faults_of script old mid first (Ok tt)
-      → Steps moment_of told faults_of script mid new choice (Ok did) → Runs moment_of told faults_of script old new (first ++ choice ∷ []) (Ok tt)
+  pub runs_more : (old mid new : Core D) (first : List Choice) (choice : Choice) (did : Bool) → Runs moment_of told image faults_of script old mid first (Ok tt)
+      → Steps moment_of told image faults_of script mid new choice (Ok did) → Runs moment_of told image faults_of script old new (first ++ choice ∷ []) (Ok tt)
   runs_more old mid new first choice did runs steps =
       runs_on old mid new first (choice ∷ []) (Ok tt) runs (goes_on mid new new choice [] did (Ok tt) steps (ends new))
 
   -- memory was wanting at the next
-  pub runs_out : (old mid new : Core D) (first : List Choice) (choice : Choice) (rest : List Choice) (fault : NoMemory) → Runs moment_of told faults_of script old mid first (Ok tt)
-      → Steps moment_of told faults_of script mid new choice (Err fault) → Runs moment_of told faults_of script old new (first ++ choice ∷ rest) (Err fault)
+  pub runs_out : (old mid new : Core D) (first : List Choice) (choice : Choice) (rest : List Choice) (fault : NoMemory) → Runs moment_of told image faults_of script old mid first (Ok tt)
+      → Steps moment_of told image faults_of script mid new choice (Err fault) → Runs moment_of told image faults_of script old new (first ++ choice ∷ rest) (Err fault)
   runs_out old mid new first choice rest fault runs steps =
       runs_on old mid new first (choice ∷ rest) (Err fault) runs (halts mid new choice rest fault steps)
 
   -- the want of memory that it answers
   pub runs_stop : (old new : Core D) (choices : List Choice) (fault : NoMemory) (result : Result (Unit {0}) NoMemory) → IsErr result
-      → Runs moment_of told faults_of script old new choices (Err fault) → Runs moment_of told faults_of script old new choices result
+      → Runs moment_of told image faults_of script old new choices (Err fault) → Runs moment_of told image faults_of script old new choices result
   runs_stop old new choices fault (Ok done) is runs = absurd cc
   runs_stop old new choices fault (Err other) is runs = runs
 

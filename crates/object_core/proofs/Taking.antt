@@ -4,9 +4,7 @@ use Rattle.std.specs.Prelude.{Bool, true, false, not, ◌&&◌, ◌⊎◌, is_so
 use Rattle.do_tree.specs.Tree.{Script}
 use Rattle.do_value.specs.declared.fault.NoMemory.{NoMemory}
 use Rattle.lane.specs.Lanes.{Both, sent_on, StartsWith}
-use Rattle.batch_journal.specs.Moments.{IsTold}
 use Rattle.storage_map.specs.Contents.{Contents}
-use Rattle.storage_map.specs.declared.op.Op.{Op}
 use Rattle.timeline.specs.Logs.{Backed, backed}
 use Rattle.timeline.specs.declared.entry.Entry.{Entry}
 use Rattle.timeline.specs.declared.event.Event.{Event}
@@ -18,29 +16,28 @@ use Rattle.front_half.specs.Standing as standing
 use Rattle.object_front.specs.declared.evaluated.Evaluated.{Evaluated}
 use Rattle.front_half.specs.declared.half.Half.{Half}
 use Rattle.output_gate.proofs.Unfit.{unfit_identity, unfit_log, unfit_holds, unfit_mode, unfit_before, fit_taken, released_still}
-use Rattle.output_gate.specs.Entering.{identity_after, Enters, Failed, IsIdle, Takes, LosesEntry, is_unfit, notice_at}
+use Rattle.output_gate.specs.Entering.{identity_after, Enters, Failed, IsIdle, Takes, LosesEntry, is_unfit, notice_with}
 use Rattle.output_gate.specs.Serving.{IsBack, KeepsBack, StopsBy, IsAsBefore, is_stopped}
-use Rattle.output_gate.specs.Storing.{IsDiskOf, KeepsTelling, ReadsDisk}
+use Rattle.output_gate.specs.Storing.{KeepsTelling, ReadsDisk}
 use Rattle.output_gate.specs.Taking.{may_take, fit_of}
 use Rattle.output_gate.specs.Telling.{opened_map}
 use Rattle.output_gate.specs.declared.back.Back.{Back}
 use Rattle.output_gate.specs.declared.held.Held.{Held as BackHeld}
 use Rattle.object_history.proofs.GateTaking as gate
-use Rattle.object_history.specs.Seen.{rear_of}
 use Rattle.object_history.specs.Stepping.{BackSteps}
 use Rattle.front_history.specs.Turns.{BackStepsKeep}
 use Rattle.object_core.proofs.Dropping.{steps_downs}
-use Rattle.object_core.proofs.Due.{steps_as_due, steps_unheard, seen_is_rear}
+use Rattle.object_core.proofs.Due.{AnswersSo, answers_due, seen_is_rear, unfit_closes}
 use Rattle.object_core.proofs.Fitting.{one_fits}
 use Rattle.object_core.proofs.Lanes.{took_first, took_none, sent_last}
 use Rattle.object_core.proofs.Limiting.{limited_as_before, limited_enters}
 use Rattle.object_core.proofs.Naming.{named_enters, named_still}
 use Rattle.object_core.proofs.Pairing.{Hears, paired_on, paired_as}
-use Rattle.object_core.proofs.Rebuilding.{One, StaysPair, StillHears, hears_on, hears_as, due_now, told_earlier, rebuilt, seen_same, same_queue}
+use Rattle.object_core.proofs.Rebuilding.{One, StaysPair, StillHears, hears_on, hears_as, told_earlier, rebuilt, seen_same, same_queue}
 use Rattle.object_core.specs.Fitting.{known_over}
 use Rattle.object_core.specs.Limited.{IsLimitedBy}
 use Rattle.object_core.specs.One.{FitsItsBack, HasItsClass, Origin, TellsNow, messages}
-use Rattle.object_core.specs.Seen.{seen_of}
+use Rattle.object_core.specs.Seen.{due_map, seen_of}
 
 -- What the back's own contract says of a take over two queues.
 pub record TakesBy {D : Type 0} (moment_of : D → ℕ) (left_since : D → ℕ → List ℕ → Type 0) (told : D → Option (List ℕ)) (image : D → List ℕ → Type 0) (faults_of : D → ℕ)
@@ -49,7 +46,7 @@ pub record TakesBy {D : Type 0} (moment_of : D → ℕ) (left_since : D → ℕ 
   pub barred : is_stopped old ≡ false → may_take old ≡ false → IsIdle old new line.got later_line.got (sent_on notices) (sent_on later) result
   pub nothing : result ≡ Ok Nothing → IsIdle old new line.got later_line.got (sent_on notices) (sent_on later) result
   pub empty : result ≡ Ok Nothing → may_take old ≡ true → StartsWith line.got (sent_on line)
-  pub took : result ≡ Ok Did → Takes told old new line.got later_line.got (sent_on notices) (sent_on later)
+  pub took : result ≡ Ok Did → Takes told image old new line.got later_line.got (sent_on notices) (sent_on later)
   pub lost : is_stopped old ≡ false → OnErr result (LosesEntry old new line.got later_line.got (sent_on notices) (sent_on later))
   pub stops : StopsBy result new
   pub inlet : sent_on later_line ≡ sent_on line
@@ -60,9 +57,6 @@ pub record TakesBy {D : Type 0} (moment_of : D → ℕ) (left_since : D → ℕ 
 free_of : (stuck wanted few : Bool) → (not stuck && wanted && few) ≡ true → stuck ≡ false
 free_of true wanted few is = absurd cc
 free_of false wanted few is = refl
-
-not_empty : {A : Type 0} (e : Entry) → e ∷ [] ≡ [] → A
-not_empty e is = absurd cc
 
 abbrev pub did_so : Result Stepped NoMemory
 did_so = Ok Did
@@ -130,18 +124,18 @@ module _ {D : Type 0} (moment_of : D → ℕ) (left_since : D → ℕ → List �
 
     -- The entry isn't logged, and nothing else that is seen changes.
     unlogged : backed new.log ≡ backed old.log → new.held.items ≡ old.held.items → new.mode ≡ old.mode → new.before ≡ old.before → new.durable ≡ old.durable
-        → new.identity ≡ old.identity → (new.stuck ≡ false → is_stopped new ≡ false → ⊥) → FitsItsBack told script origin.object front new
+        → new.closed ≡ old.closed → new.identity ≡ old.identity → (new.stuck ≡ false → is_stopped new ≡ false → ⊥) → FitsItsBack told script origin.object front new
         → sent_on later ≡ sent_on notices → IsLimitedBy told origin.extent new → After
-    unlogged log held mode before durable same bad fits told_same limited =
+    unlogged log held mode before durable closed same bad fits told_same limited =
         rebuilt moment_of left_since told image faults_of script origin front inbox old new line later_line notices later out out one known telling
         (named_still origin.object old new same (ap (λ (x : Backed). x.taken) log) one.named) (e ∷ [])
         (λ free on. absurd (bad free on))
         (sent_so ∙ sym (append_assoc old.log.taken.items (e ∷ []) later_line.waiting) ∙ ap (λ (x : Backed). x.taken ++ e ∷ [] ++ later_line.waiting) (sym log))
         (ap (λ (x : Backed). messages x.released) log ∙ one.left)
         (λ tells k paired. paired_as k opened one.st front (seen_of opened old) (seen_of opened new) (one.lost ++ line.waiting) (e ∷ later_line.waiting)
-        notices.waiting later.waiting (seen_same opened old new log held mode before durable) (sym waits_first) (sym (took_none notices later kept told_same)) paired)
+        notices.waiting later.waiting (seen_same opened old new log held mode before durable closed) (sym waits_first) (sym (took_none notices later kept told_same)) paired)
         (hears_as moment_of left_since told image faults_of script origin front inbox old new line notices out one telling (λ goes. on) (e ∷ later_line.waiting) later.waiting
-        (seen_same opened old new log held mode before durable) (sym waits_first) (sym (took_none notices later kept told_same))) fits limited
+        (seen_same opened old new log held mode before durable closed) (sym waits_first) (sym (took_none notices later kept told_same))) fits limited
         (λ tells some none. some (ap (λ (x : Backed). x.downs) (sym log) ∙ none))
 
     limited_so : (failed : Failed) → Enters failed old new e → IsLimitedBy told origin.extent new
@@ -153,7 +147,7 @@ module _ {D : Type 0} (moment_of : D → ℕ) (left_since : D → ℕ → List �
         unlogged (enters.log ∙ unfit_log (fit_of old e) (backed old.log) e is)
         (enters.held ∙ ap (λ (x : List BackHeld). old.held.items ++ x) (unfit_holds failed old e enters.may is) ∙ append-nil old.held.items)
         (enters.mode ∙ unfit_mode (fit_of old e) old.mode e.body is) (enters.before ∙ unfit_before (fit_of old e) old.before e.body is) enters.durable
-        (enters.identity ∙ unfit_identity (fit_of old e) old.identity e.body is)
+        (enters.closed ∙ unfit_closes failed old e enters.may is) (enters.identity ∙ unfit_identity (fit_of old e) old.identity e.body is)
         (λ free on. true≢false (sym is ∙ sym enters.stuck ∙ free))
         (λ has tells goes_on goes. absurd (true≢false (sym is ∙ (fits_so has tells goes_on may).0))) told_same (limited_so failed enters)
 
@@ -175,48 +169,49 @@ module _ {D : Type 0} (moment_of : D → ℕ) (left_since : D → ℕ → List �
         (seen_is_rear moment_of left_since told image faults_of origin.start origin.opening new known) waits_first paired) heard fits (limited_so failed enters)
         (λ tells. steps_downs (seen_of opened old) (seen_of opened new) (e ∷ []) (steps tells).heard (steps tells).steps)
 
+    -- What the front is told: what the map that is due answers.
+    abbrev heard_of : Failed → List Notice
+    heard_of failed = option_to_list (notice_with failed (fit_of old e) e (due_map opened (backed old.log)))
+
     -- The step of which the laws speak.
     steps_so : (failed : Failed) → Enters failed old new e → is_unfit (fit_of old e) ≡ false → may_take old ≡ true
-        → BackSteps (rear_of old) (rear_of new) (e ∷ []) (option_to_list (notice_at failed old e))
+        → BackSteps (seen_of opened old) (seen_of opened new) (e ∷ []) (heard_of failed)
     steps_so failed enters is may =
-        gate.take_steps moment_of left_since told image faults_of origin.start origin.opening (not (is_stopped old)) old new one.back_stands may e failed enters is
+        gate.take_steps moment_of left_since told image faults_of origin.start origin.opening (not (is_stopped old)) old new one.back_stands may e failed enters
+        (due_map opened (backed old.log)) (due_map opened (backed new.log)) is
 
     -- It is taken, and the front is told.
     entered_as : (failed : Failed) (answer : Option Notice) (unfit : Bool) → is_unfit (fit_of old e) ≡ unfit → Enters failed old new e → may_take old ≡ true → is_stopped new ≡ false
         → sent_on later ≡ sent_on notices ++ option_to_list answer → (is_unfit (fit_of old e) ≡ true → answer ≡ None)
-        → ((disk : D) → IsDiskOf old.store disk → IsTold (told disk) → answer ≡ notice_at failed old e) → After
+        → AnswersSo told image old failed e answer → After
     entered_as failed answer true is enters may goes said none answers =
         unfit_enters failed enters is may (said ∙ ap (λ (n : Option Notice). sent_on notices ++ option_to_list n) (none is) ∙ append-nil (sent_on notices))
     entered_as failed answer false is enters may goes said none answers =
         logs failed enters is (λ tells. record {
-          heard = option_to_list (notice_at failed old e);
-          given = option_to_list (notice_at failed old e);
-          steps = steps_as_due opened (rear_of old) (rear_of new) (e ∷ []) (option_to_list (notice_at failed old e)) (steps_so failed enters is may)
-              (due_now moment_of left_since told image faults_of script origin front inbox old
-              (told_earlier moment_of left_since told image faults_of script origin front inbox old new telling one.back_stands tells) one.back_stands on)
-              (due_now moment_of left_since told image faults_of script origin front inbox new tells known goes);
+          heard = heard_of failed;
+          given = heard_of failed;
+          steps = steps_so failed enters is may;
           are = inl refl;
-          come = sent_last notices later (option_to_list (notice_at failed old e)) kept (said_so tells);
+          come = come tells;
         })
-        (λ tells. hears_on moment_of left_since told image faults_of script origin front inbox old new line notices out one telling (λ off. on) (e ∷ []) later_line.waiting
-        (option_to_list (notice_at failed old e)) later.waiting (steps_so failed enters is may) waits_first
-        (sent_last notices later (option_to_list (notice_at failed old e)) kept (said_so tells)) tells)
+        (hears_on moment_of left_since told image faults_of script origin front inbox old new line notices out one telling (λ off. on) (e ∷ []) later_line.waiting
+        (heard_of failed) later.waiting (λ tells still. record { steps = steps_so failed enters is may; come = come tells }) waits_first)
         (fits_behind failed enters is may)
       where
-        said_so : TellsNow told new → sent_on later ≡ sent_on notices ++ option_to_list (notice_at failed old e)
-        said_so tells =
+        come : TellsNow told new → later.waiting ≡ notices.waiting ++ heard_of failed
+        come tells =
             let before = told_earlier moment_of left_since told image faults_of script origin front inbox old new telling one.back_stands tells in
-            said ∙ ap (λ (n : Option Notice). sent_on notices ++ option_to_list n) (answers before.0 before.1 before.2)
+            let due = answers_due moment_of left_since told image faults_of origin.start origin.opening old before.0 before.1 before.2 one.back_stands on failed e answer answers in
+            sent_last notices later (heard_of failed) kept (said ∙ ap (λ (n : Option Notice). sent_on notices ++ option_to_list n) due)
 
     -- It is taken, and what the front is told is lost.
     unheard_as : (failed : Failed) (unfit : Bool) → is_unfit (fit_of old e) ≡ unfit → Enters failed old new e → may_take old ≡ true → is_stopped new ≡ true → sent_on later ≡ sent_on notices → After
     unheard_as failed true is enters may off said = unfit_enters failed enters is may said
     unheard_as failed false is enters may off said =
-        let s = steps_unheard opened (rear_of old) (rear_of new) (e ∷ []) (option_to_list (notice_at failed old e)) (steps_so failed enters is may) (λ stand empty. absurd (not_empty e empty)) in
         logs failed enters is (λ tells. record {
-          heard = s.0;
+          heard = heard_of failed;
           given = [];
-          steps = s.1;
+          steps = steps_so failed enters is may;
           are = inr refl;
           come = sym (took_none notices later kept said) ∙ sym (append-nil notices.waiting);
         })
@@ -226,7 +221,7 @@ module _ {D : Type 0} (moment_of : D → ℕ) (left_since : D → ℕ → List �
     loses : LosesEntry old new line.got later_line.got (sent_on notices) (sent_on later) → may_take old ≡ true → is_stopped new ≡ true
         → (IsAsBefore old new ⊎ ((failed : Failed) × Enters failed old new e)) → sent_on later ≡ sent_on notices → After
     loses lost may off (inl same) said =
-        unlogged same.log same.held same.mode same.before same.durable same.identity (λ free on. true≢false (sym off ∙ on))
+        unlogged same.log same.held same.mode same.before same.durable same.closed same.identity (λ free on. true≢false (sym off ∙ on))
         (λ has tells goes_on goes. absurd (true≢false (sym off ∙ goes))) said (limited_as_before moment_of left_since told image faults_of origin.start origin.opening (not (is_stopped old)) origin.extent old new one.back_stands telling one.limited
         same (same_disk.limit old.limit) (λ mounted. same_disk.end))
     loses lost may off (inr (failed, enters)) said = unheard_as failed (is_unfit (fit_of old e)) refl enters may off said

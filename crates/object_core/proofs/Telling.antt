@@ -3,7 +3,6 @@ use Rattle.std.proofs.Common.{◌≡◌, ◌∙◌, sym, ℕ, suc, List, ◌++�
 use Rattle.std.specs.Prelude.{false, not}
 use Rattle.batch_journal.specs.Moments.{IsTold}
 use Rattle.do_tree.specs.Tree.{Script}
-use Rattle.storage_map.specs.declared.op.Op.{Op}
 use Rattle.timeline.specs.Headline.{IsHistory}
 use Rattle.timeline.specs.Logs.{fronted, backed}
 use Rattle.front_half.specs.Standing as standing

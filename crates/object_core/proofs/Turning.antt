@@ -4,7 +4,6 @@ use Rattle.std.specs.Prelude.{Bool, true, false, Result, Ok, Err, OnOk, OnErr}
 use Rattle.do_tree.specs.Tree.{Script}
 use Rattle.do_value.specs.declared.fault.NoMemory.{NoMemory}
 use Rattle.lane.specs.Lanes.{Both, sent_on, StartsWith}
-use Rattle.storage_map.specs.declared.op.Op.{Op}
 use Rattle.timeline.specs.Intake.{Taken, events_in, opened}
 use Rattle.timeline.specs.Logs.{fronted}
 use Rattle.timeline.specs.declared.entry.Entry.{Entry}

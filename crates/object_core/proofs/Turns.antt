@@ -42,9 +42,9 @@ may_not may (y ∷ ys) zero x there may_it none =
 may_not may (y ∷ ys) (suc place) x there may_it none = may_not may ys place x there may_it (or_right (may y) (list_any may ys) none)
 
 -- An event is given, or memory was wanting.
-module _ {D : Type 0} (moment_of : D → ℕ) (told : D → Option (List ℕ)) (faults_of : D → ℕ) (script : Script) (old : Core D) (inbox : Both Event) (event : Event) where
+module _ {D : Type 0} (moment_of : D → ℕ) (told : D → Option (List ℕ)) (image : D → List ℕ → Type 0) (faults_of : D → ℕ) (script : Script) (old : Core D) (inbox : Both Event) (event : Event) where
   pub give_steps : inbox.got ≡ old.inbox.got → inbox.waiting ≡ old.inbox.waiting ++ event ∷ []
-      → Steps moment_of told faults_of script old (record old { inbox = inbox }) (Give event) (Ok true)
+      → Steps moment_of told image faults_of script old (record old { inbox = inbox }) (Give event) (Ok true)
   give_steps got waiting = record {
     touches = refl;
     passes = record {
@@ -60,7 +60,7 @@ module _ {D : Type 0} (moment_of : D → ℕ) (told : D → Option (List ℕ)) (
     halted = λ off. absurd off;
   }
 
-  pub give_fails : (fault : NoMemory) → inbox ≡ old.inbox → Steps moment_of told faults_of script old (record old { inbox = inbox }) (Give event) (Err fault)
+  pub give_fails : (fault : NoMemory) → inbox ≡ old.inbox → Steps moment_of told image faults_of script old (record old { inbox = inbox }) (Give event) (Err fault)
   give_fails fault same = record {
     touches = refl;
     passes = record { given = ap (λ (q : Both Event). sent_on q) same ∙ sym (append-nil (sent_on old.inbox)); collected = refl; left = sent_none old.out old.out refl };
@@ -72,11 +72,11 @@ module _ {D : Type 0} (moment_of : D → ℕ) (told : D → Option (List ℕ)) (
   }
 
   pub give_by : (sent : Result (Unit {0}) NoMemory) → inbox.got ≡ old.inbox.got → OnOk sent (inbox.waiting ≡ old.inbox.waiting ++ event ∷ [])
-      → OnErr sent (inbox ≡ old.inbox) → Steps moment_of told faults_of script old (record old { inbox = inbox }) (Give event) (given_of sent)
+      → OnErr sent (inbox ≡ old.inbox) → Steps moment_of told image faults_of script old (record old { inbox = inbox }) (Give event) (given_of sent)
   give_by (Ok u) got waiting same = give_steps got waiting
   give_by (Err fault) got waiting same = give_fails fault same
 
-module _ {D : Type 0} (moment_of : D → ℕ) (told : D → Option (List ℕ)) (faults_of : D → ℕ) (script : Script) (old : Core D) (front : Front)
+module _ {D : Type 0} (moment_of : D → ℕ) (told : D → Option (List ℕ)) (image : D → List ℕ → Type 0) (faults_of : D → ℕ) (script : Script) (old : Core D) (front : Front)
     (inbox : Both Event) (line : Both Entry) (notices : Both Notice) where
   abbrev after : Core D
   after = record old { front = front; inbox = inbox; line = line; notices = notices }
@@ -137,7 +137,7 @@ module _ {D : Type 0} (moment_of : D → ℕ) (told : D → Option (List ℕ)) (
         let k = known on in
         (by.lost k.0 k.1).stops.stopped
 
-    pub turn_steps : (result : Result Turned NoMemory) → By result → Steps moment_of told faults_of script old after Turn (turn_of result)
+    pub turn_steps : (result : Result Turned NoMemory) → By result → Steps moment_of told image faults_of script old after Turn (turn_of result)
     turn_steps (Ok Ran) by = record {
       touches = refl;
       passes = record { given = by.events ∙ sym (append-nil (sent_on old.inbox)); collected = refl; left = sent_none old.out old.out refl };

@@ -5,7 +5,7 @@ use Rattle.std.specs.Prelude.{false}
 use Rattle.do_tree.specs.Tree.{Script}
 use Rattle.timeline.specs.Headline.{IsPrefix}
 use Rattle.timeline.specs.History.{history}
-use Rattle.timeline.specs.Intake.{Front, Kind, ends_in, opened, sent_by}
+use Rattle.timeline.specs.Intake.{Front, Kind, opened, sent_by}
 use Rattle.timeline.specs.Logs.{Backed, Fronted, backed, fronted}
 use Rattle.timeline.specs.Passed.{passed}
 use Rattle.timeline.specs.declared.back_log.Stop.{Stop}

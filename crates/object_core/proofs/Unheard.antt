@@ -10,7 +10,8 @@ use Rattle.timeline.specs.declared.notice.Notice.{Notice}
 use Rattle.front_half.specs.Standing.{Stood}
 use Rattle.object_front.specs.declared.evaluated.Evaluated.{Evaluated}
 use Rattle.front_half.specs.declared.half.Half.{Half}
-use Rattle.object_history.specs.Pair.{Held, Stand, mounted, wanted, fallen, Rear, IsSilentAt, IsNews, IsLeftOver, Behind, Together, unreached, answered, syncs, halts, read_fails, falls, wants, mends, misses, silent, IsPair}
+use Rattle.object_history.proofs.Entries.{all_front}
+use Rattle.object_history.specs.Pair.{Held, Stand, mounted, wanted, fallen, Rear, IsEnd, IsSilentAt, IsNews, IsLeftOver, Behind, Together, unreached, answered, syncs, halts, read_fails, falls, wants, mends, misses, silent, IsPair}
 use Rattle.front_history.specs.Paired.{ArePaired, logged_with}
 use Rattle.object_core.proofs.Hearing.{some_last}
 
@@ -111,6 +112,21 @@ pair_unheard k opened f front rear line notices n pair = record {
   number = pair.number;
   logged = pair.logged;
   lined = pair.lined;
+  closed_to = record {
+    within = pair.closed_to.within;
+    waits = λ by.
+        let w = pair.closed_to.waits by in
+        record {
+          object = w.object;
+          task = w.task;
+          ask = w.ask;
+          free = w.free;
+          mode = w.mode;
+          none_unread = w.none_unread;
+          no_answer = all_front IsEnd notices (n ∷ []) w.no_answer;
+        };
+    open_late = pair.closed_to.open_late;
+  };
   ends = pair.ends;
   older_said = pair.older_said;
   older_halted = pair.older_halted;

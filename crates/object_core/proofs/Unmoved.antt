@@ -1,5 +1,5 @@
 -- A front that got no event was delivered none, and so has sent no message.
-use Rattle.std.proofs.Common.{◌≡◌, ◌∙◌, sym, refl, ap, subst, true≢false, ℕ, List, [], ◌∷◌, ◌++◌, map, Option}
+use Rattle.std.proofs.Common.{◌≡◌, ◌∙◌, sym, refl, ap, true≢false, ℕ, List, [], ◌∷◌, ◌++◌, Option}
 use Rattle.std.proofs.lemmas.List.Sorted.{list_any-IsPermutation}
 use Rattle.std.specs.Prelude.{Bool, true, false}
 use Rattle.std.specs.List.{list_any}
@@ -8,7 +8,6 @@ use Rattle.timeline.specs.Intake.{Front, Kind, opened, sent_by}
 use Rattle.timeline.specs.Logs.{Fronted, fronted}
 use Rattle.timeline.specs.declared.entry.Entry.{Entry}
 use Rattle.timeline.specs.declared.event.Event.{Event}
-use Rattle.timeline.specs.declared.message.Message.{Message as Sent}
 use Rattle.object_front.specs.Came.{events, kept}
 use Rattle.front_half.specs.Standing.{kind_in}
 use Rattle.output_gate.specs.Telling.{opened_map}

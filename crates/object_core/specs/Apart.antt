@@ -17,7 +17,6 @@ use Rattle.front_history.specs.Paired.{ArePaired}
 use Rattle.object_core.specs.Dropping.{IsDropping}
 use Rattle.object_core.specs.Heard.{IsHeard}
 use Rattle.object_core.specs.One.{IsGivenUnasked}
-use Rattle.object_core.specs.Seen.{as_due}
 
 -- A back of a slot that was just mounted with this map.
 pub record IsOpened (opened : Contents) (rear : Rear) : Type 0 where
@@ -69,4 +68,4 @@ abbrev pub ApartMeet : Type 0
 ApartMeet = (script : Script) (class : ℕ) (first : Option ℕ) (opened : Contents) (half : Half Evaluated) (st : Stood) (rear : Rear) (events : List Event)
     (got told : List Notice) (sent taken line : List Entry) (notices : List Notice)
     → FrontRuns script first opened.alarm half st events got sent → BackRuns opened rear taken told → sent ≡ taken ++ line → told ≡ got ++ notices
-    → IsClass st.class class → Joined script class first opened half st events (as_due opened rear) line notices
+    → IsClass st.class class → Joined script class first opened half st events rear line notices

@@ -6,7 +6,6 @@ use Rattle.batch_journal.specs.declared.mount.Mounted.{Mounted}
 use Rattle.do_tree.specs.Tree.{Script}
 use Rattle.lane.specs.Lanes.{sent_on}
 use Rattle.storage_map.specs.Contents.{Contents}
-use Rattle.storage_map.specs.declared.op.Op.{Op}
 use Rattle.timeline.specs.Headline.{AreDurable, IsHistory, IsPrefix, IsQuiet, parts_of, pass_of, release_of}
 use Rattle.timeline.specs.History.{history, incarnation_at, incarnations, resets}
 use Rattle.timeline.specs.Intake.{Front, Mode, Taken, opened}
@@ -38,7 +37,7 @@ use Rattle.object_core.specs.declared.object.Core.{Core}
 -- just mounted.
 abbrev pub HalvesAreFresh : {D : Type 0} → Back D → Type 0
 HalvesAreFresh {D} back = (script : Script) (mounted : Mounted D) (front : Half Evaluated) → IsFresh mounted back
-    → IsHalf seen script front (fresh (class_in script mounted.identity) mounted.map.alarm) → fronted front.log ≡ nothing_logged
+    → IsHalf seen script front (fresh (class_in script mounted.identity) mounted.index.alarm) → fronted front.log ≡ nothing_logged
     → AreFresh script front back
 
 -- While the object's disk tells its content: what was said is what the script tells over the delivered events, each incarnation over

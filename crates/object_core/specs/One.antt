@@ -24,7 +24,7 @@ use Rattle.object_front.specs.declared.evaluated.Evaluated.{Evaluated}
 use Rattle.front_half.specs.declared.half.Half.{Half}
 use Rattle.output_gate.specs.Logs.{no_log}
 use Rattle.output_gate.specs.Serving as serving
-use Rattle.output_gate.specs.Serving.{IsBack}
+use Rattle.output_gate.specs.Serving.{alarm_of, IsBack}
 use Rattle.output_gate.specs.Storing.{HasLimit, IsDiskOf}
 use Rattle.output_gate.specs.Telling.{opened_map}
 use Rattle.output_gate.specs.declared.back.Back.{Back}
@@ -52,7 +52,7 @@ class_in script (Some object) = class_named script object.0
 -- Both halves of a slot that was just mounted: nothing is logged, and the front was made with the alarm of the back's map, and with the
 -- class of its object.
 pub record AreFresh {D : Type 0} (script : Script) (front : Half Evaluated) (back : Back D) : Type 0 where
-  pub stands : IsHalf seen script front (fresh (class_in script back.identity) back.cache.alarm)
+  pub stands : IsHalf seen script front (fresh (class_in script back.identity) (alarm_of back))
   pub goes : standing.is_stopped front ≡ false
   pub front_log : fronted front.log ≡ nothing_logged
   pub back_log : backed back.log ≡ no_log

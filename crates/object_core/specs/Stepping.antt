@@ -72,15 +72,15 @@ Touches old new Mend = new ≡ record old { back = new.back; notices = new.notic
 
 -- What is done where there was something to do: the event stands behind those that wait; the front has turned, or the back has made its step, by their
 -- own contracts.
-abbrev pub Does : {D : Type 0} → (D → ℕ) → (D → Option (List ℕ)) → (D → ℕ) → Script → (old new : Core D) → Choice → Type 0
-Does moment_of told faults_of script old new (Give event) = new.inbox ≡ record old.inbox { waiting = old.inbox.waiting ++ event ∷ [] }
-Does moment_of told faults_of script old new Turn = (st : Stood) → IsHalf seen script old.front.half st
+abbrev pub Does : {D : Type 0} → (D → ℕ) → (D → Option (List ℕ)) → (D → List ℕ → Type 0) → (D → ℕ) → Script → (old new : Core D) → Choice → Type 0
+Does moment_of told image faults_of script old new (Give event) = new.inbox ≡ record old.inbox { waiting = old.inbox.waiting ++ event ∷ [] }
+Does moment_of told image faults_of script old new Turn = (st : Stood) → IsHalf seen script old.front.half st
     → turning.Turns seen script old.front.half new.front.half st old.inbox.got new.inbox.got old.notices.got new.notices.got (sent_on old.notices)
-Does moment_of told faults_of script old new Take = entering.Takes told old.back new.back old.line.got new.line.got (sent_on old.notices) (sent_on new.notices)
-Does moment_of told faults_of script old new Flush = flushing.Flushes faults_of old.back new.back
-Does moment_of told faults_of script old new Release =
+Does moment_of told image faults_of script old new Take = entering.Takes told image old.back new.back old.line.got new.line.got (sent_on old.notices) (sent_on new.notices)
+Does moment_of told image faults_of script old new Flush = flushing.Flushes faults_of old.back new.back
+Does moment_of told image faults_of script old new Release =
     releasing.Releases moment_of old.back new.back (sent_on old.notices) (sent_on new.notices) (sent_on old.out) (sent_on new.out)
-Does moment_of told faults_of script old new Mend = mending.Mends faults_of old.back new.back (sent_on old.notices) (sent_on new.notices)
+Does moment_of told image faults_of script old new Mend = mending.Mends faults_of old.back new.back (sent_on old.notices) (sent_on new.notices)
 
 -- Memory was wanting: an event isn't given, and nothing is changed; or the half whose step it is, is stopped.
 abbrev pub IsStoppedBy : {D : Type 0} → (old new : Core D) → Choice → Type 0
@@ -103,12 +103,12 @@ pub record Passes {D : Type 0} (old new : Core D) (choice : Choice) (result : Re
 
 -- A step answers false exactly where there is nothing to do, and then changes nothing; true where it did what its choice says; and
 -- want of memory always behind an earlier one of its half.
-pub record Steps {D : Type 0} (moment_of : D → ℕ) (told : D → Option (List ℕ)) (faults_of : D → ℕ) (script : Script) (old new : Core D) (choice : Choice)
+pub record Steps {D : Type 0} (moment_of : D → ℕ) (told : D → Option (List ℕ)) (image : D → List ℕ → Type 0) (faults_of : D → ℕ) (script : Script) (old new : Core D) (choice : Choice)
     (result : Result Bool NoMemory) : Type 0 where
   pub touches : Touches old new choice
   pub passes : Passes old new choice result
   pub nothing : result ≡ Ok false → HasNothing script old choice × (new ≡ old)
   pub something : result ≡ Ok true → HasNothing script old choice → ⊥
-  pub did : result ≡ Ok true → Does moment_of told faults_of script old new choice
+  pub did : result ≡ Ok true → Does moment_of told image faults_of script old new choice
   pub wanting : OnErr result (IsStoppedBy old new choice)
   pub halted : IsHalted old choice → OnOk result ⊥ × (new ≡ old)

@@ -107,7 +107,7 @@ impl<D: Disk> Core<D> {
     /// further step of it answers `NoMemory` and does nothing, but for a flush; an event that memory didn't suffice for is gone.
     pub fn step(&mut self, alloc: Global, checked: &Checked, choice: Choice) -> Mem<bool>
         requires { CanRun D.moment_of D.left_since D.told D.image D.faults_of (script_in checked.now) self.old }
-        ensures steps { Steps D.moment_of D.told D.faults_of (script_in checked.now) self.old self.new choice result }
+        ensures steps { Steps D.moment_of D.told D.image D.faults_of (script_in checked.now) self.old self.new choice result }
         ensures again { CanRun D.moment_of D.left_since D.told D.image D.faults_of (script_in checked.now) self.new }
         ensures one { KeepsOne D.moment_of D.left_since D.told D.image D.faults_of (script_in checked.now) self.old self.new }
         ensures tells { KeepsTelling D.told self.old.back.store self.new.back.store }
@@ -125,7 +125,7 @@ impl<D: Disk> Core<D> {
     /// Does all that is chosen, in order, up to the first want of memory.
     pub fn run(&mut self, alloc: Global, checked: &Checked, choices: Vec<Choice>) -> Mem<()>
         requires { CanRun D.moment_of D.left_since D.told D.image D.faults_of (script_in checked.now) self.old }
-        ensures runs { Runs D.moment_of D.told D.faults_of (script_in checked.now) self.old self.new choices.items result }
+        ensures runs { Runs D.moment_of D.told D.image D.faults_of (script_in checked.now) self.old self.new choices.items result }
         ensures again { CanRun D.moment_of D.left_since D.told D.image D.faults_of (script_in checked.now) self.new }
         ensures one { KeepsOne D.moment_of D.left_since D.told D.image D.faults_of (script_in checked.now) self.old self.new }
         ensures tells { KeepsTelling D.told self.old.back.store self.new.back.store }

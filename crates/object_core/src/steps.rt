@@ -21,7 +21,7 @@ use timeline::{Event, Stepped};
 impl<D: Disk> Core<D> {
     // Puts an event behind those that wait for the front.
     pub(crate) fn give(&mut self, event: Event) -> Mem<bool>
-        ensures steps { (script : Script) → Steps D.moment_of D.told D.faults_of script self.old self.new (Choice.Give event) result }
+        ensures steps { (script : Script) → Steps D.moment_of D.told D.image D.faults_of script self.old self.new (Choice.Give event) result }
         ensures one { (script : Script) → KeepsOne D.moment_of D.left_since D.told D.image D.faults_of script self.old self.new }
         ensures tells { KeepsTelling D.told self.old.back.store self.new.back.store }
     {
@@ -31,7 +31,7 @@ impl<D: Disk> Core<D> {
 
     pub(crate) fn turn(&mut self, alloc: Global, checked: &Checked) -> Mem<bool>
         requires { CanRun D.moment_of D.left_since D.told D.image D.faults_of (script_in checked.now) self.old }
-        ensures steps { Steps D.moment_of D.told D.faults_of (script_in checked.now) self.old self.new Choice.Turn result }
+        ensures steps { Steps D.moment_of D.told D.image D.faults_of (script_in checked.now) self.old self.new Choice.Turn result }
         ensures one { KeepsOne D.moment_of D.left_since D.told D.image D.faults_of (script_in checked.now) self.old self.new }
         ensures tells { KeepsTelling D.told self.old.back.store self.new.back.store }
     {
@@ -52,7 +52,7 @@ impl<D: Disk> Core<D> {
 
     pub(crate) fn take(&mut self) -> Mem<bool>
         requires { (script : Script) × CanRun D.moment_of D.left_since D.told D.image D.faults_of script self.old }
-        ensures steps { (script : Script) → Steps D.moment_of D.told D.faults_of script self.old self.new Choice.Take result }
+        ensures steps { (script : Script) → Steps D.moment_of D.told D.image D.faults_of script self.old self.new Choice.Take result }
         ensures one { (script : Script) → KeepsOne D.moment_of D.left_since D.told D.image D.faults_of script self.old self.new }
         ensures tells { KeepsTelling D.told self.old.back.store self.new.back.store }
     {
@@ -63,7 +63,7 @@ impl<D: Disk> Core<D> {
 
     pub(crate) fn flush(&mut self) -> Mem<bool>
         requires { (script : Script) × CanRun D.moment_of D.left_since D.told D.image D.faults_of script self.old }
-        ensures steps { (script : Script) → Steps D.moment_of D.told D.faults_of script self.old self.new Choice.Flush result }
+        ensures steps { (script : Script) → Steps D.moment_of D.told D.image D.faults_of script self.old self.new Choice.Flush result }
         ensures one { (script : Script) → KeepsOne D.moment_of D.left_since D.told D.image D.faults_of script self.old self.new }
         ensures tells { KeepsTelling D.told self.old.back.store self.new.back.store }
     {
@@ -74,7 +74,7 @@ impl<D: Disk> Core<D> {
 
     pub(crate) fn release(&mut self) -> Mem<bool>
         requires { (script : Script) × CanRun D.moment_of D.left_since D.told D.image D.faults_of script self.old }
-        ensures steps { (script : Script) → Steps D.moment_of D.told D.faults_of script self.old self.new Choice.Release result }
+        ensures steps { (script : Script) → Steps D.moment_of D.told D.image D.faults_of script self.old self.new Choice.Release result }
         ensures one { (script : Script) → KeepsOne D.moment_of D.left_since D.told D.image D.faults_of script self.old self.new }
         ensures tells { KeepsTelling D.told self.old.back.store self.new.back.store }
     {
@@ -85,7 +85,7 @@ impl<D: Disk> Core<D> {
 
     pub(crate) fn mend(&mut self, alloc: Global) -> Mem<bool>
         requires { (script : Script) × CanRun D.moment_of D.left_since D.told D.image D.faults_of script self.old }
-        ensures steps { (script : Script) → Steps D.moment_of D.told D.faults_of script self.old self.new Choice.Mend result }
+        ensures steps { (script : Script) → Steps D.moment_of D.told D.image D.faults_of script self.old self.new Choice.Mend result }
         ensures one { (script : Script) → KeepsOne D.moment_of D.left_since D.told D.image D.faults_of script self.old self.new }
         ensures tells { KeepsTelling D.told self.old.back.store self.new.back.store }
     {

@@ -42,9 +42,9 @@ steps_keep well k opened f front rear line given notices _ _ _ (sends release ma
     (flown_on k opened f front rear line notices pair rear.log.flights released rear.durable map)
 steps_keep well k opened f front rear line given notices _ _ _ (syncs number needs rest map is_held) known after are pair =
     answers_sync k opened f front rear number needs rest map line notices given is_held are pair
-steps_keep well k opened f front rear line given notices _ _ _ (halts c needs rest stop end is_held stand flown by_halt) known after are pair =
-    stops_by_halt k opened f front rear line notices known pair c needs rest stop end is_held stand by_halt given are after
+steps_keep well k opened f front rear line given notices _ _ _ (halts c needs rest stop end map is_held stand flown by_halt) known after are pair =
+    stops_by_halt k opened f front rear line notices known pair c needs rest stop end map is_held stand by_halt given are after
 steps_keep well k opened f front rear line given notices _ _ _ (begins c end before map stand) known after are pair =
     mounts k opened f front rear line notices given pair known c end before map stand are after
-steps_keep well k opened f front rear line given notices _ _ _ (misses c counts_before counts_after stand) known after are pair =
-    fails_to_mount k opened f front rear line notices given pair c counts_before counts_after stand are
+steps_keep well k opened f front rear line given notices _ _ _ (misses c counts_before counts_after map stand) known after are pair =
+    fails_to_mount k opened f front rear line notices given pair c counts_before counts_after map stand are

@@ -22,6 +22,7 @@ use Rattle.timeline.specs.declared.event.Event.{Event}
 use Rattle.timeline.specs.declared.notice.Notice.{Notice}
 use Rattle.timeline.specs.declared.notice.Notice.TheVariants as notice
 use Rattle.object_history.proofs.Advancing.{front}
+use Rattle.object_history.proofs.Closing.{open_unless}
 use Rattle.object_history.proofs.Downs.{is_down, same_call, none_waits, IsFresh, alarm_in, counts_in, written_both, down_more, failures_more, replies_down, replies_plain, replies_silent}
 use Rattle.object_history.proofs.Frames.{now, GoesOn, own_calls, down_same, kept}
 use Rattle.object_history.proofs.Ready.{not_nil, same_head, same_rest, none_plain, all_plain, unread_more, IsReadyNow, at_stand, ready_steps}
@@ -99,6 +100,7 @@ on_mended goes_on k opened i es said call number alarm cause old new rear line l
     let phase = mended_phase opened pair.below pair.start f old new rear pair.lined.unread more pair.lined.late call number alarm cause left refl unread
     pair.phase in
     kept k opened f old new rear line (notice.Fresh number alarm cause ∷ left) pair more [] [] goes es said (serves (idle (begun alarm))) left
+    (open_unless rear.closed f pair.lined.late pair.lined.unread (notice.Fresh number alarm cause ∷ left) pair.closed_to (λ w. is_down f.mode _ (Some call) w.mode refl))
     (sym (append-nil es)) grows.said
     (mended_newest goes_on k (incarnations old rear.log pair.below) pair.start f old new rear.log (Some call) alarm refl phase.1 same pair.newest_said) phase.0
 
@@ -241,6 +243,7 @@ on_missed k opened i es said call cause before after old new rear line left pair
     unread_more (down None) pair.lined.unread more (none_plain pair.lined.unread missed.none_unread)
     (record { plain = more; are_plain = plain; is = sym (append-nil more) }) in
     kept k opened f old new rear line (notice.Down cause before after ∷ left) pair more [] (call ∷ []) goes es (said ++ replies) (down None) left
+    (open_unless rear.closed f pair.lined.late pair.lined.unread (notice.Down cause before after ∷ left) pair.closed_to (λ w. is_down f.mode _ (Some call) w.mode refl))
     (sym (append-nil es)) grows.said newest.0
     (inl (
       phase.0,
@@ -317,7 +320,9 @@ on_wanted k opened i es said e old new rear line left pair call grows =
     let goes : GoesOn f old new more [] [] =
     record { sent = grows.sent; delivered = grows.delivered; downed = grows.downed; ends = grows.ends ∙ append-nil old.ends } in
     let same : of_number i new.downed ≡ of_number i old.downed = own_calls f old new more [] [] goes ∙ append-nil (of_number i old.downed) in
-    kept k opened f old new rear line left pair more [] [] goes es (said ++ body.Mend ∷ []) (down (Some e)) left (sym (append-nil es)) grows.said
+    kept k opened f old new rear line left pair more [] [] goes es (said ++ body.Mend ∷ []) (down (Some e)) left
+    (open_unless rear.closed f pair.lined.late pair.lined.unread left pair.closed_to (λ w. is_down f.mode _ None w.mode refl))
+    (sym (append-nil es)) grows.said
     (wanted_newest k (incarnations old rear.log pair.below) pair.start f old new rear.log e refl call same pair.newest_said)
     (wanted_phase opened pair.below pair.start f old new rear pair.lined.unread more pair.lined.late e left (said ++ body.Mend ∷ []) refl more_is same
     pair.phase)

@@ -94,6 +94,11 @@ on_dropped k opened f front rear line notices dropped pair =
       number = pair.number;
       logged = logged_same f front dropped pair.logged;
       lined = lined_same f front dropped rear.log.taken line pair.lined;
+      closed_to = record {
+        within = pair.closed_to.within;
+        waits = pair.closed_to.waits;
+        open_late = pair.closed_to.open_late;
+      };
       ends = pair.ends;
       older_said = said_same pair.below front (with_dropped front dropped) same rear.log k.script k.class opened pair.below (omega arith) pair.older_said;
       older_halted = halted_same pair.below front (with_dropped front dropped) same rear.log k.script k.class opened pair.below (omega arith) pair.older_halted;

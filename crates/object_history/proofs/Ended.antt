@@ -14,8 +14,8 @@ use Rattle.timeline.specs.declared.entry.Entry.{Entry}
 use Rattle.timeline.specs.declared.notice.Notice.{Notice}
 use Rattle.timeline.specs.declared.notice.Notice.TheVariants as notice
 use Rattle.object_history.proofs.Downs.{is_down}
-use Rattle.object_history.proofs.Ready.{not_nil, same_head, same_rest, IsEnd, end_answers_none}
-use Rattle.object_history.specs.Pair.{Held, Stand, mounted, wanted, fallen, Rear, IsUnread, Together, unreached, answered, syncs, halts, read_fails, falls, wants, mends, misses, silent, IsNews, IsLeftOver, HasHalted, fallen_once, IsPhase}
+use Rattle.object_history.proofs.Ready.{not_nil, same_head, same_rest, end_answers_none}
+use Rattle.object_history.specs.Pair.{Held, Stand, mounted, wanted, fallen, Rear, IsUnread, Together, unreached, answered, syncs, halts, read_fails, falls, wants, mends, misses, silent, IsEnd, IsNews, IsLeftOver, HasHalted, fallen_once, IsPhase}
 
 -- Where both halves are in one incarnation, no news of an end is under way to a front that serves.
 module _ (start : Contents) (f : Front) (old : Fronted) (back : Backed) (unread : List Body) (before : ℕ) (state : State) (is_so : f.mode ≡ serves state)

@@ -24,6 +24,7 @@ use Rattle.output_gate.proofs.Histories.{entries_none}
 use Rattle.object_history.proofs.Advancing.{front}
 use Rattle.object_history.proofs.Downs.{resets_down, resets_silent, resets_plain}
 use Rattle.object_history.proofs.Asked.{is_asked_for}
+use Rattle.object_history.proofs.Closing.{open_unless}
 use Rattle.object_history.proofs.Ended.{IsFollowedBy, ended_phase}
 use Rattle.object_history.proofs.Entries.{all_front, all_numbered, of_their_own, said_numbered, of_number_none}
 use Rattle.object_history.proofs.Halting.{halted_with}
@@ -33,7 +34,7 @@ use Rattle.object_history.proofs.SaidSoFar.{delivered_until, entries_now, events
 use Rattle.object_history.proofs.WellSaid.{delivers_well, answers_well}
 use Rattle.object_history.proofs.Wishes.{IsNoWish, none_wished}
 use Rattle.object_history.specs.Laws.{TellingGoesOn, TellingTells}
-use Rattle.object_history.specs.Pair.{mounted, fallen, Rear, IsLogged, IsLine, IsUnread, IsCall, failures, SaysDown, IsNewest, serving, falling, Together, unreached, falls, HasHalted, fallen_once, IsPhase, IsPair}
+use Rattle.object_history.specs.Pair.{mounted, fallen, Rear, IsLogged, IsLine, IsUnread, IsCall, failures, SaysDown, IsNewest, serving, falling, Together, unreached, falls, HasHalted, fallen_once, IsPhase, IsClosedTo, IsPair}
 use Rattle.object_history.specs.Stepping.{Grows}
 
 -- The causes of one stop more.
@@ -153,6 +154,20 @@ module _ (tells : TellingTells) (k : Kind) (opened : Contents) (f : Front) (old 
     own = entries_none (suc f.incarnation) rear.log.taken taken_before;
   }
 
+  -- no read has failed of the next one; and of the one that has ended nothing is under way where a read of it has
+  closed_to : (mode : Mode) (left : List Notice) → IsClosedTo rear.closed (later f cause mode) line (intake.resets f cause) left
+  closed_to mode left =
+      let was = pair.closed_to in
+      record {
+        within = omega (arith, was.within);
+        waits = λ by. absurd (omega (arith, by, was.within));
+        open_late = λ some.
+            let less : rear.closed < f.incarnation =
+            open_unless rear.closed f pair.lined.late pair.lined.unread notices was (λ w. some
+            (line_is ∙ ap (λ (bodies : List Body). numbered f.incarnation (suc (length pair.lined.read)) bodies) w.none_unread)) in
+            omega (arith, less);
+      }
+
   -- the failures are those that the history has after this end
   resets_are : intake.resets f cause ≡ resets (incarnations new rear.log (suc pair.below))
   resets_are =
@@ -189,6 +204,7 @@ module _ (tells : TellingTells) (k : Kind) (opened : Contents) (f : Front) (old 
     number = ap suc pair.number;
     logged = logged mode;
     lined = lined mode;
+    closed_to = closed_to mode left;
     ends =
         ends_so.ends
         ∙ ap (λ (known : List Cause). known ++ cause ∷ []) pair.ends

@@ -12,8 +12,8 @@ use Rattle.timeline.specs.declared.entry.Entry.{Entry}
 use Rattle.timeline.specs.declared.event.Event.{Event}
 use Rattle.timeline.specs.declared.notice.Notice.{Notice}
 use Rattle.timeline.specs.declared.notice.Notice.TheVariants as notice
-use Rattle.object_history.proofs.Ready.{not_nil, same_head, IsEnd, news_is_end}
-use Rattle.object_history.specs.Pair.{Held, Stand, Rear, IsAnswer, Together, unreached, answered, syncs, halts, read_fails, falls, wants, mends, misses, silent, IsNews, IsLeftOver, IsPhase, IsPair}
+use Rattle.object_history.proofs.Ready.{not_nil, same_head, news_is_end}
+use Rattle.object_history.specs.Pair.{Held, Stand, Rear, IsAnswer, Together, unreached, answered, syncs, halts, read_fails, falls, wants, mends, misses, silent, IsEnd, IsNews, IsLeftOver, IsPhase, IsPair}
 
 -- The news of an end fits each state.
 end_fits : (said : List Body) (state : State) (n : Notice) → IsEnd n → FitsNotice said state n

@@ -31,4 +31,4 @@ module _ (k : Kind) (opened : Contents) (f : Front) (front : Fronted) (rear : Re
       ))
       pair.phase in
       rebuilt k opened f front rear line notices pair later line notices (λ index less. alike index) (λ index less. kept index)
-      ([], sym (append-nil rear.log.taken)) refl refl pair.lined phase
+      ([], sym (append-nil rear.log.taken)) refl refl pair.lined pair.closed_to phase

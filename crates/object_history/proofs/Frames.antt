@@ -1,5 +1,5 @@
 -- A front goes on in its incarnation: what stays of a pair whatever it says.
-use Rattle.std.proofs.Common.{◌≡◌, ◌∙◌, ap, sym, subst, ℕ, suc, ◌≤◌, List, ◌++◌, append-nil, append_assoc, length, length-append, map, arith}
+use Rattle.std.proofs.Common.{◌≡◌, ◌∙◌, ap, sym, subst, ℕ, suc, ◌<◌, ◌≤◌, List, ◌++◌, append-nil, append_assoc, length, length-append, map, arith}
 use Rattle.std.proofs.lemmas.List.{map-append}
 use Rattle.std.proofs.lemmas.List.Elements.{filter-append, All-append, All-map}
 use Rattle.std.specs.Prelude.{◌==◌}
@@ -131,15 +131,20 @@ module _ (k : Kind) (opened : Contents) (f : Front) (front new : Fronted) (rear 
       }
 
   -- with what it has said, and where both halves stand, the pair goes on
-  pub kept : (es : List Event) (said : List Body) (mode : Mode) (rest : List Notice) → es ≡ f.events ++ events → said ≡ f.said ++ more
+  pub kept : (es : List Event) (said : List Body) (mode : Mode) (rest : List Notice) → rear.closed < f.incarnation → es ≡ f.events ++ events → said ≡ f.said ++ more
       → IsNewest k (incarnations front rear.log pair.below) pair.start (now f es said mode) new rear.log
       → IsPhase opened pair.below pair.start (now f es said mode) new rear (pair.lined.unread ++ more) pair.lined.late rest
       → IsPair k opened (now f es said mode) new rear (line ++ numbered f.incarnation (suc (length f.said)) more) rest
-  kept es said mode rest all_events all_said newest phase = record {
+  kept es said mode rest unclosed all_events all_said newest phase = record {
     below = pair.below;
     number = pair.number;
     logged = logged_on es said mode all_events all_said;
     lined = lined_on es said mode all_said;
+    closed_to = record {
+      within = pair.closed_to.within;
+      waits = λ by. absurd (omega (arith, unclosed, by));
+      open_late = pair.closed_to.open_late;
+    };
     ends = goes.ends ∙ pair.ends;
     older_said = said_same pair.below front new same_to rear.log k.script k.class opened pair.below (omega arith) pair.older_said;
     older_halted = halted_same pair.below front new same_to rear.log k.script k.class opened pair.below (omega arith) pair.older_halted;

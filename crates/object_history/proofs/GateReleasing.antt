@@ -1,6 +1,6 @@
 -- What a back lets go is a step of which the history speaks.
 use Rattle.std.proofs.Common.{◌≡◌, ◌∙◌, ap, sym, refl, subst, inl, inr, true≢false, ℕ, suc, ◌+◌, List, [], ◌∷◌, ◌++◌, length, arith, Option}
-use Rattle.std.specs.Prelude.{Bool, ◌||◌}
+use Rattle.std.specs.Prelude.{ℤ, Bool, ◌||◌}
 use Rattle.std.specs.List.{flat_map}
 use Rattle.storage_map.specs.Contents.{Contents}
 use Rattle.storage_map.specs.declared.op.Op.{Op}
@@ -14,13 +14,15 @@ use Rattle.timeline.specs.declared.notice.Notice.{Notice}
 use Rattle.timeline.specs.declared.notice.Notice.TheVariants as notice
 use Rattle.output_gate.specs.Held.{is_held_halt, has_halt}
 use Rattle.output_gate.specs.Releasing.{released_log, released_notices, Releases}
-use Rattle.output_gate.specs.Serving.{IsBackAs, stop_of}
+use Rattle.output_gate.specs.Serving.{alarm_of, halt_of, IsBackAs}
 use Rattle.output_gate.specs.Storing.{IsDiskOf}
 use Rattle.output_gate.specs.declared.back.Back.{Back}
+use Rattle.output_gate.specs.declared.back.Mode.TheVariants.{Mounted}
 use Rattle.output_gate.specs.declared.held.Held.{Held as BackHeld}
 use Rattle.output_gate.specs.declared.held.HeldBody.{HeldBody}
 use Rattle.output_gate.specs.declared.held.HeldBody.TheVariants.{Message, Sync, Halt}
 use Rattle.output_gate.specs.declared.store.Store.{Store}
+use Rattle.object_history.proofs.BeingRear.{mode_of}
 use Rattle.object_history.proofs.GateStepping.{numbered_so}
 use Rattle.object_history.proofs.Seeing.{made, steps_to}
 use Rattle.object_history.specs.Pair.{mounted}
@@ -41,8 +43,9 @@ module _ {D : Type 0} (moment_of : D → ℕ) (left_since : D → ℕ → List �
   stands_at_halt back first rest c (inr u) held is =
       absurd (true≢false (sym (ap (λ (b : HeldBody). is_held_halt b || has_halt rest) is) ∙ sym (ap has_halt held) ∙ u.safe.halts))
 
-  module _ (back later : Back D) (sent_before sent : List Notice) (out_before out : List Sent) (known : IsBackAs moment_of left_since told image faults_of start opening sound back)
-      (releases : Releases moment_of back later sent_before sent out_before out) where
+  module _ (back later : Back D) (m n : Contents) (sent_before sent : List Notice) (out_before out : List Sent)
+      (known : IsBackAs moment_of left_since told image faults_of start opening sound back)
+      (releases : Releases moment_of back later sent_before sent out_before out) (alarm : back.mode ≡ Mounted → n.alarm ≡ alarm_of back) where
     first_seen : (b : HeldBody) → releases.first.body ≡ b → flat_map held_of back.held.items ≡ held_for releases.first.needs b ++ flat_map held_of releases.rest
     first_seen b is = ap (flat_map held_of) releases.held ∙ ap (λ (x : HeldBody). held_for releases.first.needs x ++ flat_map held_of releases.rest) is
 
@@ -56,19 +59,19 @@ module _ {D : Type 0} (moment_of : D → ℕ) (left_since : D → ℕ → List �
     stood = ap stand_of releases.mode
 
     abbrev Goes : HeldBody → Type 0
-    Goes b = BackSteps (rear_of back) (rear_of later) [] (released_notices back b)
+    Goes b = BackSteps (rear_of m back) (rear_of n later) [] (released_notices back b)
 
     message_steps : (message : Sent) → releases.first.body ≡ Message message → Goes (Message message)
     message_steps message is =
         let release : Release = record { message = message; needs = releases.first.needs; moment = moment_of (disk_of back known).0 } in
-        steps_to (rear_of back) later [] [] _ (stand_of back.mode) (flat_map held_of back.held.items) back.before back.durable (sends release later.cache)
-        (logged (Message message) is) stood (rest_seen ∙ sym (first_seen (Message message) is)) releases.before releases.durable
+        steps_to (rear_of m back) later n [] [] _ (stand_of back.mode) (flat_map held_of back.held.items) back.before back.durable back.closed (sends release n)
+        (logged (Message message) is) stood (rest_seen ∙ sym (first_seen (Message message) is)) releases.before releases.durable releases.closed
 
     sync_steps : (number : ℕ) → releases.first.body ≡ Sync number → Goes (Sync number)
     sync_steps number is =
-        steps_to (rear_of back) later [] (notice.Synced number ∷ []) (backed back.log) (stand_of back.mode) (flat_map held_of releases.rest) back.before back.durable
-        (syncs number releases.first.needs (flat_map held_of releases.rest) later.cache (first_seen (Sync number) is))
-        (logged (Sync number) is) stood rest_seen releases.before releases.durable
+        steps_to (rear_of m back) later n [] (notice.Synced number ∷ []) (backed back.log) (stand_of back.mode) (flat_map held_of releases.rest) back.before back.durable back.closed
+        (syncs number releases.first.needs (flat_map held_of releases.rest) n (first_seen (Sync number) is))
+        (logged (Sync number) is) stood rest_seen releases.before releases.durable releases.closed
 
     halt_steps : (c : Cause) → releases.first.body ≡ Halt c → Goes (Halt c)
     halt_steps c is =
@@ -77,17 +80,17 @@ module _ {D : Type 0} (moment_of : D → ℕ) (left_since : D → ℕ → List �
         let next : suc (suc (length back.log.stops.items)) ≡ back.number + 1 =
         omega (arith, numbered_so moment_of left_since told image faults_of start opening sound back known) in
         let log : Backed = released_log back (moment_of (disk_of back known).0) releases.first (Halt c) in
-        let step = halts c releases.first.needs rest (stop_of back c) end (first_seen (Halt c) is)
-        (stands_at_halt back releases.first releases.rest c known releases.held is) refl refl in
-        steps_to (rear_of back) later [] (notice.Fresh (back.number + 1) back.cache.alarm c ∷ []) log (stand_of back.mode) rest back.before back.durable
-        (subst (λ (x : Contents × ℕ). BackSteps (rear_of back) (made log (stand_of back.mode) rest back.before back.durable x.0) [] (notice.Fresh x.1 back.cache.alarm c ∷ []))
-        (ap (λ (m : Contents). (m, suc (suc (length back.log.stops.items)))) (sym releases.cache) ∙ ap (λ (n : ℕ). (later.cache, n)) next) step)
-        (logged (Halt c) is) stood rest_seen releases.before releases.durable
+        let stand = stands_at_halt back releases.first releases.rest c known releases.held is in
+        let step = halts c releases.first.needs rest (halt_of back c) end n (first_seen (Halt c) is) stand refl refl in
+        steps_to (rear_of m back) later n [] (notice.Fresh (back.number + 1) (alarm_of back) c ∷ []) log (stand_of back.mode) rest back.before back.durable back.closed
+        (subst (λ (x : Option (ℤ × ℕ) × ℕ). BackSteps (rear_of m back) (made log (stand_of back.mode) rest back.before back.durable n back.closed) [] (notice.Fresh x.1 x.0 c ∷ []))
+        (ap (λ (a : Option (ℤ × ℕ)). (a, suc (suc (length back.log.stops.items)))) (alarm (mode_of back.mode stand)) ∙ ap (λ (i : ℕ). (alarm_of back, i)) next) step)
+        (logged (Halt c) is) stood rest_seen releases.before releases.durable releases.closed
 
     steps_as : (b : HeldBody) → releases.first.body ≡ b → Goes b
     steps_as (Message message) is = message_steps message is
     steps_as (Sync number) is = sync_steps number is
     steps_as (Halt c) is = halt_steps c is
 
-    pub release_steps : BackSteps (rear_of back) (rear_of later) [] (released_notices back releases.first.body)
+    pub release_steps : BackSteps (rear_of m back) (rear_of n later) [] (released_notices back releases.first.body)
     release_steps = steps_as releases.first.body refl

@@ -1,6 +1,6 @@
 -- The steps of a back are those of which the history speaks.
-use Rattle.std.proofs.Common.{◌≡◌, ◌≢◌, ◌∙◌, ap, sym, refl, subst, inl, inr, ℕ, suc, ◌+◌, ◌-◌, ◌<◌, List, [], ◌∷◌, ◌++◌, length, arith, Option, ⊎_elim}
-use Rattle.std.specs.Prelude.{Bool, false, nat_le}
+use Rattle.std.proofs.Common.{◌≡◌, ◌≢◌, ◌∙◌, ap, sym, refl, inl, inr, ℕ, suc, ◌+◌, ◌-◌, ◌<◌, List, [], ◌∷◌, ◌++◌, length, arith, Option, ⊎_elim}
+use Rattle.std.specs.Prelude.{ℤ, Bool, false, nat_le}
 use Rattle.std.specs.List.{filter, flat_map}
 use Rattle.storage_map.specs.Contents.{Contents}
 use Rattle.storage_map.specs.declared.op.Op.{Op}
@@ -16,10 +16,11 @@ use Rattle.batch_journal.specs.Rest.{end_of}
 use Rattle.batch_journal.specs.declared.journal.Journal.{Journal}
 use Rattle.output_gate.specs.Flushing.{Flushes}
 use Rattle.output_gate.specs.Mending.{Mends, HasBegun, HasMissed, kept_at}
-use Rattle.output_gate.specs.Serving.{IsBackAs, stop_of}
+use Rattle.output_gate.specs.Serving.{alarm_of, IsBackAs, stop_of}
 use Rattle.output_gate.specs.Storing.{IsCauseOf}
 use Rattle.output_gate.specs.declared.back.Back.{Back}
 use Rattle.output_gate.specs.declared.back.Ending.{Ending}
+use Rattle.output_gate.specs.declared.back.Mode.TheVariants.{Mounted}
 use Rattle.object_history.proofs.Seeing.{made, steps_to, left_seen}
 use Rattle.object_history.specs.Pair.{Held, mounted, wanted, fallen}
 use Rattle.object_history.specs.Seen.{held_of, stand_of, rear_of}
@@ -50,65 +51,72 @@ module _ {D : Type 0} (moment_of : D → ℕ) (left_since : D → ℕ → List �
   unflown back (inl m) differ = record { stand = ap stand_of m.safe.mode; less = omega (arith, m.safe.unflown, differ) }
   unflown back (inr u) differ = absurd (differ u.safe.even)
 
-  pub flush_steps : (back later : Back D) → IsBackAs moment_of left_since told image faults_of start opening sound back → back.before ≢ back.durable
-      → Flushes faults_of back later → BackSteps (rear_of back) (rear_of later) [] []
-  flush_steps back later known differ (inl all) =
-      steps_to (rear_of back) later [] [] _ (stand_of back.mode) (flat_map held_of back.held.items) back.before back.before
-      (flies (back.before - back.durable) later.cache) all.log (ap stand_of all.mode) (ap (λ h. flat_map held_of h.items) all.held) all.before all.durable
-  flush_steps back later known differ (inr ends) =
+  pub flush_steps : (back later : Back D) (m n : Contents) → IsBackAs moment_of left_since told image faults_of start opening sound back → back.before ≢ back.durable
+      → Flushes faults_of back later → BackSteps (rear_of m back) (rear_of n later) [] []
+  flush_steps back later m n known differ (inl all) =
+      steps_to (rear_of m back) later n [] [] _ (stand_of back.mode) (flat_map held_of back.held.items) back.before back.before back.closed
+      (flies (back.before - back.durable) n) all.log (ap stand_of all.mode) (ap (λ h. flat_map held_of h.items) all.held) all.before all.durable all.closed
+  flush_steps back later m n known differ (inr ends) =
       let at = unflown back known differ in
       let held = filter (λ (h : Held). nat_le h.needs back.durable) (flat_map held_of back.held.items) in
-      steps_to (rear_of back) later [] [] _ (wanted ends.cause) held back.durable back.durable
-      (stops (stop_of back ends.cause) held later.cache at.stand at.less refl (by_append faults_of ends.journal ends.after ends.cause ends.by_cause) refl) ends.log
+      steps_to (rear_of m back) later n [] [] _ (wanted ends.cause) held back.durable back.durable back.closed
+      (stops (stop_of back ends.cause) held n at.stand at.less refl (by_append faults_of ends.journal ends.after ends.cause ends.by_cause) refl) ends.log
       (ap stand_of ends.mode.2 ∙ ap wanted ends.mode.1)
-      (ap (flat_map held_of) ends.held ∙ left_seen back.durable back.number ends.cause back.held.items) ends.before ends.durable
+      (ap (flat_map held_of) ends.held ∙ left_seen back.durable back.number ends.cause back.held.items) ends.before ends.durable ends.closed
 
   pub numbered_so : (back : Back D) → IsBackAs moment_of left_since told image faults_of start opening sound back → back.number ≡ suc (length back.log.stops.items)
   numbered_so back (inl m) = m.safe.room.number
   numbered_so back (inr u) = u.safe.number
 
-  begun_steps : (back later : Back D) (ending : Ending) (told_then : Notice) → IsBackAs moment_of left_since told image faults_of start opening sound back
-      → stand_of back.mode ≡ wanted ending.cause → HasBegun back later ending told_then → BackSteps (rear_of back) (rear_of later) [] (told_then ∷ [])
-  begun_steps back later ending told_then known stand begun =
-      let end : End = record { kept = kept_at ending (end_of begun.journal); cause = ending.cause } in
-      let now = back.durable + (kept_at ending (end_of begun.journal) - ending.flown) in
-      let same = begun.begins.same in
-      let first : BackSteps (rear_of back) (made (with_ends (backed back.log) (back.log.ends.items ++ end ∷ [])) mounted (flat_map held_of back.held.items) now now later.cache) []
-      (notice.Fresh (suc (length back.log.stops.items)) later.cache.alarm ending.cause ∷ []) = begins ending.cause end now later.cache stand in
-      let notices : notice.Fresh (suc (length back.log.stops.items)) later.cache.alarm ending.cause ≡ told_then =
-      ap (λ (n : ℕ). notice.Fresh n later.cache.alarm ending.cause) (sym (numbered_so back known))
-      ∙ ap (λ (m : Contents). notice.Fresh back.number m.alarm ending.cause) (ap (λ (b : Back D). b.cache) same)
-      ∙ sym begun.notice in
-      subst (λ (n : Notice). BackSteps (rear_of back) (rear_of later) [] (n ∷ [])) notices
-      (steps_to (rear_of back) later [] _ _ mounted (flat_map held_of back.held.items) now now first begun.begins.log
-      (ap (λ (b : Back D). stand_of b.mode) same) (ap (λ (b : Back D). flat_map held_of b.held.items) same)
-      (ap (λ (b : Back D). b.before) same) (ap (λ (b : Back D). b.durable) same))
+  module _ (back later : Back D) (m n : Contents) (known : IsBackAs moment_of left_since told image faults_of start opening sound back) where
+    -- A mounting, with whatever maps the back is seen, and what it tells then.
+    abbrev Mended : List Notice → Notice → Type 0
+    Mended sent_before told_then = (notices : List Notice) × BackSteps (rear_of m back) (rear_of n later) [] notices
+        × ((later.mode ≡ Mounted → n.alarm ≡ alarm_of later) → sent_before ++ told_then ∷ [] ≡ sent_before ++ notices)
 
-  missed_steps : (back later : Back D) (ending : Ending) (told_then : Notice) → IsBackAs moment_of left_since told image faults_of start opening sound back
-      → stand_of back.mode ≡ wanted ending.cause → HasMissed faults_of back later ending told_then → BackSteps (rear_of back) (rear_of later) [] (told_then ∷ [])
-  missed_steps back later ending told_then known stand missed =
-      let same = missed.misses.same in
-      let before = faults_of missed.disk in
-      let after = faults_of missed.left in
-      let one : ℕ → Missed = λ n. record { incarnation = n; before = before; after = after } in
-      let log = ap (λ (n : ℕ). with_downs (backed back.log) (back.log.downs.items ++ one n ∷ [])) (numbered_so back known) in
-      let seen : later.cache ≡ back.cache = ap (λ (b : Back D). b.cache) same in
-      let first = subst (λ (m : Contents). BackSteps (rear_of back)
-      (made (with_downs (backed back.log) (back.log.downs.items ++ one (suc (length back.log.stops.items)) ∷ [])) (fallen ending.cause)
-      (flat_map held_of back.held.items) back.before back.durable m) [] (notice.Down ending.cause before after ∷ [])) (sym seen)
-      (misses ending.cause before after stand) in
-      subst (λ (n : Notice). BackSteps (rear_of back) (rear_of later) [] (n ∷ [])) (sym missed.notice)
-      (steps_to (rear_of back) later [] _ _ (fallen ending.cause) (flat_map held_of back.held.items) back.before back.durable first
-      (missed.misses.log ∙ log)
-      (ap (λ (b : Back D). stand_of b.mode) same) (ap (λ (b : Back D). flat_map held_of b.held.items) same)
-      (ap (λ (b : Back D). b.before) same) (ap (λ (b : Back D). b.durable) same))
+    begun_steps : (ending : Ending) (sent_before : List Notice) (told_then : Notice) → stand_of back.mode ≡ wanted ending.cause
+        → HasBegun back later ending told_then → Mended sent_before told_then
+    begun_steps ending sent_before told_then stand begun =
+        let end : End = record { kept = kept_at ending (end_of begun.journal); cause = ending.cause } in
+        let now = back.durable + (kept_at ending (end_of begun.journal) - ending.flown) in
+        let same = begun.begins.same in
+        let news : Notice = notice.Fresh (suc (length back.log.stops.items)) n.alarm ending.cause in
+        let first : BackSteps (rear_of m back) (made (with_ends (backed back.log) (back.log.ends.items ++ end ∷ [])) mounted (flat_map held_of back.held.items) now now n back.closed) []
+        (news ∷ []) = begins ending.cause end now n stand in (
+          news ∷ [],
+          steps_to (rear_of m back) later n [] _ _ mounted (flat_map held_of back.held.items) now now back.closed first begun.begins.log
+              (ap (λ (b : Back D). stand_of b.mode) same) (ap (λ (b : Back D). flat_map held_of b.held.items) same)
+              (ap (λ (b : Back D). b.before) same) (ap (λ (b : Back D). b.durable) same) (ap (λ (b : Back D). b.closed) same),
+          λ alarm. ap (λ (x : Notice). sent_before ++ x ∷ [])
+              (begun.notice
+              ∙ ap (λ (a : Option (ℤ × ℕ)). notice.Fresh back.number a ending.cause)
+              (sym (alarm (ap (λ (b : Back D). b.mode) same)))
+              ∙ ap (λ (i : ℕ). notice.Fresh i n.alarm ending.cause) (numbered_so back known)),
+        )
 
-  pub mend_steps : (back later : Back D) (sent_before sent : List Notice) → IsBackAs moment_of left_since told image faults_of start opening sound back
-      → Mends faults_of back later sent_before sent → (notices : List Notice) × (sent ≡ sent_before ++ notices) × BackSteps (rear_of back) (rear_of later) [] notices
-  mend_steps back later sent_before sent known mends = (
-    mends.notice ∷ [],
-    mends.told,
-    ⊎_elim (λ begun. begun_steps back later mends.ending mends.notice known (ap stand_of mends.wanted) begun)
-        (λ missed. missed_steps back later mends.ending mends.notice known (ap stand_of mends.wanted) missed)
-        mends.remounts,
-  )
+    missed_steps : (ending : Ending) (sent_before : List Notice) (told_then : Notice) → stand_of back.mode ≡ wanted ending.cause
+        → HasMissed faults_of back later ending told_then → Mended sent_before told_then
+    missed_steps ending sent_before told_then stand missed =
+        let same = missed.misses.same in
+        let before = faults_of missed.disk in
+        let after = faults_of missed.left in
+        let one : ℕ → Missed = λ i. record { incarnation = i; before = before; after = after } in
+        let log = ap (λ (i : ℕ). with_downs (backed back.log) (back.log.downs.items ++ one i ∷ [])) (numbered_so back known) in
+        let news : Notice = notice.Down ending.cause before after in (
+          news ∷ [],
+          steps_to (rear_of m back) later n [] _ _ (fallen ending.cause) (flat_map held_of back.held.items) back.before back.durable back.closed
+              (misses ending.cause before after n stand) (missed.misses.log ∙ log)
+              (ap (λ (b : Back D). stand_of b.mode) same) (ap (λ (b : Back D). flat_map held_of b.held.items) same)
+              (ap (λ (b : Back D). b.before) same) (ap (λ (b : Back D). b.durable) same) (ap (λ (b : Back D). b.closed) same),
+          λ alarm. ap (λ (x : Notice). sent_before ++ x ∷ []) missed.notice,
+        )
+
+    pub mend_steps : (sent_before sent : List Notice) → Mends faults_of back later sent_before sent
+        → (notices : List Notice) × BackSteps (rear_of m back) (rear_of n later) [] notices
+        × ((later.mode ≡ Mounted → n.alarm ≡ alarm_of later) → sent ≡ sent_before ++ notices)
+    mend_steps sent_before sent mends =
+        let of : Mended sent_before mends.notice =
+        ⊎_elim (λ begun. begun_steps mends.ending sent_before mends.notice (ap stand_of mends.wanted) begun)
+        (λ missed. missed_steps mends.ending sent_before mends.notice (ap stand_of mends.wanted) missed)
+        mends.remounts in
+        (of.0, of.1, λ alarm. mends.told ∙ of.2 alarm)

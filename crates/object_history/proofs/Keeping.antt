@@ -20,7 +20,7 @@ use Rattle.output_gate.proofs.Histories.{entries_none}
 use Rattle.object_history.proofs.Alike.{IsAlike, IsKeptAlike, same_halted, same_start, same_resets, same_said, still_taken}
 use Rattle.object_history.proofs.Entries.{all_front}
 use Rattle.object_history.proofs.SaidSoFar.{sent_until}
-use Rattle.object_history.specs.Pair.{Held, Stand, mounted, Rear, IsLogged, IsLine, calls_down, failures, SaysDown, IsNewest, serving, falling, Together, unreached, answered, syncs, halts, read_fails, falls, wants, mends, misses, silent, IsNews, fallen_once, Behind, IsPhase, IsPair}
+use Rattle.object_history.specs.Pair.{Held, Stand, Rear, IsLogged, IsLine, calls_down, failures, SaysDown, IsNewest, serving, falling, Together, unreached, answered, syncs, halts, read_fails, falls, wants, mends, misses, silent, IsNews, fallen_once, Behind, IsPhase, IsClosedTo, IsPair}
 use Rattle.object_history.specs.Stepping.{IsRear, AreGiven}
 
 -- What an incarnation said before it served is the same where the failures are.
@@ -86,11 +86,11 @@ none_taken f front taken line logged lined = entries_none (suc f.incarnation) ta
     (all_front (λ (e : Entry). e.incarnation < suc f.incarnation) taken line (subst (λ (all : List Entry). All (λ (e : Entry). e.incarnation < suc f.incarnation) all) lined.sent (sent_until f front logged)))
 
 -- what a back's newest incarnation has written, on the map with which it started
-pub map_written : (opened : Contents) (front : Fronted) (rear : Rear) (n : ℕ) → IsRear opened rear → rear.stand ≡ mounted → length rear.log.stops ≡ n
+pub map_written : (opened : Contents) (front : Fronted) (rear : Rear) (n : ℕ) → IsRear opened rear → length rear.log.stops ≡ n
     → rear.map ≡ written (start_after opened (incarnations front rear.log n)) (said_in (entries_of (suc n) rear.log.taken))
-map_written opened front rear n known stand stops =
+map_written opened front rear n known stops =
     subst (λ (m : ℕ). rear.map ≡ written (start_after opened (incarnations front rear.log m)) (said_in (entries_of (suc m) rear.log.taken))) stops
-    (known.map stand front (incarnation_at front rear.log (length rear.log.stops)) (incarnations front rear.log (length rear.log.stops)) refl)
+    (known.map front (incarnation_at front rear.log (length rear.log.stops)) (incarnations front rear.log (length rear.log.stops)) refl)
 
 module _ (k : Kind) (opened : Contents) (f : Front) (front : Fronted) (rear : Rear) (old_line : List Entry) (old_notices : List Notice)
     (pair : IsPair k opened f front rear old_line old_notices) (later : Rear) (line : List Entry) (notices : List Notice) where
@@ -116,13 +116,14 @@ module _ (k : Kind) (opened : Contents) (f : Front) (front : Fronted) (rear : Re
   pub rebuilt_from : (start : Contents) → start ≡ start_after opened (incarnations front later.log pair.below) → AreAlike → AreKeptButOne → TakesOn
       → take pair.below later.log.stops ≡ take pair.below rear.log.stops
       → IsNewest k (incarnations front later.log pair.below) start f front later.log
-      → (lined : IsLine f front later.log.taken line) → IsPhase opened pair.below start f front later lined.unread lined.late notices
-      → IsPair k opened f front later line notices
-  rebuilt_from start starts alike kept on stops newest_said lined phase = record {
+      → (lined : IsLine f front later.log.taken line) → IsClosedTo later.closed f lined.late lined.unread notices
+      → IsPhase opened pair.below start f front later lined.unread lined.late notices → IsPair k opened f front later line notices
+  rebuilt_from start starts alike kept on stops newest_said lined closed_to phase = record {
     below = pair.below;
     number = pair.number;
     logged = pair.logged;
     lined = lined;
+    closed_to = closed_to;
     ends = pair.ends ∙ ap (λ (all : List Stop). map (λ (stop : Stop). stop.cause) all) (sym stops);
     older_said = same_said front front rear.log later.log k.script k.class opened pair.below alike kept pair.older_said;
     older_halted = same_halted front front rear.log later.log k.script k.class opened pair.below
@@ -136,14 +137,14 @@ module _ (k : Kind) (opened : Contents) (f : Front) (front : Fronted) (rear : Re
   -- or from the same one
   pub rebuilt : AreAlike → AreKept → TakesOn → missed_of f.incarnation later.log.downs ≡ missed_of f.incarnation rear.log.downs
       → take pair.below later.log.stops ≡ take pair.below rear.log.stops
-      → (lined : IsLine f front later.log.taken line) → IsPhase opened pair.below pair.start f front later lined.unread lined.late notices
-      → IsPair k opened f front later line notices
-  rebuilt alike kept on missed stops lined phase =
+      → (lined : IsLine f front later.log.taken line) → IsClosedTo later.closed f lined.late lined.unread notices
+      → IsPhase opened pair.below pair.start f front later lined.unread lined.late notices → IsPair k opened f front later line notices
+  rebuilt alike kept on missed stops lined closed_to phase =
       rebuilt_from pair.start (pair.starts ∙ sym (same_start front front rear.log later.log opened pair.below kept)) alike
       (λ index less. kept index (omega (arith, less))) on stops
       (same_newest k (incarnations front rear.log pair.below) (incarnations front later.log pair.below) pair.start f front rear.log later.log
       (same_resets front front rear.log later.log pair.below alike) missed pair.newest_said)
-      lined phase
+      lined closed_to phase
 
 -- The back is one ahead as it was, with these notices.
 pub same_behind : (start next new_next : Contents) (below : ℕ) (f : Front) (unread : List Body) (rear later : Rear) (notices : List Notice)

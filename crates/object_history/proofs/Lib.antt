@@ -8,6 +8,7 @@ pub mod SaidSoFar
 pub mod Whole
 pub mod StateAtRest
 pub mod Heads
+mod Closing
 mod Keeping
 mod Phases
 mod Flying
@@ -39,6 +40,7 @@ mod FrontKeeping
 mod Halting
 mod Unmounted
 mod Shown
+pub mod OpenLines
 mod Seeing
 pub mod GateStepping
 pub mod BeingRear

@@ -19,6 +19,7 @@ use Rattle.timeline.specs.declared.event.Event.TheVariants as event
 use Rattle.timeline.specs.declared.notice.Notice.{Notice}
 use Rattle.timeline.specs.declared.notice.Notice.TheVariants as notice
 use Rattle.object_history.proofs.Alike.{IsAlike, same_start, same_resets}
+use Rattle.object_history.proofs.Closing.{end_given, ends_more}
 use Rattle.object_history.proofs.Keeping.{rebuilt, rebuilt_from, other_missed, told_one}
 use Rattle.object_history.proofs.Phases.{says_down, wants_as}
 use Rattle.object_history.specs.Pair.{Rear, Held, Stand, wanted, fallen, newest, calls_down, failures, IsSilentAt, IsNews, fallen_once, SaysDown, IsNewest, serving, falling, Together, misses, silent, Behind, IsPair}
@@ -33,13 +34,13 @@ down_said_more (event.Call from method args depth at ∷ calls) (m ∷ missed) m
 down_said_more (e ∷ calls) (m ∷ missed) more within = refl
 
 module _ (k : Kind) (opened : Contents) (f : Front) (front : Fronted) (rear : Rear) (line : List Entry) (notices given : List Notice)
-    (pair : IsPair k opened f front rear line notices) (c : Cause) (counts_before counts_after : ℕ) (stand : rear.stand ≡ wanted c)
+    (pair : IsPair k opened f front rear line notices) (c : Cause) (counts_before counts_after : ℕ) (map : Contents) (stand : rear.stand ≡ wanted c)
     (are : AreGiven (notice.Down c counts_before counts_after ∷ []) given) where
   abbrev miss : ℕ → Missed
   miss number = record { incarnation = number; before = counts_before; after = counts_after }
 
   abbrev pub missed_again : Rear
-  missed_again = record rear { log = record rear.log { downs = rear.log.downs ++ miss (newest rear.log) ∷ [] }; stand = fallen c }
+  missed_again = record rear { log = record rear.log { downs = rear.log.downs ++ miss (newest rear.log) ∷ [] }; stand = fallen c; map = map }
 
   -- it is a mounting of the back's newest incarnation, and of no other
   missed_here : (number : ℕ) → newest rear.log ≡ number → missed_of number missed_again.log.downs ≡ missed_of number rear.log.downs ++ miss number ∷ []
@@ -105,6 +106,7 @@ module _ (k : Kind) (opened : Contents) (f : Front) (front : Fronted) (rear : Re
       rebuilt_from k opened f front rear line notices pair missed_again line (notices ++ given) pair.start
       (pair.starts ∙ sym (same_start front front rear.log missed_again.log opened pair.below (λ index less. refl))) are_alike
       (λ index less. refl) ([], sym (append-nil rear.log.taken)) refl newest_said pair.lined
+      (ends_more rear.closed f pair.lined.late pair.lined.unread notices pair.closed_to given (end_given (notice.Down c counts_before counts_after) given tt are))
       (inl (
         stops,
         subst (λ (h : List Held). Together pair.start f front missed_again.log pair.lined.unread rear.before (fallen c) h (notices ++ given)) (sym now.nothing)
@@ -123,6 +125,7 @@ module _ (k : Kind) (opened : Contents) (f : Front) (front : Fronted) (rear : Re
       rebuilt k opened f front rear line notices pair missed_again line (notices ++ given) (alike pair.below (omega (arith, stops))) (λ index less. refl)
       ([], sym (append-nil rear.log.taken))
       (missed_elsewhere f.incarnation (λ same. omega (arith, is, same))) refl pair.lined
+      (ends_more rear.closed f pair.lined.late pair.lined.unread notices pair.closed_to given (end_given (notice.Down c counts_before counts_after) given tt are))
       (inr (
         stops,
         record {

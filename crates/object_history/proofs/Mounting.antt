@@ -14,6 +14,7 @@ use Rattle.timeline.specs.declared.notice.Notice.{Notice}
 use Rattle.timeline.specs.declared.notice.Notice.TheVariants as notice
 use Rattle.output_gate.proofs.Histories.{get_more}
 use Rattle.object_history.proofs.Alike.{IsAlike, IsKeptAlike, same_resets}
+use Rattle.object_history.proofs.Closing.{end_given, ends_more}
 use Rattle.object_history.proofs.Entries.{said_numbered}
 use Rattle.object_history.proofs.Keeping.{rebuilt, rebuilt_from, same_down, none_taken, map_written, told_one}
 use Rattle.object_history.proofs.Phases.{says_down, wants_as}
@@ -48,7 +49,7 @@ module _ (k : Kind) (opened : Contents) (f : Front) (front : Fronted) (rear : Re
     -- the front's own incarnation has written nothing yet
     start_map : (says : SaysDown (incarnations front rear.log pair.below) f front rear.log f.said) → length rear.log.stops ≡ pair.below → pair.lined.unread ≡ [] → map ≡ start
     start_map says stops none =
-        map_written opened front remounted pair.below known_after refl stops
+        map_written opened front remounted pair.below known_after stops
         ∙ ap (λ (n : ℕ). written start (said_in (entries_of n rear.log.taken))) (sym pair.number)
         ∙ ap (λ (entries : List Entry). written start (said_in entries)) pair.lined.own
         ∙ ap (λ (bodies : List Body). written start bodies)
@@ -73,6 +74,7 @@ module _ (k : Kind) (opened : Contents) (f : Front) (front : Fronted) (rear : Re
         (silent mounted now.none (subst (λ (m : Mode). IsSilentAt m mounted) (sym now.mode) tt)) in
         rebuilt_from k opened f front rear line notices pair remounted line (notices ++ given) start refl (λ index less. alike index)
         (λ index less. kept_before_it index (omega (arith, less, stops))) ([], sym (append-nil rear.log.taken)) refl newest_said pair.lined
+        (ends_more rear.closed f pair.lined.late pair.lined.unread notices pair.closed_to given (end_given (notice.Fresh (newest rear.log) map.alarm c) given tt are))
         (inl (
           stops,
           subst (λ (h : List Held). Together start f front remounted.log pair.lined.unread before mounted h (notices ++ given)) (sym now.nothing)
@@ -91,11 +93,12 @@ module _ (k : Kind) (opened : Contents) (f : Front) (front : Fronted) (rear : Re
     mounted_behind stops b =
         let wants : (c ≡ b.stop.cause) × (b.told ≡ []) = subst (λ (s : Stand). IsNews (start_after opened (incarnations front rear.log (suc pair.below))) (suc f.incarnation) b.stop.cause s b.told) stand b.is_news in
         let next_map : map ≡ next =
-        map_written opened front remounted (suc pair.below) known_after refl stops
+        map_written opened front remounted (suc pair.below) known_after stops
         ∙ ap (λ (n : ℕ). written next (said_in (entries_of (suc n) rear.log.taken))) (sym pair.number)
         ∙ ap (λ (entries : List Entry). written next (said_in entries)) (none_taken f front rear.log.taken line pair.logged pair.lined) in
         rebuilt k opened f front rear line notices pair remounted line (notices ++ given) (λ index less. alike index)
         (λ index less. kept_before_it index (omega (arith, less, stops))) ([], sym (append-nil rear.log.taken)) refl refl pair.lined
+        (ends_more rear.closed f pair.lined.late pair.lined.unread notices pair.closed_to given (end_given (notice.Fresh (newest rear.log) map.alarm c) given tt are))
         (inr (
           stops,
           record {

@@ -19,7 +19,7 @@ use Rattle.timeline.specs.declared.notice.Notice.{Notice}
 use Rattle.timeline.specs.declared.notice.Notice.TheVariants as notice
 use Rattle.object_history.proofs.Frames.{now}
 use Rattle.object_history.proofs.OlderFronts.{start_same}
-use Rattle.object_history.specs.Pair.{Held, Stand, mounted, wanted, fallen, Rear, awaited, IsUnread, IsAnswer, IsSilentAt, Together, unreached, answered, syncs, halts, read_fails, falls, wants, mends, misses, silent, IsNews, IsLeftOver, HasHalted, fallen_once, IsPhase}
+use Rattle.object_history.specs.Pair.{Held, Stand, mounted, wanted, fallen, Rear, awaited, IsUnread, IsAnswer, IsSilentAt, Together, unreached, answered, syncs, halts, read_fails, falls, wants, mends, misses, silent, IsEnd, IsNews, IsLeftOver, HasHalted, fallen_once, IsPhase}
 use Rattle.object_history.specs.Saying.{is_plain, ArePlain}
 
 -- ---- what is told apart
@@ -59,14 +59,6 @@ IsEnded (serves (ended c)) = Unit {0}
 IsEnded (serves (idle o)) = ⊥
 IsEnded (serves (waiting o t b)) = ⊥
 IsEnded (down call) = ⊥
-
--- the news of an end
-abbrev pub IsEnd : Notice → Type 0
-IsEnd (notice.Fresh incarnation alarm cause) = Unit {0}
-IsEnd (notice.Down cause before after) = Unit {0}
-IsEnd (notice.Read number r) = ⊥
-IsEnd (notice.Taken number count) = ⊥
-IsEnd (notice.Synced number) = ⊥
 
 module _ {X : Type 0} where
   pub not_nil : (x : X) (xs : List X) → [] ≡ x ∷ xs → ⊥

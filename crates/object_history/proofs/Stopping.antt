@@ -28,6 +28,7 @@ use Rattle.timeline.specs.declared.notice.Notice.{Notice}
 use Rattle.timeline.specs.declared.notice.Notice.TheVariants as notice
 use Rattle.output_gate.proofs.Histories.{get_more, get_last}
 use Rattle.object_history.proofs.Alike.{IsKeptAlike}
+use Rattle.object_history.proofs.Closing.{end_given, ends_more}
 use Rattle.object_history.proofs.Entries.{batches_append, said_numbered, spoken_numbered}
 use Rattle.object_history.proofs.Keeping.{rebuilt, none_missed, none_taken, map_written, told_none}
 use Rattle.object_history.proofs.Phases.{asked_last, says_down, halts_as, stops_as}
@@ -124,7 +125,7 @@ module _ (k : Kind) (opened : Contents) (f : Front) (front : Fronted) (rear : Re
         (λ call mode. wrote stops less (down_none k (incarnations front rear.log pair.below) pair.start f front rear.log pair.newest_said call mode pair.lined.read pair.lined.unread pair.lined.said)) in
         rebuilt k opened f front rear line notices pair failed line notices
         (λ index within. record { delivered = refl; sent = refl; stop = stop_more stop stops index within; downed = refl; missed = refl })
-        (λ index within. refl) ([], sym (append-nil rear.log.taken)) refl (first_stops stop stops) pair.lined
+        (λ index within. refl) ([], sym (append-nil rear.log.taken)) refl (first_stops stop stops) pair.lined pair.closed_to
         (inr (
           one_more stop stops,
           record {
@@ -153,11 +154,11 @@ module _ (k : Kind) (opened : Contents) (f : Front) (front : Fronted) (rear : Re
         ∙ ap batches_in (none_taken f front rear.log.taken line pair.logged pair.lined))))
         pair.phase)
 
-  module _ (c : Cause) (needs : ℕ) (rest : List Held) (stop : Stop) (end : End) (is_held : rear.held ≡ record { hold = halt c; needs = needs } ∷ rest)
-      (stand : rear.stand ≡ mounted) (by_halt : stop.cause ≡ c) (given : List Notice)
-      (are : AreGiven (notice.Fresh (suc (newest rear.log)) rear.map.alarm c ∷ []) given) where
+  module _ (c : Cause) (needs : ℕ) (rest : List Held) (stop : Stop) (end : End) (map : Contents)
+      (is_held : rear.held ≡ record { hold = halt c; needs = needs } ∷ rest) (stand : rear.stand ≡ mounted) (by_halt : stop.cause ≡ c)
+      (given : List Notice) (are : AreGiven (notice.Fresh (suc (newest rear.log)) map.alarm c ∷ []) given) where
     abbrev pub halted : Rear
-    halted = record rear { log = record rear.log { stops = more_stops stop; ends = rear.log.ends ++ end ∷ [] }; held = rest }
+    halted = record rear { log = record rear.log { stops = more_stops stop; ends = rear.log.ends ++ end ∷ [] }; held = rest; map = map }
 
     abbrev next : Contents
     next = start_after opened (incarnations front halted.log (suc pair.below))
@@ -169,17 +170,17 @@ module _ (k : Kind) (opened : Contents) (f : Front) (front : Fronted) (rear : Re
         (get_more rear.log.ends end index (omega (arith, followed, stops, less)))
 
     module _ (known_after : IsRear opened halted) where
-      next_map : length rear.log.stops ≡ pair.below → rear.map ≡ next
+      next_map : length rear.log.stops ≡ pair.below → map ≡ next
       next_map stops =
-          map_written opened front halted (suc pair.below) known_after stand (one_more stop stops)
+          map_written opened front halted (suc pair.below) known_after (one_more stop stops)
           ∙ ap (λ (n : ℕ). written next (said_in (entries_of (suc n) rear.log.taken))) (sym pair.number)
           ∙ ap (λ (entries : List Entry). written next (said_in entries)) (none_taken f front rear.log.taken line pair.logged pair.lined)
 
       news : length rear.log.stops ≡ pair.below → IsNews next (suc f.incarnation) stop.cause mounted given
       news stops = ⊎_elim
           (λ gave. inr (gave
-          ∙ ap (λ (n : ℕ). notice.Fresh (suc (suc n)) rear.map.alarm c ∷ []) stops
-          ∙ ap (λ (n : ℕ). notice.Fresh (suc n) rear.map.alarm c ∷ []) (sym pair.number)
+          ∙ ap (λ (n : ℕ). notice.Fresh (suc (suc n)) map.alarm c ∷ []) stops
+          ∙ ap (λ (n : ℕ). notice.Fresh (suc n) map.alarm c ∷ []) (sym pair.number)
           ∙ ap (λ (m : Contents). notice.Fresh (suc f.incarnation) m.alarm c ∷ []) (next_map stops)
           ∙ ap (λ (cause : Cause). notice.Fresh (suc f.incarnation) next.alarm cause ∷ []) (sym by_halt)))
           (λ lost. inl lost)
@@ -196,6 +197,7 @@ module _ (k : Kind) (opened : Contents) (f : Front) (front : Fronted) (rear : Re
           rebuilt k opened f front rear line notices pair halted line (notices ++ given)
           (λ index within. record { delivered = refl; sent = refl; stop = stop_more stop stops index within; downed = refl; missed = refl })
           (kept_before_it stops) ([], sym (append-nil rear.log.taken)) refl (first_stops stop stops) pair.lined
+          (ends_more rear.closed f pair.lined.late pair.lined.unread notices pair.closed_to given (end_given (notice.Fresh (suc (newest rear.log)) map.alarm c) given tt are))
           (inr (
             one_more stop stops,
             record {

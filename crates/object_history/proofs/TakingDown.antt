@@ -11,6 +11,7 @@ use Rattle.timeline.specs.declared.entry.Body.TheVariants as body
 use Rattle.timeline.specs.declared.entry.Entry.{Entry}
 use Rattle.timeline.specs.declared.event.Event.{Event}
 use Rattle.timeline.specs.declared.notice.Notice.{Notice}
+use Rattle.object_history.proofs.Closing.{open_line, open_to}
 use Rattle.object_history.proofs.Entering.{entered_alike, kept_of_all, never_behind}
 use Rattle.object_history.proofs.Heads.{Head, is_own, is_late, head_of, own_taken, late_is}
 use Rattle.object_history.proofs.Keeping.{rebuilt, told_none}
@@ -80,6 +81,7 @@ module _ (k : Kind) (opened : Contents) (f : Front) (front : Fronted) (rear : Re
       rebuilt k opened f front rear (e ∷ line) notices pair later line notices (λ index less. entered_alike front rear e index)
       (kept_of_all front rear e opened known pair.below stops (omega (arith, is, stops))) (e ∷ [], refl) refl refl
       (own_taken f front rear.log.taken e line pair.lined b more unreads same rest)
+      (open_to rear.closed f [] more notices (open_line rear.closed f pair.lined.late pair.lined.unread notices pair.closed_to b more unreads) refl)
       (inl (stops, subst (λ (x : Body). Together pair.start f front later.log more rear.before (stands_after c x) rear.held notices) (sym bodies) stands))
 
   pub takes_down_entry : AreGiven [] given → IsPair k opened f front later line (notices ++ given)

@@ -11,6 +11,7 @@ use Rattle.timeline.specs.declared.entry.Entry.{Entry}
 use Rattle.timeline.specs.declared.notice.Notice.{Notice}
 use Rattle.output_gate.specs.Taking.{notice_of}
 use Rattle.object_history.proofs.Asked.{is_asked_for}
+use Rattle.object_history.proofs.Closing.{open_line, open_to}
 use Rattle.object_history.proofs.Entering.{entered_alike, kept_of_all, never_behind}
 use Rattle.object_history.proofs.Entries.{said_numbered}
 use Rattle.object_history.proofs.Heads.{Head, is_own, is_late, head_of, own_taken, late_is}
@@ -29,7 +30,7 @@ module _ (well : StepsSayWell) (k : Kind) (opened : Contents) (f : Front) (front
   -- the map is what was written of what was read
   read_map : length rear.log.stops ≡ pair.below → rear.map ≡ written pair.start pair.lined.read
   read_map stops =
-      map_written opened front rear pair.below known stand stops
+      map_written opened front rear pair.below known stops
       ∙ ap (λ (m : Contents). written m (said_in (entries_of (suc pair.below) rear.log.taken))) (sym pair.starts)
       ∙ ap (λ (n : ℕ). written pair.start (said_in (entries_of n rear.log.taken))) (sym pair.number)
       ∙ ap (λ (entries : List Entry). written pair.start (said_in entries)) pair.lined.own
@@ -53,6 +54,7 @@ module _ (well : StepsSayWell) (k : Kind) (opened : Contents) (f : Front) (front
       rebuilt k opened f front rear (e ∷ line) notices pair later line (notices ++ given) (λ index less. entered_alike front rear e index)
       (kept_of_all front rear e opened known pair.below stops (omega (arith, is, stops))) (e ∷ [], refl) refl refl
       (own_taken f front rear.log.taken e line pair.lined b more unreads same rest)
+      (open_to rear.closed f [] more (notices ++ given) (open_line rear.closed f pair.lined.late pair.lined.unread notices pair.closed_to b more unreads) refl)
       (inl (
         stops,
         subst (λ (x : Body). Together pair.start f front later.log more (before_next rear.before x) rear.stand (rear.held ++ holds e.number rear.before x) (notices ++ given))

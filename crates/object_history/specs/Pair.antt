@@ -43,7 +43,7 @@ pub data Stand : Type 0 where
   fallen : Cause → Stand
 
 -- What the front's side sees of a back: its log, how it stands, what it holds for the front, the batches that were taken and those
--- that are durable, from the opening, and its map.
+-- that are durable, from the opening, its map, and the number of the newest incarnation of which a read has failed, or 0.
 pub record Rear : Type 0 where
   pub log : Backed
   pub stand : Stand
@@ -51,6 +51,7 @@ pub record Rear : Type 0 where
   pub before : ℕ
   pub durable : ℕ
   pub map : Contents
+  pub closed : ℕ
 
 -- The newest incarnation of a back is one more than have stopped.
 abbrev pub newest : Backed → ℕ
@@ -206,12 +207,38 @@ IsPhase opened below start f front rear unread late notices =
     ((length rear.log.stops ≡ below) × Together start f front rear.log unread rear.before rear.stand rear.held notices)
     ⊎ ((length rear.log.stops ≡ suc below) × Behind start (start_after opened (incarnations front rear.log (suc below))) below f unread late rear notices)
 
+-- the news of an end: that the next incarnation is mounted, or that it isn't
+abbrev pub IsEnd : Notice → Type 0
+IsEnd (notice.Fresh incarnation alarm c) = Unit {0}
+IsEnd (notice.Down c before after) = Unit {0}
+IsEnd (notice.Read number r) = ⊥
+IsEnd (notice.Taken number count) = ⊥
+IsEnd (notice.Synced number) = ⊥
+
+-- A read of the front's incarnation has failed: the front waits for that ask still, has said no more, and no answer is under way.
+pub record WaitsForRead (f : Front) (unread : List Body) (notices : List Notice) : Type 0 where
+  pub object : Object
+  pub task : OpenTask
+  pub ask : StoreAsk
+  pub free : Bool
+  pub mode : f.mode ≡ serves (waiting object task (body.Ask ask free))
+  pub none_unread : unread ≡ []
+  pub no_answer : All IsEnd notices
+
+-- No read has failed of an incarnation behind the front's. Where one of its own has, the front waits for it; and entries of the one before
+-- are under way only where none of that has.
+pub record IsClosedTo (closed : ℕ) (f : Front) (late : List Entry) (unread : List Body) (notices : List Notice) : Type 0 where
+  pub within : closed ≤ f.incarnation
+  pub waits : f.incarnation ≤ closed → WaitsForRead f unread notices
+  pub open_late : late ≢ [] → suc closed < f.incarnation
+
 -- A front that stands so and has logged this, and a back; entries under way to the back, and notices to the front.
 pub record IsPair (k : Kind) (opened : Contents) (f : Front) (front : Fronted) (rear : Rear) (line : List Entry) (notices : List Notice) : Type 0 where
   pub below : ℕ
   pub number : f.incarnation ≡ suc below
   pub logged : IsLogged f front
   pub lined : IsLine f front rear.log.taken line
+  pub closed_to : IsClosedTo rear.closed f lined.late lined.unread notices
   pub ends : front.ends ≡ map (λ (stop : Stop). stop.cause) (take below rear.log.stops)
   pub older_said : AreSaid k.script k.class opened front rear.log (incarnations front rear.log below)
   pub older_halted : AreHalted k.script k.class opened (incarnations front rear.log below)

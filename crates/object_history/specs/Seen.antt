@@ -1,6 +1,7 @@
 -- What the front's side of an object sees of its back.
 use Rattle.std.specs.Prelude.{ℕ, List, [], ◌∷◌}
 use Rattle.std.specs.List.{flat_map}
+use Rattle.storage_map.specs.Contents.{Contents}
 use Rattle.timeline.specs.Logs.{backed}
 use Rattle.output_gate.specs.declared.back.Back.{Back}
 use Rattle.output_gate.specs.declared.back.Mode.{Mode}
@@ -24,12 +25,14 @@ stand_of Mounted = mounted
 stand_of (Wanted ending) = wanted ending.cause
 stand_of (Down ending) = fallen ending.cause
 
-abbrev pub rear_of : {D : Type 0} → Back D → Rear
-rear_of back = record {
+-- It is seen with the map that is due of it.
+abbrev pub rear_of : {D : Type 0} → (m : Contents) → Back D → Rear
+rear_of m back = record {
   log = backed back.log;
   stand = stand_of back.mode;
   held = flat_map held_of back.held.items;
   before = back.before;
   durable = back.durable;
-  map = back.cache;
+  map = m;
+  closed = back.closed;
 }

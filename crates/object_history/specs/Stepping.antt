@@ -59,16 +59,20 @@ abbrev pub IsFollowed : Stand → Backed → Type 0
 IsFollowed mounted back = length back.ends ≡ length back.stops
 IsFollowed stand back = suc (length back.ends) ≡ length back.stops
 
--- What is known of a back over a disk that tells its content: its log's lists fit, and mountings failed of incarnations that have
--- begun alone; the map of a mounted one is what its incarnation has written on the map with which it started; what isn't durable are
--- batches of the newest incarnation; and what was kept of the one before was taken of it. Once memory was wanting a back's own map is
--- no longer this one; what its steps do to the history is what they would do with it.
+-- The map that is due of a log: what its newest incarnation has written, on the map with which it started.
+abbrev pub IsMapOf : (opened : Contents) → Backed → Contents → Type 0
+IsMapOf opened back m = (front : Fronted) (i : Incarnation) (older : History) → history front back ≡ i ∷ older
+    → m ≡ written (start_after opened older) (said_in i.taken)
+
+-- What is known of a back that is seen with the map that is due: its log's lists fit, and mountings failed of incarnations that have
+-- begun alone; no read has failed where nothing was taken; what isn't durable are batches of the newest incarnation; and what was kept of the
+-- one before was taken of it.
 pub record IsRear (opened : Contents) (rear : Rear) : Type 0 where
   pub logs : AreLogs rear.log
   pub followed : IsFollowed rear.stand rear.log
   pub begun : All (λ m. m.incarnation ≤ newest rear.log) rear.log.downs
-  pub map : rear.stand ≡ mounted → (front : Fronted) (i : Incarnation) (older : History) → history front rear.log ≡ i ∷ older
-      → rear.map ≡ written (start_after opened older) (said_in i.taken)
+  pub map : IsMapOf opened rear.log rear.map
+  pub closed : rear.log.taken ≡ [] → rear.closed ≡ 0
   pub owns : rear.durable < rear.before → batches_in (entries_of (newest rear.log) rear.log.taken) ≢ []
   pub kept : (front : Fronted) (i : Incarnation) (older : History) (count : ℕ) → incarnations front rear.log (length rear.log.stops) ≡ i ∷ older
       → i.kept ≡ Some count → count ≤ length (batches_in i.taken)
@@ -100,9 +104,9 @@ stands_after c _ = fallen c
 abbrev pub with_entry : Rear → Entry → Backed
 with_entry r e = record r.log { taken = r.log.taken ++ e ∷ [] }
 
--- A step of a back, the entry that it takes off the line, and what it tells its front. What map it has then is no matter but at a
--- halt, of which the alarm is told, and at a mounting; of a mounted back it is known. Where a read of the disk fails, the ask is taken and isn't
--- answered, and the end of the incarnation by that is held behind what was taken before it.
+-- A step of a back, the entry that it takes off the line, and what it tells its front. With what map it is seen then is no matter but at a
+-- halt and at a mounting, of which the alarm is told. Where a read of the disk fails, the ask is taken and isn't answered, the incarnation is
+-- closed, and its end by that is held behind what was taken before it.
 pub data BackSteps (r : Rear) : Rear → List Entry → List Notice → Type 0 where
   takes_own : (e : Entry) (map : Contents) → r.stand ≡ mounted → e.incarnation ≡ newest r.log → IsUnended r.held
       → BackSteps r (record r {
@@ -118,6 +122,7 @@ pub data BackSteps (r : Rear) : Rear → List Entry → List Notice → Type 0 w
         log = with_entry r e;
         held = r.held ++ record { hold = halt (cause.Disk counts_before counts_after); needs = r.before } ∷ [];
         map = map;
+        closed = newest r.log;
       }) (e ∷ []) []
   takes_down : (e : Entry) (c : Cause) (map : Contents) → r.stand ≡ fallen c → e.incarnation ≡ newest r.log → fits_down e.body ≡ true
       → BackSteps r (record r { log = with_entry r e; stand = stands_after c e.body; map = map }) (e ∷ []) []
@@ -137,19 +142,20 @@ pub data BackSteps (r : Rear) : Rear → List Entry → List Notice → Type 0 w
       → BackSteps r (record r { log = record r.log { released = r.log.released ++ release ∷ [] }; map = map }) [] []
   syncs : (number needs : ℕ) (rest : List Held) (map : Contents) → r.held ≡ record { hold = sync number; needs = needs } ∷ rest
       → BackSteps r (record r { held = rest; map = map }) [] (notice.Synced number ∷ [])
-  halts : (c : Cause) (needs : ℕ) (rest : List Held) (stop : Stop) (end : End) → r.held ≡ record { hold = halt c; needs = needs } ∷ rest → r.stand ≡ mounted
-      → stop.flights ≡ length r.log.flights → stop.cause ≡ c
-      → BackSteps r (record r { log = record r.log { stops = r.log.stops ++ stop ∷ []; ends = r.log.ends ++ end ∷ [] }; held = rest }) []
-      (notice.Fresh (suc (newest r.log)) r.map.alarm c ∷ [])
+  halts : (c : Cause) (needs : ℕ) (rest : List Held) (stop : Stop) (end : End) (map : Contents) → r.held ≡ record { hold = halt c; needs = needs } ∷ rest
+      → r.stand ≡ mounted → stop.flights ≡ length r.log.flights → stop.cause ≡ c
+      → BackSteps r (record r { log = record r.log { stops = r.log.stops ++ stop ∷ []; ends = r.log.ends ++ end ∷ [] }; held = rest; map = map }) []
+      (notice.Fresh (suc (newest r.log)) map.alarm c ∷ [])
   begins : (c : Cause) (end : End) (before : ℕ) (map : Contents) → r.stand ≡ pair.wanted c
       → BackSteps r (record r { log = record r.log { ends = r.log.ends ++ end ∷ [] }; stand = mounted; before = before; durable = before; map = map }) []
       (notice.Fresh (newest r.log) map.alarm c ∷ [])
-  misses : (c : Cause) (counts_before counts_after : ℕ) → r.stand ≡ pair.wanted c
+  misses : (c : Cause) (counts_before counts_after : ℕ) (map : Contents) → r.stand ≡ pair.wanted c
       → BackSteps r (record r {
         log = record r.log {
           downs = r.log.downs ++ record { incarnation = newest r.log; before = counts_before; after = counts_after } ∷ [];
         };
         stand = fallen c;
+        map = map;
       }) []
       (notice.Down c counts_before counts_after ∷ [])
 

@@ -1,5 +1,5 @@
 //! Laws of one object's history. A call costs nothing and tells its caller the law.
-ghost use Rattle.object_history.specs.Laws.{TellingGoesOn, TellingTells, StepsSayWell, LogsGrow, PairBegins, FrontKeepsPair, NoticesFit, BackKeepsPair, PairIsSaid};
+ghost use Rattle.object_history.specs.Laws.{TellingGoesOn, TellingTells, StepsSayWell, LogsGrow, PairBegins, FrontKeepsPair, NoticesFit, LineIsOpen, BackKeepsPair, PairIsSaid};
 ghost use Rattle.object_history.specs.GateSteps.{FlushSteps, ReleaseSteps, MendSteps, BackIsRear, TakeSteps};
 
 use do_disk::Disk;
@@ -40,6 +40,11 @@ pub fn notices_fit()
     ensures { NoticesFit }
 {}
 
+/// The next entry under way is of an incarnation of which no read has failed.
+pub fn line_is_open()
+    ensures { LineIsOpen }
+{}
+
 /// They stay a pair whatever step the back makes.
 pub fn back_keeps_pair()
     ensures { BackKeepsPair }
@@ -50,7 +55,7 @@ pub fn pair_is_said()
     ensures { PairIsSaid }
 {}
 
-/// A flush of any back is a step of which these laws speak.
+/// A flush of any back is a step of which these laws speak, with whatever maps the back is seen.
 pub fn flush_steps<D: Disk>(back: &Back<D>)
     ensures { FlushSteps D.moment_of D.left_since D.told D.image D.faults_of back.now }
 {
@@ -71,14 +76,15 @@ pub fn mend_steps<D: Disk>(back: &Back<D>)
     let _ = back;
 }
 
-/// What these laws take for granted of a back is so of any, over a disk that tells its content, where memory wasn't wanting.
+/// What these laws take for granted of a back is so of any that is seen with the map that is due.
 pub fn back_is_rear<D: Disk>(back: &Back<D>)
     ensures { BackIsRear D.moment_of D.left_since D.told D.image D.faults_of back.now }
 {
     let _ = back;
 }
 
-/// An entry that any back takes, where it doesn't leave it stuck, is a step of which these laws speak.
+/// An entry that any back takes, where it doesn't leave it stuck, is a step of which these laws speak: the front is told what the map
+/// says.
 pub fn take_steps<D: Disk>(back: &Back<D>)
     ensures { TakeSteps D.moment_of D.left_since D.told D.image D.faults_of back.now }
 {

@@ -3,3 +3,4 @@ pub mod Stays
 pub mod Answered
 pub mod Counting
 pub mod Standing
+pub mod Sent

@@ -4,11 +4,14 @@
 
 mod answering;
 mod fault;
+pub mod laws;
 mod pairs;
 mod reading;
 mod storage;
 mod value;
 mod writing;
 
+pub use answering::answer;
 pub use fault::AnswerFault;
 pub use storage::Storage;
+pub use writing::{append, take};

@@ -13,7 +13,7 @@ use batch_journal::{Journal, ReadFault};
 use do_disk::Disk;
 use do_value::{Mem, NoMemory, Value};
 use std::alloc::Global;
-use storage_cache::kept::{Cache, Held};
+use storage_cache::{Cache, Held};
 use storage_map::Key;
 
 /// Each key with its value, in their order, of which those are read that are held as places.

@@ -16,7 +16,7 @@ use crate::pairs::{only_value, read_pairs};
 use batch_journal::{Journal, ReadFault};
 use do_disk::Disk;
 use std::alloc::Global;
-use storage_cache::kept::{Cache, Look};
+use storage_cache::{Cache, Look};
 use storage_map::{Pairs, Reading, StoreAsk};
 
 /// What the map that the journal and the cache have stored answers to the ask. Each value that isn't in the cache is read by one read of

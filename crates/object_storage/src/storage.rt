@@ -6,13 +6,13 @@ ghost use Rattle.storage_map.specs.declared.op.Op.{Op};
 ghost use Rattle.storage_cache.specs.Cached.{of_index};
 ghost use Rattle.batch_journal.specs.Frames.{Frame, operations_in};
 ghost use Rattle.batch_journal.specs.Places.{Indexes};
-ghost use Rattle.batch_journal.specs.Rest.{end_of, limit_of, IsAtRest, IsStaged};
+ghost use Rattle.batch_journal.specs.Rest.{IsAtRest, IsStaged};
 ghost use Rattle.object_storage.specs.Storage.{journal_in, disk_of, cached_in, IsStorage};
 
 use batch_journal::Journal;
 use do_disk::Disk;
 use std::alloc::Global;
-use storage_cache::kept::Cache;
+use storage_cache::Cache;
 use storage_map::{Alarm, Index};
 
 /// The storage of one object: its journal on a disk, with the index of its keys and the values that aren't on the disk yet or were read.
@@ -62,28 +62,7 @@ impl<D: Disk> Storage<D> {
         self.cache.alarm()
     }
 
-    /// The place after the journal's first closed gate, in bytes. After an `append` that failed it is that before it.
-    pub fn end(&self) -> u64
-        ensures { result ≡ end_of (journal_in self.now) }
-    {
-        self.journal.end()
-    }
-
-    /// How many bytes the journal may have.
-    pub fn limit(&self) -> u64
-        ensures { result ≡ limit_of (journal_in self.now) }
-    {
-        self.journal.limit()
-    }
-
-    /// The disk as it is now.
-    pub fn disk(&self) -> &D
-        ensures { result.now ≡ disk_of self.now }
-    {
-        self.journal.disk()
-    }
-
-    /// The disk, of an unsound storage too. What was staged is dropped.
+    /// The disk.
     pub fn into_disk(self) -> D
         ensures { result ≡ disk_of self }
     {

@@ -13,7 +13,7 @@ ghost use Rattle.storage_cache.specs.declared.held.Held.TheVariants as held;
 use batch_journal::{Journal, ReadFault};
 use do_disk::Disk;
 use do_value::Value;
-use storage_cache::kept::{Cache, Held, MOST_KEPT_BYTES};
+use storage_cache::{Cache, Held, MOST_KEPT_BYTES};
 use storage_map::Place;
 
 /// The value that is held, which is read where it stands if only its place is.

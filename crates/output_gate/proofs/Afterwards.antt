@@ -1,5 +1,5 @@
 -- What an entry of an incarnation that has ended does to a back.
-use Rattle.std.proofs.Common.{◌≡◌, ◌∙◌, ap, sym, refl, subst, inl, inr, ℕ, zero, suc, ◌+◌, List, [], ◌∷◌, ◌++◌, append-nil, length, arith, Option, Some, None, Global}
+use Rattle.std.proofs.Common.{◌≡◌, ◌∙◌, ap, sym, refl, subst, inl, inr, ℕ, zero, suc, ◌+◌, ◌≤◌, List, [], ◌∷◌, ◌++◌, append-nil, length, arith, Option, Some, None, Global}
 use Rattle.std.proofs.lemmas.Grind.{flat_map-append}
 use Rattle.std.proofs.lemmas.List.{length_push}
 use Rattle.std.proofs.lemmas.List.Elements.{All-nil}
@@ -30,6 +30,7 @@ use Rattle.output_gate.specs.Standing.{AreLogs, own_entries, own_flights, older_
 use Rattle.output_gate.specs.declared.back.Back.{Back}
 use Rattle.output_gate.specs.declared.back.Ending.{Ending}
 use Rattle.output_gate.specs.declared.held.Held.{Held}
+use Rattle.output_gate.proofs.Reading.{reading_none, shut_stays, unread_none}
 use Rattle.output_gate.proofs.Counts.{counts_stay}
 use Rattle.output_gate.proofs.Endings.{ended_late, ending_late, keep_late, last_of_stops, marks_late}
 use Rattle.output_gate.proofs.Fitting.{LateFit, not_mend}
@@ -111,9 +112,12 @@ comes_so back e o late (suc last) is = record {
   none = entries_none (suc (length back.stops)) back.taken (λ k d lt. omega (arith, o.sorted k d lt, late.newest, late.own));
 }
 
-pub comes : {D : Type 0} (back : Back D) (e : Entry) → LateFit back e → back.number ≡ suc (length back.log.stops.items) → AreInOrder back.log.taken.items back.log.stops.items → Comes (backed back.log) e
-comes back e fits number o =
-    comes_so (backed back.log) e o (is_late back.log.taken.items back.log.stops.items e o fits.comes (omega (arith, fits.before, number))) (length back.log.stops.items) refl
+pub comes : {D : Type 0} (back : Back D) (e : Entry) → LateFit back e → back.number ≡ suc (length back.log.stops.items) → AreInOrder back.log.taken.items back.log.stops.items
+    → ((stop : Stop) → last_stop back.log.stops.items ≡ Some stop → stop.read ≡ true → length back.log.stops.items ≤ back.closed) → Comes (backed back.log) e
+comes back e fits number o unread =
+    comes_so (backed back.log) e o
+    (is_late back.log.taken.items back.log.stops.items e o fits.comes (omega (arith, fits.before, number)) (λ stop is read. omega (arith, unread stop is read, fits.goes_on)))
+    (length back.log.stops.items) refl
 
 module _ (back : Backed) (e : Entry) (c : Comes back e) where
   -- the end of its incarnation is the newest, and discards
@@ -173,9 +177,9 @@ module _ (back : Backed) (e : Entry) (c : Comes back e) where
         (keeps_older front marks (ending_at front ending marks (l.ended front)).ended (l.keep yes front));
   }
 
-module _ {D : Type 0} (told : D → Option (List ℕ)) (image : D → List ℕ → Type 0) where
+module _ {D : Type 0} (told : D → Option (List ℕ)) (image : D → List ℕ → Type 0) (sound : Bool) where
   -- no halt is held where such an entry comes
-  no_halt_if : (old : Back D) (e : Entry) (journal : Journal D) (s : IsSafe told image journal old) (c : Comes (backed old.log) e) → (b : Bool) → has_halt old.held.items ≡ b → has_halt old.held.items ≡ false
+  no_halt_if : (old : Back D) (e : Entry) (journal : Journal D) (s : IsSafe told image sound journal old) (c : Comes (backed old.log) e) → (b : Bool) → has_halt old.held.items ≡ b → has_halt old.held.items ≡ false
   no_halt_if old e journal s c false is = is
   no_halt_if old e journal s c true is =
       let h = s.halted is in absurd (omega (arith, h.2, ap newest_as h.1, c.late.newest, c.late.own, s.room.number))
@@ -199,11 +203,11 @@ module _ {D : Type 0} (told : D → Option (List ℕ)) (image : D → List ℕ �
       }
 
   -- nothing of the newest incarnation was taken, so all is durable
-  late_even : (old : Back D) (e : Entry) (journal : Journal D) (s : IsSafe told image journal old) (c : Comes (backed old.log) e) → old.before ≡ old.durable
+  late_even : (old : Back D) (e : Entry) (journal : Journal D) (s : IsSafe told image sound journal old) (c : Comes (backed old.log) e) → old.before ≡ old.durable
   late_even old e journal s c = omega (arith, s.unflown, s.own, s.room.own, ap (λ es. length (batches_taken es)) c.none)
 
-  safe_late : (old : Back D) (log : BackLog) (held : VecDeque Held Global) (e : Entry) (journal : Journal D) (s : IsSafe told image journal old) (c : Comes (backed old.log) e)
-      → LogLate old.log log e → held.items ≡ old.held.items ++ late_held old e → IsSafe told image journal (behind_late old log held e)
+  safe_late : (old : Back D) (log : BackLog) (held : VecDeque Held Global) (e : Entry) (journal : Journal D) (s : IsSafe told image sound journal old) (c : Comes (backed old.log) e)
+      → LogLate old.log log e → held.items ≡ old.held.items ++ late_held old e → IsSafe told image sound journal (behind_late old log held e)
   safe_late old log held e journal s c is items =
       let none : has_halt held.items ≡ false =
       ap has_halt items ∙ late_free old.held.items (last_stop old.log.stops.items) old.late old.settled e.incarnation e.body (no_halt_if old e journal s c (has_halt old.held.items) refl) in
@@ -222,6 +226,7 @@ module _ {D : Type 0} (told : D → Option (List ℕ)) (image : D → List ℕ �
         nameless = s.nameless;
         halts = halts_none old.before held.items none;
         halted = λ has. absurd (true_false (sym has ∙ none));
+        stored = s.stored;
       }
 
 module _ {D : Type 0} (moment_of : D → ℕ) (left_since : D → ℕ → List ℕ → Type 0) (told : D → Option (List ℕ)) (image : D → List ℕ → Type 0) (faults_of : D → ℕ) (start : List (List Op)) (opening : ℕ) (sound : Bool) where
@@ -231,7 +236,7 @@ module _ {D : Type 0} (moment_of : D → ℕ) (left_since : D → ℕ → List �
   serves_late old log held e m c other is items s =
       let b : Backed = backed old.log in
       record {
-        room = late_room told image old log held e c s.room (late_even told image old e m.journal m.safe c) is;
+        room = late_room told image sound old log held e c s.room (late_even told image sound old e m.journal m.safe c) is;
         frames = s.frames;
         left = s.left;
         flown = s.flown;
@@ -256,21 +261,27 @@ module _ {D : Type 0} (moment_of : D → ℕ) (left_since : D → ℕ → List �
         unflushed = s.unflushed;
         staged_for = s.staged_for;
         nameless = s.nameless;
-        cache = s.cache;
+        stored = s.stored;
+        kept = s.kept;
       }
 
   pub mounted_late : (old : Back D) (log : BackLog) (held : VecDeque Held Global) (e : Entry) (m : IsMounted moment_of left_since told image faults_of start opening sound old) → LateFit old e
       → LogLate old.log log e → held.items ≡ old.held.items ++ late_held old e → IsMounted moment_of left_since told image faults_of start opening sound (behind_late old log held e)
   mounted_late old log held e m fits is items =
-      let c = comes old e fits m.safe.room.number m.logged.ordered in
+      let c = comes old e fits m.safe.room.number m.logged.ordered m.reads.behind in
       let other = not_mend e.body (is_some old.identity) fits.fits in
       record {
         journal = m.journal;
-        safe = safe_late told image old log held e m.journal m.safe c is items;
+        safe = safe_late told image sound old log held e m.journal m.safe c is items;
         serves = λ tells. serves_late old log held e m c other is items (m.serves tells);
         logged = subst (λ (b : Backed). IsLogged (IsTold (told (disk_in m.journal))) b (marks_late (marks_of old) e) old.own old.before old.durable) (sym is)
             (logged_late (backed old.log) e c (IsTold (told (disk_in m.journal))) (marks_of old) old.own old.before old.durable m.safe.room.logs m.logged);
         counts = counts_stay told faults_of (disk_in m.journal) (disk_in m.journal) (backed old.log) (backed log) refl (ap (λ (b : Backed). b.stops) is) (ap (λ (b : Backed). b.downs) is) m.counts;
+        reads =
+            let free = no_halt_if told image sound old e m.journal m.safe c (has_halt old.held.items) refl in
+            reading_none (IsTold (told (disk_in m.journal))) (IsTold (told (disk_in m.journal))) (λ yes. yes) (faults_of (disk_in m.journal)) (faults_of (disk_in m.journal)) (omega arith) old
+            (behind_late old log held e) (ap (λ (b : Backed). b.stops) is) (ap (λ (b : Backed). b.downs) is) refl refl free
+            (unread_none held.items (ap has_halt items ∙ late_free old.held.items (last_stop old.log.stops.items) old.late old.settled e.incarnation e.body free)) m.reads;
       }
 
   -- The same while it isn't mounted.
@@ -323,7 +334,7 @@ module _ {D : Type 0} (moment_of : D → ℕ) (left_since : D → ℕ → List �
   pub unmounted_late : (old : Back D) (log : BackLog) (held : VecDeque Held Global) (e : Entry) (u : IsUnmounted moment_of left_since told image faults_of start opening old) → LateFit old e
       → LogLate old.log log e → held.items ≡ old.held.items ++ late_held old e → IsUnmounted moment_of left_since told image faults_of start opening (behind_late old log held e)
   unmounted_late old log held e u fits is items =
-      let c = comes old e fits u.safe.number u.logged.ordered in
+      let c = comes old e fits u.safe.number u.logged.ordered (λ stop is read. absurd (true_false (sym read ∙ u.shut.appended stop is))) in
       let own : own_entries (backed log) ≡ own_entries (backed old.log) =
       ap own_entries is ∙ ap (λ (p : Place). p.taken) (place_behind (backed old.log) e c.last u.safe.logs c.long c.own c.none front_none) ∙ sym c.none in
       record {
@@ -347,6 +358,7 @@ module _ {D : Type 0} (moment_of : D → ℕ) (left_since : D → ℕ → List �
         logged = subst (λ (b : Backed). IsLoggedDown (IsTold (told u.disk)) b u.ending (marks_late (marks_of old) e) old.durable) (sym is)
             (logged_down_late (backed old.log) e c (IsTold (told u.disk)) u.ending (marks_of old) old.durable u.safe.logs u.logged);
         counts = counts_stay told faults_of u.disk u.disk (backed old.log) (backed log) refl (ap (λ (b : Backed). b.stops) is) (ap (λ (b : Backed). b.downs) is) u.counts;
+        shut = shut_stays old (behind_late old log held e) (ap (λ (b : Backed). b.stops) is) refl refl u.shut;
       }
 
   pub back_late : (old new : Back D) (e : Entry) → LateFit old e → TakesLate old new e → IsBackAs moment_of left_since told image faults_of start opening sound old

@@ -18,11 +18,11 @@ use Rattle.timeline.specs.History.{is_halting}
 use Rattle.output_gate.proofs.Helds.{true_false}
 
 -- the counts go up to a later count, and one more pair stands behind them
-rising_later : (from : ℕ) (counts : List (ℕ × ℕ)) (now later : ℕ) → now ≤ later → AreRising from counts now → AreRising from counts later
+pub rising_later : (from : ℕ) (counts : List (ℕ × ℕ)) (now later : ℕ) → now ≤ later → AreRising from counts now → AreRising from counts later
 rising_later from [] now later up rises = omega (arith, rises, up)
 rising_later from (p ∷ counts) now later up rises = (rises.0, rising_later p.1 counts now later up rises.1)
 
-rising_push : (from : ℕ) (counts : List (ℕ × ℕ)) (p : ℕ × ℕ) (now later : ℕ) → now ≤ p.0 → p.1 ≤ later → AreRising from counts now → AreRising from (counts ++ p ∷ []) later
+pub rising_push : (from : ℕ) (counts : List (ℕ × ℕ)) (p : ℕ × ℕ) (now later : ℕ) → now ≤ p.0 → p.1 ≤ later → AreRising from counts now → AreRising from (counts ++ p ∷ []) later
 rising_push from [] p now later above within rises = (omega (arith, rises, above), within)
 rising_push from (q ∷ counts) p now later above within rises = (rises.0, rising_push q.1 counts p now later above within rises.1)
 
@@ -109,6 +109,19 @@ module _ (tells later_tells : Type 0) (before_it : later_tells → tells) (back 
         begun = stop_begun stop;
         rising = subst (λ cs. AreRising 0 cs later) (sym more) (rising_push 0 (counts_in back) (before, after) now later (omega (arith, from)) (omega (arith, into)) c.rising);
         rose = λ yes. subst (All HasRisenIn) (sym more) (All-push HasRisenIn (counts_in back) (before, after) (c.rose (before_it yes)) (record { later = omega (arith, from, into, up); rose = rises }));
+      }
+
+  -- an end by a read that failed, of which the counts stand behind those of the log
+  pub counts_unread : (next : Backed) (stop : Stop) (counts : ℕ × ℕ) → next.stops ≡ back.stops ++ stop ∷ [] → next.downs ≡ back.downs → stop_counts stop.cause ≡ counts ∷ []
+      → AreRising 0 (counts_in back ++ counts ∷ []) later → (tells → HasRisenIn counts) → AreCounted later_tells next later
+  counts_unread next stop counts stops downs by rises rose =
+      let more : counts_from 1 (back.stops ++ stop ∷ []) back.downs ≡ counts_in back ++ counts ∷ [] = stop_more stop ∙ ap (λ cs. counts_in back ++ cs) by in
+      subst (λ (x : List Stop × List Missed). AreCounted later_tells (record next { stops = x.0; downs = x.1 }) later)
+      (ap (λ (ss : List Stop). (ss, back.downs)) (sym stops) ∙ ap (λ (ds : List Missed). (next.stops, ds)) (sym downs))
+      record {
+        begun = stop_begun stop;
+        rising = subst (λ cs. AreRising 0 cs later) (sym more) rises;
+        rose = λ yes. subst (All HasRisenIn) (sym more) (All-push HasRisenIn (counts_in back) counts (c.rose (before_it yes)) (rose (before_it yes)));
       }
 
   -- another end

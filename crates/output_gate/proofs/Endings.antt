@@ -2,9 +2,9 @@
 use Rattle.std.proofs.Common.{◌≡◌, ◌∙◌, ap, sym, refl, subst, inl, inr, ⊎_elim, ℕ, zero, suc, ◌+◌, ◌-◌, ◌<◌, ◌≤◌, List, [], ◌∷◌, ◌++◌, length, length-append, take, sum, arith, Option, Some, None}
 use Rattle.std.proofs.lemmas.List.{length-take-le, map-append}
 use Rattle.std.proofs.lemmas.Bool.{lt-ltb}
-use Rattle.std.specs.Prelude.{◌⊎◌, Bool, true, false, nat_lt, slice_get, if◌then◌else◌}
+use Rattle.std.specs.Prelude.{◌⊎◌, Bool, true, false, not, nat_lt, slice_get, if◌then◌else◌}
 use Rattle.timeline.specs.Headline.{KeepBy}
-use Rattle.timeline.specs.History.{Incarnation, History, batches_in, durable, durable_by, incarnation_at, incarnations, is_halting, kept_before, kept_of, said_in, IsKept, IsKeptBy}
+use Rattle.timeline.specs.History.{Incarnation, History, batches_in, durable, durable_by, incarnation_at, incarnations, kept_before, kept_of, said_in, IsKept, IsKeptBy}
 use Rattle.timeline.specs.Logs.{Fronted, Backed}
 use Rattle.timeline.specs.Passed.{discards, is_mounted, is_followed, reaches}
 use Rattle.timeline.specs.Told.{said_by, batches_of}
@@ -15,6 +15,7 @@ use Rattle.timeline.specs.declared.caller.Cause.TheVariants as cause
 use Rattle.timeline.specs.declared.entry.Body.{Body}
 use Rattle.timeline.specs.declared.entry.Body.TheVariants as body
 use Rattle.timeline.specs.declared.entry.Entry.{Entry}
+use Rattle.output_gate.specs.Held.{is_read}
 use Rattle.output_gate.specs.Ended.{last_stop, stop_causes, end_causes, AreInOrder, HasEnded, HaveEnded, IsPlaced, IsLogged, IsEnding, AreEnding, IsLoggedDown, Marks, late_if}
 use Rattle.output_gate.specs.Entering.{late_after, needs_by}
 use Rattle.output_gate.specs.Fits.{is_halt, last_of}
@@ -214,20 +215,21 @@ module _ (tells later_tells : Type 0) (before_it : later_tells → tells) (back 
         keep = λ yes front. subst KeepBy (sym (older front)) ((λ s k is kept. absurd (no_count k kept)), l.keep (before_it yes) front);
       }
 
--- of an end by a front's cause all is kept
-pub keeps_all : (c : Cause) → is_halting c ≡ true → discards c false ≡ false
-keeps_all (cause.Disk before after) is = absurd (true_false (sym is))
+-- of an end by a front's cause, or by a read that failed, all is kept
+pub keeps_all : (c : Cause) → not (discards c (is_read c)) ≡ true → discards c (is_read c) ≡ false
+keeps_all (cause.Disk before after) is = refl
 keeps_all (cause.Full needed limit) is = absurd (true_false (sym is))
 keeps_all cause.Exceeded is = refl
 keeps_all cause.StartThrew is = refl
 keeps_all cause.BlockThrew is = refl
 
-kept_whole : (c : Cause) (i : Incarnation) (stop : Stop) (kept : ℕ) → is_halting c ≡ true → kept ≡ length (batches_in i.taken) → IsKeptBy c false i stop kept
-kept_whole (cause.Disk before after) i stop kept is all = absurd (true_false (sym is))
-kept_whole (cause.Full needed limit) i stop kept is all = absurd (true_false (sym is))
-kept_whole cause.Exceeded i stop kept is all = all
-kept_whole cause.StartThrew i stop kept is all = all
-kept_whole cause.BlockThrew i stop kept is all = all
+kept_whole : (c : Cause) (i : Incarnation) (stop : Stop) (kept : ℕ) → not (discards c (is_read c)) ≡ true → kept ≡ length (batches_in i.taken) → kept ≡ stop.batches
+    → IsKeptBy c (is_read c) i stop kept
+kept_whole (cause.Disk before after) i stop kept is all counted = counted
+kept_whole (cause.Full needed limit) i stop kept is all counted = absurd (true_false (sym is))
+kept_whole cause.Exceeded i stop kept is all counted = all
+kept_whole cause.StartThrew i stop kept is all counted = all
+kept_whole cause.BlockThrew i stop kept is all counted = all
 
 -- of one by an append what was durable, or this with the whole flight, and of a full journal what was durable
 abbrev pub IsFoundBy : Ending → ℕ → Type 0
@@ -257,8 +259,8 @@ kept_stop i stop kept read is held = subst (λ b. IsKeptBy stop.cause b i stop k
 module _ (tells later_tells : Type 0) (before_it : later_tells → tells) (back : Backed) (marks : Marks) (own before flown : ℕ) where
   -- A halt ends the incarnation, and the next one begins with all of its batches.
   pub logged_restarted : (stop : Stop) (e : Entry) → AreLogs back → stop.flights ≡ length back.flights → length back.ends ≡ length back.stops
-      → own ≡ length (batches_in (own_entries back)) → before ≡ flown → stop.batches ≡ own → stop.read ≡ false → is_halting stop.cause ≡ true
-      → last_of back.taken ≡ Some e → e.incarnation ≡ suc (length back.stops) → is_halt e.body ≡ true
+      → own ≡ length (batches_in (own_entries back)) → before ≡ flown → stop.batches ≡ own → stop.read ≡ is_read stop.cause → not (discards stop.cause (is_read stop.cause)) ≡ true
+      → last_of back.taken ≡ Some e → e.incarnation ≡ suc (length back.stops) → (is_halt e.body ≡ true) ⊎ (stop.read ≡ true)
       → (place : (front : Fronted) → place_of front (record back { stops = back.stops ++ stop ∷ []; ends = back.ends ++ record { kept = own; cause = stop.cause } ∷ [] })
       ≡ record { ended = suc (length back.stops); taken = []; flights = []; older = record (going_on front (length back.stops) (own_entries back) (own_flights back)) { stop = Some stop; kept = Some own } ∷ older_of front back })
       → IsLogged tells back marks own before flown
@@ -291,7 +293,7 @@ module _ (tells later_tells : Type 0) (before_it : later_tells → tells) (back 
             };
         keep = λ yes front. subst KeepBy (sym (ap (λ (p : Place). p.older) (at front))) (
           λ s k so kept. subst (λ (x : Stop × ℕ). IsKept (ended front) x.0 x.1) (ap (λ (y : Stop). (y, own)) (same_stop stop s so) ∙ ap (λ n. (s, n)) (same_count own k kept))
-              (kept_stop (ended front) stop own false unread (kept_whole stop.cause (ended front) stop own halting is_own)),
+              (kept_stop (ended front) stop own (is_read stop.cause) unread (kept_whole stop.cause (ended front) stop own halting is_own (sym batches))),
           l.keep (before_it yes) front,
         );
       }

@@ -13,7 +13,7 @@ use Rattle.batch_journal.specs.Verdicts.{Verdict}
 use Rattle.batch_journal.specs.declared.journal.Journal.{Journal}
 use Rattle.batch_journal.specs.declared.mount.Mounted.{Mounted}
 use Rattle.do_disk.specs.Disk.{IfTold, HasRisen}
-use Rattle.storage_map.specs.Contents.{Contents}
+use Rattle.storage_cache.specs.Cached.{Cached}
 use Rattle.storage_map.specs.Limits.{Object}
 use Rattle.storage_map.specs.declared.op.Op.{Op}
 use Rattle.output_gate.specs.Kept.{NameOnly}
@@ -52,9 +52,9 @@ is_mounted IsMountedMode = Unit {0}
 is_mounted mode = ⊥
 
 -- the next incarnation began, so the object isn't down
-pub begun_falls : {D : Type 0} (faults_of : D → ℕ) (told : D → Option (List ℕ)) (old new : Back D) (ending : Ending) (journal : Journal D) (map : Contents) → Begins old new ending journal map
+pub begun_falls : {D : Type 0} (faults_of : D → ℕ) (told : D → Option (List ℕ)) (old new : Back D) (ending : Ending) (journal : Journal D) (cache : Cached) → Begins old new ending journal cache
     → FallsByFault faults_of told old new
-begun_falls {D} faults_of told old new ending journal map done disk left e down at into tells = absurd (subst is_mounted (sym (ap (λ (b : Back D). b.mode) done.same) ∙ down) tt)
+begun_falls {D} faults_of told old new ending journal cache done disk left e down at into tells = absurd (subst is_mounted (sym (ap (λ (b : Back D). b.mode) done.same) ∙ down) tt)
 
 -- a mounting is still wanted, so the object isn't down
 pub wanted_falls : {D : Type 0} (faults_of : D → ℕ) (told : D → Option (List ℕ)) (old new : Back D) (ending : Ending) → new.mode ≡ Wanted ending → FallsByFault faults_of told old new

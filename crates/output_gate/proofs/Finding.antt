@@ -10,7 +10,7 @@ use Rattle.batch_journal.specs.Mounting.{IsMountOf}
 use Rattle.batch_journal.specs.Rest.{disk_in, end_of}
 use Rattle.batch_journal.specs.declared.journal.Journal.{Journal}
 use Rattle.batch_journal.specs.declared.mount.Mounted.{Mounted}
-use Rattle.storage_map.specs.Contents.{Contents}
+use Rattle.storage_cache.specs.Cached.{Cached}
 use Rattle.storage_map.specs.declared.op.Op.{Op}
 use Rattle.timeline.specs.History.{Incarnation, History, durable_by, kept_before, own_batches}
 use Rattle.timeline.specs.Logs.{Fronted, Backed, backed}
@@ -77,10 +77,10 @@ module _ {D : Type 0} (moment_of : D → ℕ) (left_since : D → ℕ → List �
       behind (kept_before rest) (own_batches last) s.flown s.flight.batches (sum last.flights) g.line (omega (arith, g.long, g.at_end, flown_is))
       ∙ sym (ap (λ (p : Place). unflown_in p.older) (s.place front))
 
-  pub begun_finds : (old new : Back D) (disk : D) (ending : Ending) (mounted : Mounted D) (map : Contents) → old.mode ≡ Wanted ending → IsDiskOf old.store disk
-      → (is : IsMountOf told image moment_of left_since disk mounted) → TellsAsBefore (told disk) (told (disk_in mounted.journal)) → Begins old new ending mounted.journal map
+  pub begun_finds : (old new : Back D) (disk : D) (ending : Ending) (mounted : Mounted D) (cache : Cached) → old.mode ≡ Wanted ending → IsDiskOf old.store disk
+      → (is : IsMountOf told image moment_of left_since disk mounted) → TellsAsBefore (told disk) (told (disk_in mounted.journal)) → Begins old new ending mounted.journal cache
       → IsUnmounted moment_of left_since told image faults_of start opening old → FindsEnd told old new
-  begun_finds old new disk ending mounted map wanted at is telling done u other journal wants into mode tells =
+  begun_finds old new disk ending mounted cache wanted at is telling done u other journal wants into mode tells =
       let k = known moment_of left_since told image faults_of reads_an_image counts_now start opening old disk ending wanted at u in
       let one : journal ≡ mounted.journal = same_journal journal mounted.journal (sym into ∙ ap (λ (x : Back D). x.store) done.same) in
       let same : other ≡ ending = ap (λ m. ending_in m other) (sym wants ∙ wanted) in

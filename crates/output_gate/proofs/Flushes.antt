@@ -1,5 +1,5 @@
 -- What a flush does to a back that serves.
-use Rattle.std.proofs.Common.{◌≡◌, ◌≢◌, ◌∙◌, ap, sym, refl, subst, inr, ⊎_elim, ℕ, suc, pred, ◌+◌, ◌-◌, ◌≤◌, List, [], ◌∷◌, ◌++◌, append-nil, append_assoc, length, length-append, sum, arith, Option, Some, None}
+use Rattle.std.proofs.Common.{◌≡◌, ◌≢◌, ◌∙◌, ap, sym, refl, subst, inr, ⊎_elim, ℕ, suc, pred, ◌+◌, ◌-◌, ◌≤◌, List, [], ◌∷◌, ◌++◌, append-nil, append_assoc, length, length-append, sum, arith, Option, Some, None, Ok}
 use Rattle.std.proofs.lemmas.Grind.{flat_map-append}
 use Rattle.std.proofs.lemmas.List.{length_push}
 use Rattle.std.proofs.lemmas.List.Elements.{All-nil, All-push}
@@ -11,7 +11,8 @@ use Rattle.batch_journal.specs.Moments.{LeavesOnly}
 use Rattle.batch_journal.specs.Rest.{IsAtRest, IsStaged, RecoversToOneOf, disk_in}
 use Rattle.batch_journal.specs.Staged.{frame_of}
 use Rattle.batch_journal.specs.declared.journal.Journal.{Journal}
-use Rattle.storage_map.specs.Contents.{nothing, apply}
+use Rattle.storage_cache.specs.Cached.{Cached}
+use Rattle.storage_map.specs.Contents.{Contents, nothing, apply}
 use Rattle.storage_map.specs.Limits.{Object}
 use Rattle.storage_map.specs.declared.op.Op.{Op}
 use Rattle.timeline.specs.History.{Incarnation, History, line, history, batches_in as batches_taken}
@@ -25,7 +26,9 @@ use Rattle.timeline.specs.declared.caller.Cause.TheVariants as cause
 use Rattle.timeline.specs.Passed.{discards, bound_if, bound_by}
 use Rattle.output_gate.specs.Gate.{Place, place_of, history_at, Lists, IsGate}
 use Rattle.output_gate.specs.Held.{waiting_in}
-use Rattle.output_gate.specs.Kept.{NameOnly, RecoversToPrefix}
+use Rattle.object_storage.specs.Stored.{HasStored}
+use Rattle.output_gate.specs.Kept.{MayBe, NameOnly, RecoversToPrefix}
+use Rattle.output_gate.specs.Storing.{Stores}
 use Rattle.output_gate.specs.Down.{place_down, IsDown}
 use Rattle.output_gate.specs.declared.back.Mode.TheVariants.{Wanted}
 use Rattle.output_gate.specs.declared.store.Fault.{Fault}
@@ -59,6 +62,13 @@ named (Some object) other = object
 pub name_all : (object : Object) (frames : List Frame) (identity : Option Object) → identity ≡ Some object → NameOnly identity frames → Name object frames
 name_all object frames identity is names k d lt = ap (λ (o : Option Object). named o object) (sym (names k d lt) ∙ is)
 
+-- the slot's object
+pub may_be : (identity : Option Object) (object : Object) → identity ≡ Some object → MayBe identity object
+may_be identity object is = subst (λ (i : Option Object). MayBe i object) (sym is) refl
+
+pub be_same : (identity : Option Object) (object other : Object) → identity ≡ Some object → MayBe identity other → object ≡ other
+be_same identity object other is may = subst (λ (i : Option Object). MayBe i other) is may
+
 -- a failed disk isn't a full journal
 abbrev is_full : Cause → Type 0
 is_full (cause.Full needed limit) = Unit {0}
@@ -68,9 +78,10 @@ pub never_full : {before after needed limit : ℕ} → cause.Disk before after �
 never_full same = subst is_full (sym same) tt
 
 -- the back behind a stop
-abbrev pub stopped : {D : Type 0} → Back D → Journal D → Back D → Fault → Back D
-stopped old journal new fault = record old {
+abbrev pub stopped : {D : Type 0} → Back D → Journal D → Cached → Back D → Fault → Back D
+stopped old journal cache new fault = record old {
   store = store.Journal journal;
+  cache = cache;
   log = new.log;
   held = new.held;
   mode = Wanted (ending_of old fault);
@@ -113,15 +124,15 @@ module _ {D : Type 0} (moment_of : D → ℕ) (left_since : D → ℕ → List �
       (subst (λ bs. RecoversToPrefix back.identity start bs (length (s.flown ++ s.staged)) c) (append-nil (s.flown ++ s.staged)) (first_of back.identity start (s.flown ++ s.staged) [] frames c whole named_all batches))) one)
 
   -- the append was good
-  pub lands : (old new : Back D) (journal later_journal : Journal D) (s : IsServing moment_of left_since told image start opening sound journal old) → old.before ≢ old.durable
+  pub lands : (old new : Back D) (journal later_journal : Journal D) (cache : Cached) (s : IsServing moment_of left_since told image start opening sound journal old) → old.before ≢ old.durable
       → ((frames : List Frame) (object : Object) (batches : List (List Op)) → IsAtRest told image journal frames → IsStaged journal object batches → Name object frames
       → IsAtRest told image later_journal (frames ++ frame_of object batches ∷ []))
       → ((object : Object) → IsStaged later_journal object [])
       → ((frames : List Frame) (object : Object) (batches : List (List Op)) → IsAtRest told image journal frames → IsStaged journal object batches → Name object frames
       → LeavesOnly moment_of left_since (disk_in journal) (disk_in later_journal) (RecoversToOneOf frames (frame_of object batches)))
-      → Lands (record old { store = store.Journal later_journal }) new
+      → Stores {A = Unit {0}} told image journal old.cache cache (Ok tt) → Lands (record old { store = store.Journal later_journal; cache = cache }) new
       → IsServing moment_of left_since told image start opening sound later_journal new
-  lands old new journal later_journal s more appended unstaged any_moment done =
+  lands old new journal later_journal cache s more appended unstaged any_moment stores done =
       let o = object_of journal old s more in
       let object : Object = o.0 in
       let flight : Frame = frame_of object s.staged in
@@ -151,7 +162,7 @@ module _ {D : Type 0} (moment_of : D → ℕ) (left_since : D → ℕ → List �
       (calls moment_of left_since old.identity start opening front p l old.before old.durable (disk_in journal) (disk_in later_journal) (RecoversToOneOf s.frames flight) g leaves (one_of journal old s object o.1 front)) all) in
       let even : old.durable + k ≡ old.before = omega (arith, s.unflown) in
       let logs_fit : AreLogs (backed new.log) = subst AreLogs (sym logs) fits in
-      let made : IsServing moment_of left_since told image start opening sound later_journal (record old { store = store.Journal later_journal; log = new.log; durable = old.before; unflushed = 0 }) = record {
+      let made : IsServing moment_of left_since told image start opening sound later_journal (record old { store = store.Journal later_journal; cache = cache; log = new.log; durable = old.before; unflushed = 0 }) = record {
         room = record {
           logs = logs_fit;
           flights = λ other. absurd (other refl);
@@ -176,19 +187,26 @@ module _ {D : Type 0} (moment_of : D → ℕ) (left_since : D → ℕ → List �
         unflushed = refl;
         staged_for = λ other is. unstaged other;
         nameless = λ is. (refl, unstaged);
-        cache = λ yes. s.cache yes ∙ ap (λ bs. apply nothing (flat_map (λ ops. ops) bs)) (append_assoc start s.flown s.staged ∙ ap (λ bs. start ++ bs) (sym (append-nil (s.flown ++ s.staged))) ∙ sym (append_assoc start (s.flown ++ s.staged) []));
+        stored = λ yes other may.
+            let m : Contents = apply nothing (flat_map (λ ops. ops) (start ++ s.flown ++ s.staged)) in
+            subst (λ (x : Object × Contents). HasStored frames x.0 [] cache x.1)
+            (ap (λ (x : Object). (x, m)) (be_same old.identity object other o.1 may)
+            ∙ ap (λ bs. (other, apply nothing (flat_map (λ ops. ops) bs)))
+            (append_assoc start s.flown s.staged ∙ ap (λ bs. start ++ bs) (sym (append-nil (s.flown ++ s.staged))) ∙ sym (append_assoc start (s.flown ++ s.staged) [])))
+            (stores.stored s.frames object s.staged m s.at_rest (s.staged_for object o.1) names (s.stored yes object (may_be old.identity object o.1)));
+        kept = λ yes. stores.kept s.frames object s.staged (s.kept yes);
       } in
       subst (IsServing moment_of left_since told image start opening sound later_journal) (sym done.same) made
 
   -- the append failed or was full
-  pub ends : (old new : Back D) (journal later_journal : Journal D) (fault : Fault) (s : IsServing moment_of left_since told image start opening sound journal old) → old.before ≢ old.durable
+  pub ends : (old new : Back D) (journal later_journal : Journal D) (cache : Cached) (fault : Fault) (s : IsServing moment_of left_since told image start opening sound journal old) → old.before ≢ old.durable
       → ((frames : List Frame) (object : Object) (batches : List (List Op)) → IsAtRest told image journal frames → IsStaged journal object batches → Name object frames
       → LeavesOnly moment_of left_since (disk_in journal) (disk_in later_journal) (RecoversToOneOf frames (frame_of object batches)))
       → ((needed limit : ℕ) → fault.cause ≡ cause.Full needed limit → IsAtRest told image later_journal s.frames)
       → discards fault.cause false ≡ true → fault.end ≡ journal.end
-      → Stops (record old { store = store.Journal later_journal }) new fault
+      → Stops (record old { store = store.Journal later_journal; cache = cache }) new fault
       → IsEnded moment_of left_since image start opening (disk_in later_journal) (ending_of old fault) new
-  ends old new journal later_journal fault s more any_moment full ended_so end_is done =
+  ends old new journal later_journal cache fault s more any_moment full ended_so end_is done =
       let c : Cause = fault.cause in
       let o = object_of journal old s more in
       let object : Object = o.0 in
@@ -215,7 +233,7 @@ module _ {D : Type 0} (moment_of : D → ℕ) (left_since : D → ℕ → List �
       fails moment_of left_since old.identity start opening front p (disk_in later_journal) l old.before old.durable stop
       (calls moment_of left_since old.identity start opening front p l old.before old.durable (disk_in journal) (disk_in later_journal) (RecoversToOneOf s.frames flight) (s.gate front) leaves (one_of journal old s object o.1 front))
       bound s.room.own refl in
-      let made : IsEnded moment_of left_since image start opening (disk_in later_journal) (ending_of old fault) (stopped old later_journal new fault) = record {
+      let made : IsEnded moment_of left_since image start opening (disk_in later_journal) (ending_of old fault) (stopped old later_journal cache new fault) = record {
         frames = s.frames;
         flight = flight;
         ended = suc n;

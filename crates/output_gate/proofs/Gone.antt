@@ -13,7 +13,7 @@ use Rattle.timeline.specs.declared.message.Message.{Message as Sent}
 use Rattle.timeline.specs.declared.notice.Notice.{Notice}
 use Rattle.timeline.specs.declared.notice.Stepped.{Stepped}
 use Rattle.timeline.specs.declared.notice.Stepped.TheVariants.{Did, Nothing}
-use Rattle.output_gate.specs.Held.{passed_by, passed_of, is_held_halt, has_halt}
+use Rattle.output_gate.specs.Held.{passed_by, passed_of, is_held_halt, is_read, has_halt}
 use Rattle.output_gate.specs.Releasing.{may_release, release_at, released_log, needs_released, released_notices, released_messages, IsIdleRelease, Releases, Stays, StaysPut, Goes, LogReleases, LogHalts}
 use Rattle.output_gate.specs.Serving.{IsMounted, IsUnmounted, IsBackAs}
 use Rattle.output_gate.specs.Storing.{IsDiskOf, KeepsDisk}
@@ -27,7 +27,7 @@ use Rattle.output_gate.proofs.Helds.{true_false}
 use Rattle.output_gate.proofs.Releasings.{LogReleased, mounted_release}
 use Rattle.output_gate.proofs.Restarts.{LogRestarts, restarted, mounted_restart}
 use Rattle.output_gate.proofs.Stored.{still_disk}
-use Rattle.output_gate.proofs.Takings.{kept_fails, same_log, mounted_same}
+use Rattle.output_gate.proofs.Takings.{kept_fails, same_log, same_stored, mounted_same}
 use Rattle.output_gate.proofs.Unmounting.{unmounted_same, unmounted_release}
 
 module _ {D : Type 0} (moment_of : D → ℕ) (left_since : D → ℕ → List ℕ → Type 0) (told : D → Option (List ℕ)) (image : D → List ℕ → Type 0) (faults_of : D → ℕ)
@@ -37,7 +37,7 @@ module _ {D : Type 0} (moment_of : D → ℕ) (left_since : D → ℕ → List �
       → IsBackAs moment_of left_since told image faults_of start opening true (record old { log = log })
   back_room old log same (inl m) =
       inl (subst (λ (s : Store D). IsMounted moment_of left_since told image faults_of start opening true (record old { store = s; log = log })) (sym m.safe.store)
-      (mounted_same moment_of left_since told image faults_of start opening true true old log old.held m.journal old.cache old.stuck m same refl (λ object batches staged. staged) (λ frames rest. rest) refl (λ yes. (refl, refl))))
+      (mounted_same moment_of left_since told image faults_of start opening true true old log old.held m.journal old.cache old.stuck m same refl (λ object batches staged. staged) (λ frames rest. rest) refl (λ yes. (refl, same_stored told image m.journal old.cache old.cache refl))))
   back_room old log same (inr u) = inr (unmounted_same moment_of left_since told image faults_of start opening old log old.held old.stuck u same.same refl)
 
   -- something was taken that no front sends
@@ -45,7 +45,7 @@ module _ {D : Type 0} (moment_of : D → ℕ) (left_since : D → ℕ → List �
   back_stuck old (inl m) =
       inl (subst (λ (s : Store D). IsMounted moment_of left_since told image faults_of start opening true (record old { store = s; stuck = true })) (sym m.safe.store)
       (mounted_same moment_of left_since told image faults_of start opening true true old old.log old.held m.journal old.cache true m (same_log moment_of left_since told image faults_of start opening true old.log) refl
-      (λ object batches staged. staged) (λ frames rest. rest) refl (λ yes. (refl, refl))))
+      (λ object batches staged. staged) (λ frames rest. rest) refl (λ yes. (refl, same_stored told image m.journal old.cache old.cache refl))))
   back_stuck old (inr u) = inr (unmounted_same moment_of left_since told image faults_of start opening old old.log old.held true u refl refl)
 
   pub back_stopped : (old : Back D) → IsBackAs moment_of left_since told image faults_of start opening true old → IsBackAs moment_of left_since told image faults_of start opening false old
@@ -66,7 +66,7 @@ module _ {D : Type 0} (moment_of : D → ℕ) (left_since : D → ℕ → List �
   pub stays_put : (old : Back D) (log : BackLog) (s0 s : List Notice) (o0 o : List Sent) → LogSame old.log log → s ≡ s0 → o ≡ o0
       → StaysPut moment_of left_since told image faults_of old (record old { log = log }) s0 s o0 o
   stays_put old log s0 s o0 o same told_so left_so = record {
-    stays = record { told = told_so; left = left_so; log = same.same; held = refl; store = refl; identity = refl; stuck = refl; mode = refl; before = refl; durable = refl; limit = refl };
+    stays = record { told = told_so; left = left_so; log = same.same; held = refl; store = refl; identity = refl; stuck = refl; mode = refl; before = refl; durable = refl; limit = refl; closed = refl };
     back = λ start opening b. back_stopped moment_of left_since told image faults_of start opening (record old { log = log }) (back_room moment_of left_since told image faults_of start opening old log same b);
   }
 
@@ -95,18 +95,19 @@ module _ {D : Type 0} (moment_of : D → ℕ) (left_since : D → ℕ → List �
     limit = refl;
     settled = refl;
     unflushed = refl;
+    closed = refl;
   }
 
   disk_at : (start : List (List Op)) (opening : ℕ) (old : Back D) (m : IsMounted moment_of left_since told image faults_of start opening true old) → IsDiskOf old.store (disk_in m.journal)
   disk_at start opening old m = subst (λ (s : Store D). IsDiskOf s (disk_in m.journal)) (sym m.safe.store) refl
 
-  back_release : (start : List (List Op)) (opening : ℕ) (old : Back D) (log : BackLog) (held : VecDeque Held Global) (h : Held) → old.held.items ≡ h ∷ held.items → h.needs ≤ old.durable
+  back_release : (start : List (List Op)) (opening : ℕ) (old : Back D) (log : BackLog) (held : VecDeque Held Global) (h : Held) → is_held_halt h.body ≡ false → old.held.items ≡ h ∷ held.items → h.needs ≤ old.durable
       → ((disk : D) → IsDiskOf old.store disk → LogReleased old.log log (old.log.released.items ++ map (release_at (moment_of disk)) (passed_of h)))
       → log.flights ≡ old.log.flights → log.stops ≡ old.log.stops
       → IsBackAs moment_of left_since told image faults_of start opening true old → IsBackAs moment_of left_since told image faults_of start opening true (record old { held = held; log = log })
-  back_release start opening old log held h first ready is flights stops (inl m) =
-      inl (mounted_release moment_of left_since told image faults_of only_now start opening true old log held h m first ready (is (disk_in m.journal) (disk_at start opening old m)) flights stops)
-  back_release start opening old log held h first ready is flights stops (inr u) =
+  back_release start opening old log held h none first ready is flights stops (inl m) =
+      inl (mounted_release moment_of left_since told image faults_of only_now start opening true old log held h m none first ready (is (disk_in m.journal) (disk_at start opening old m)) flights stops)
+  back_release start opening old log held h none first ready is flights stops (inr u) =
       inr (unmounted_release moment_of left_since told image faults_of only_now reads_an_image start opening old log held h u first ready (is u.disk u.safe.store))
 
   -- a message
@@ -123,7 +124,7 @@ module _ {D : Type 0} (moment_of : D → ℕ) (left_since : D → ℕ → List �
         releases = releases_as old held log old.own old.needs old.number first (Message sent) items body refl s s o0 o (sym (append-nil s)) left_so
             (λ disk where_is. done.log ∙ ap (λ (x : Backed). record x { released = x.released ++ one moment ∷ [] }) same.same
             ∙ ap (λ (t : ℕ). record (backed old.log) { released = old.log.released.items ++ one t ∷ [] }) (at disk where_is));
-        back = λ start opening b. back_release start opening (record old { log = mid }) log held first items ready
+        back = λ start opening b. back_release start opening (record old { log = mid }) log held first (ap is_held_halt body) items ready
             (λ disk where_is. done.log ∙ ap (λ (t : ℕ). record (backed mid) { released = mid.released.items ++ one t ∷ [] }) (at disk where_is)
             ∙ ap (λ ps. record (backed mid) { released = mid.released.items ++ map (release_at (moment_of disk)) ps }) (sym passes))
             done.flights done.stops (back_room moment_of left_since told image faults_of start opening old mid same b);
@@ -137,7 +138,7 @@ module _ {D : Type 0} (moment_of : D → ℕ) (left_since : D → ℕ → List �
       let none : passed_of first ≡ [] = ap (λ (b : HeldBody). passed_by b first.needs first.since) body in
       record {
         releases = releases_as old held old.log old.own old.needs old.number first (Sync number) items body refl s0 s o o told_so (sym (append-nil o)) (λ disk where_is. refl);
-        back = λ start opening b. back_release start opening old old.log held first items ready
+        back = λ start opening b. back_release start opening old old.log held first (ap is_held_halt body) items ready
             (λ disk where_is. ap (λ rs. record (backed old.log) { released = rs }) (sym (append-nil old.log.released.items))
             ∙ ap (λ ps. record (backed old.log) { released = old.log.released.items ++ map (release_at (moment_of disk)) ps }) (sym none)) refl refl b;
       }
@@ -157,7 +158,7 @@ module _ {D : Type 0} (moment_of : D → ℕ) (left_since : D → ℕ → List �
   halt_goes old mid log held first c same items body ready done s0 s o told_so = record {
     releases = releases_as old held log 0 old.before (old.number + 1) first (Halt c) items body refl s0 s o o told_so (sym (append-nil o))
         (λ disk where_is. done ∙ ap (λ (x : Backed). record x {
-          stops = x.stops ++ record { cause = c; flights = length x.flights; batches = old.own; read = false } ∷ [];
+          stops = x.stops ++ record { cause = c; flights = length x.flights; batches = old.own; read = is_read c } ∷ [];
           ends = x.ends ++ record { kept = old.own; cause = c } ∷ [];
         }) same.same);
     back = λ start opening b. halts_back start opening (record old { log = mid }) log held first c items body ready done (back_room moment_of left_since told image faults_of start opening old mid same b);

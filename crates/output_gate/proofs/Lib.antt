@@ -39,3 +39,5 @@ pub mod Frames
 pub mod Written
 pub mod Finding
 pub mod Unfilled
+pub mod Reading
+pub mod Unread

@@ -10,10 +10,17 @@ use Rattle.batch_codec.proofs.ReadPayloads.{one_payload}
 use Rattle.batch_journal.proofs.Journals.{length-journal_push}
 use Rattle.batch_journal.proofs.Verdicts.{one_verdict}
 use Rattle.batch_journal.specs.Frames.{Frame, journal_bytes, batches_in}
-use Rattle.batch_journal.specs.Moments.{LeavesOnly}
-use Rattle.batch_journal.specs.Mounting.{ImageOrHeader}
+use Rattle.batch_journal.specs.Moments.{LeavesOnly, TellsAsBefore}
+use Rattle.batch_journal.specs.Mounting.{ImageOrHeader, IsMountOf}
+use Rattle.batch_journal.specs.declared.journal.Journal.{Journal}
+use Rattle.batch_journal.specs.declared.mount.Mounted.{Mounted}
+use Rattle.storage_map.specs.Indexed.{Indexed}
+use Rattle.storage_map.specs.Limits.{Object}
+use Rattle.output_gate.specs.Mending.{HasCache, IsFound}
+use Rattle.output_gate.specs.declared.mending.Found.{Found}
+use Rattle.output_gate.specs.declared.mending.Found.TheVariants as found
 use Rattle.batch_journal.specs.Recovery.{Recovers}
-use Rattle.batch_journal.specs.Rest.{RecoversToOneOf}
+use Rattle.batch_journal.specs.Rest.{IsStaged, RecoversToOneOf, disk_in}
 use Rattle.batch_journal.specs.Verdicts.{Verdict}
 use Rattle.storage_map.specs.declared.op.Op.{Op}
 use Rattle.timeline.specs.History.{batches_in as batches_taken, durable, kept_before, line}
@@ -147,3 +154,19 @@ pub more_found : (frames found : List Frame) (flight : Frame) (place end : ℕ) 
     → place ≡ length (journal_bytes found) + 1 → end ≡ length (journal_bytes frames) + 1 → not (place == end) ≡ true → found ≡ frames ++ flight ∷ []
 more_found frames found flight place end one at was other =
     more_by_end frames found flight one (λ same. true_false (sym other ∙ ap not (eq-eqb place end (at ∙ same ∙ sym was))))
+
+-- What was mounted is what a mounting gave, with a cache of its index; or its disk is left for want of memory.
+module _ {D : Type 0} (moment_of : D → ℕ) (left_since : D → ℕ → List ℕ → Type 0) (told : D → Option (List ℕ)) (image : D → List ℕ → Type 0) (disk : D) where
+  abbrev Gives : Journal D × Option Object → Indexed → Type 0
+  Gives x index =
+      IsMountOf told image moment_of left_since disk (record { journal = x.0; identity = x.1; index = index }) × ((object : Object) → IsStaged x.0 object [])
+      × LeavesOnly moment_of left_since disk (disk_in x.0) (ImageOrHeader (told disk) (image disk)) × TellsAsBefore (told disk) (told (disk_in x.0))
+
+  pub found_with : (mounted : Mounted D) (f : Found D) → HasCache mounted f → Gives (mounted.journal, mounted.identity) mounted.index → IsFound moment_of left_since told image disk f
+  found_with mounted (found.Mounted journal identity cache) has gives =
+      let same : (journal, identity) ≡ (mounted.journal, mounted.identity) = λ i. (has.0 i, has.1 i) in
+      let g = subst (λ (x : Journal D × Option Object). Gives x mounted.index) (sym same) gives in
+      ((mounted.index, has.2, g.0), g.1, g.2, g.3)
+  found_with mounted (found.Refused left) has gives = absurd has
+  found_with mounted (found.NoMemory left) has gives =
+      subst (λ (d : D). LeavesOnly moment_of left_since disk d (ImageOrHeader (told disk) (image disk)) × TellsAsBefore (told disk) (told d)) (sym has) (gives.2, gives.3)

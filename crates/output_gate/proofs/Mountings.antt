@@ -13,7 +13,13 @@ use Rattle.batch_journal.specs.Reading.{IsObjectOf}
 use Rattle.batch_journal.specs.Rest.{IsAtRest, IsStaged, disk_in}
 use Rattle.batch_journal.specs.declared.journal.Journal.{Journal}
 use Rattle.batch_journal.specs.declared.mount.Mounted.{Mounted}
-use Rattle.storage_map.specs.Contents.{Contents, nothing, apply}
+use Rattle.storage_cache.specs.Cached.{Cached, of_index}
+use Rattle.storage_cache.proofs.Standing.{kept_index}
+use Rattle.storage_map.specs.Contents.{nothing, apply}
+use Rattle.batch_journal.specs.Places.{IsPlaceIn, Indexes}
+use Rattle.object_storage.specs.Stored.{HasStored}
+use Rattle.object_storage.proofs.Going.{mounted as stored_mounted}
+use Rattle.output_gate.proofs.Reading.{reading_begun, shut_stays}
 use Rattle.storage_map.specs.Limits.{Object}
 use Rattle.storage_map.specs.declared.op.Op.{Op}
 use Rattle.timeline.specs.History.{Incarnation, History, incarnations, batches_in as batches_taken}
@@ -33,7 +39,7 @@ use Rattle.output_gate.specs.Gate.{Place, place_of, IsGate}
 use Rattle.output_gate.specs.Held.{waiting_in}
 use Rattle.output_gate.specs.Kept.{NameOnly}
 use Rattle.output_gate.specs.Mending.{Begins, Misses, is_own_object, kept_at}
-use Rattle.output_gate.specs.Serving.{HasRoom, IsSafe, IsServing, IsMounted, IsSafeEnded, IsEnded, IsUnmounted, marks_of}
+use Rattle.output_gate.specs.Serving.{HasRoom, IsEnded, IsMounted, IsSafe, IsSafeEnded, IsServing, IsShut, IsUnmounted, marks_of}
 use Rattle.output_gate.specs.Standing.{AreLogs, own_entries, own_flights, going_on}
 use Rattle.output_gate.specs.declared.back.Back.{Back}
 use Rattle.output_gate.specs.declared.back.Ending.{Ending}
@@ -91,14 +97,14 @@ kept_one ending true = inr refl
 kept_one ending false = inl refl
 
 -- the back behind a mounting
-abbrev pub begun : {D : Type 0} → Back D → BackLog → Journal D → Contents → ℕ → Back D
-begun old log journal map now = record old { store = store.Journal journal; cache = map; mode = IsMountedMode; durable = now; before = now; needs = now; log = log }
+abbrev pub begun : {D : Type 0} → Back D → BackLog → Journal D → Cached → ℕ → Back D
+begun old log journal cache now = record old { store = store.Journal journal; cache = cache; mode = IsMountedMode; durable = now; before = now; needs = now; log = log }
 
 module _ {D : Type 0} (told : D → Option (List ℕ)) (image : D → List ℕ → Type 0) where
-  begun_room : (disk : D) (ending : Ending) (old : Back D) (log : BackLog) (end : End) (journal : Journal D) (map : Contents) (now : ℕ) → IsSafeEnded disk ending old
+  begun_room : (disk : D) (ending : Ending) (old : Back D) (log : BackLog) (end : End) (journal : Journal D) (cache : Cached) (now : ℕ) → IsSafeEnded disk ending old
       → backed log ≡ record (backed old.log) { ends = old.log.ends.items ++ end ∷ [] } → now ≤ old.durable + (ending.whole - ending.flown)
-      → HasRoom (begun old log journal map now)
-  begun_room disk ending old log end journal map now s is few =
+      → HasRoom (begun old log journal cache now)
+  begun_room disk ending old log end journal cache now s is few =
       let n : ℕ = length old.log.ends.items in
       record {
         logs = subst AreLogs (sym is) (follows_fits front_none (backed old.log) end s.logs n s.gone refl);
@@ -114,12 +120,12 @@ module _ {D : Type 0} (told : D → Option (List ℕ)) (image : D → List ℕ �
   safe_begun : (disk : D) (ending : Ending) (old : Back D) (log : BackLog) (end : End) (mounted : Mounted D) (now : ℕ) (frames : List Frame) → IsSafeEnded disk ending old
       → backed log ≡ record (backed old.log) { ends = old.log.ends.items ++ end ∷ [] } → now ≤ old.durable + (ending.whole - ending.flown)
       → IsAtRest told image mounted.journal frames → IsObjectOf mounted.identity frames → is_own_object mounted.identity old.identity
-      → ((object : Object) → IsStaged mounted.journal object [])
-      → IsSafe told image mounted.journal (begun old log mounted.journal mounted.map now)
-  safe_begun disk ending old log end mounted now frames s is few rest object own staged = record {
+      → ((object : Object) → IsStaged mounted.journal object []) → Indexes frames mounted.index
+      → IsSafe told image true mounted.journal (begun old log mounted.journal (of_index mounted.index) now)
+  safe_begun disk ending old log end mounted now frames s is few rest object own staged indexes = record {
     store = refl;
     mode = refl;
-    room = begun_room disk ending old log end mounted.journal mounted.map now s is few;
+    room = begun_room disk ending old log end mounted.journal (of_index mounted.index) now s is few;
     frames = frames;
     staged = [];
     at_rest = rest;
@@ -131,6 +137,7 @@ module _ {D : Type 0} (told : D → Option (List ℕ)) (image : D → List ℕ �
     nameless = λ nobody. (refl, staged);
     halts = halts_none now old.held.items s.halts;
     halted = λ has. absurd (true_false (sym has ∙ s.halts));
+    stored = λ yes. (apply nothing (operations_in frames), λ any may. stored_mounted frames any mounted.index indexes);
   }
 
 module _ {D : Type 0} (moment_of : D → ℕ) (left_since : D → ℕ → List ℕ → Type 0) (told : D → Option (List ℕ)) (image : D → List ℕ → Type 0) (faults_of : D → ℕ)
@@ -140,17 +147,17 @@ module _ {D : Type 0} (moment_of : D → ℕ) (left_since : D → ℕ → List �
       → IsSafeEnded disk ending old → (s : IsEnded moment_of left_since image start opening disk ending old)
       → backed log ≡ record (backed old.log) { ends = old.log.ends.items ++ end ∷ [] } → now ≤ old.durable + (ending.whole - ending.flown)
       → IsAtRest told image mounted.journal frames → IsObjectOf mounted.identity frames → is_own_object mounted.identity old.identity
-      → ((object : Object) → IsStaged mounted.journal object []) → mounted.map ≡ apply nothing (operations_in frames)
+      → ((object : Object) → IsStaged mounted.journal object []) → Indexes frames mounted.index
       → batches_in frames ≡ start ++ found → length found ≡ now
       → ((front : Fronted) → IsGate moment_of left_since old.identity start opening front
       (record (place_down s.ended s.taken (s.last front) (s.rest front)) { older = record (s.last front) { kept = Some end.kept } ∷ s.rest front }) (disk_in mounted.journal)
       (record (lists_of moment_of left_since told image reads_an_image start opening disk ending old s) { flown = found; staged = [] }) (length found) (length found))
-      → IsServing moment_of left_since told image start opening true mounted.journal (begun old log mounted.journal mounted.map now)
-  serves_found disk ending old log end mounted now frames found safe s is few rest object own staged map batches long gate =
+      → IsServing moment_of left_since told image start opening true mounted.journal (begun old log mounted.journal (of_index mounted.index) now)
+  serves_found disk ending old log end mounted now frames found safe s is few rest object own staged indexes batches long gate =
       let n : ℕ = length old.log.ends.items in
       let released : log.released.items ≡ old.log.released.items = ap (λ (b : Backed). b.released) is in
       record {
-        room = begun_room told image disk ending old log end mounted.journal mounted.map now safe is few;
+        room = begun_room told image disk ending old log end mounted.journal (of_index mounted.index) now safe is few;
         frames = frames;
         left = s.left;
         flown = found;
@@ -169,7 +176,10 @@ module _ {D : Type 0} (moment_of : D → ℕ) (left_since : D → ℕ → List �
         unflushed = safe.unflushed;
         staged_for = λ other is_named. staged other;
         nameless = λ nobody. (refl, staged);
-        cache = λ yes. map ∙ ap (λ bs. apply nothing (flat_map (λ ops. ops) bs)) (batches ∙ sym (append-nil (start ++ found)));
+        stored = λ yes any may.
+            subst (λ bs. HasStored frames any [] (of_index mounted.index) (apply nothing (flat_map (λ ops. ops) bs))) (batches ∙ sym (append-nil (start ++ found)))
+            (stored_mounted frames any mounted.index indexes);
+        kept = λ yes. kept_index (IsPlaceIn frames) mounted.index;
       }
 
   serves_begun : (disk : D) (ending : Ending) (old : Back D) (log : BackLog) (mounted : Mounted D) (kept : ℕ) (whole : Bool)
@@ -179,20 +189,20 @@ module _ {D : Type 0} (moment_of : D → ℕ) (left_since : D → ℕ → List �
       → ((object : Object) → IsStaged mounted.journal object [])
       → LeavesOnly moment_of left_since disk (disk_in mounted.journal) (ImageOrHeader (told disk) (image disk)) → (c : List ℕ) → told disk ≡ Some c
       → not (mounted.journal.end == ending.end) ≡ whole → kept ≡ (if whole then ending.whole else ending.flown)
-      → IsServing moment_of left_since told image start opening true mounted.journal (begun old log mounted.journal mounted.map (old.durable + (kept - ending.flown)))
+      → IsServing moment_of left_since told image start opening true mounted.journal (begun old log mounted.journal (of_index mounted.index) (old.durable + (kept - ending.flown)))
   serves_begun disk ending old log mounted kept true safe s wanted is_log is own staged leaves c tells test so =
       let one = found_one moment_of left_since told image reads_an_image start opening disk ending old s c is.frames tells is.recovers in
       let frames : is.frames ≡ s.frames ++ s.flight ∷ [] = more_found s.frames is.frames s.flight mounted.journal.end ending.end one is.at_rest.end s.end test in
       let found : List (List Op) = s.flown ++ s.flight.batches in
       let long : length found ≡ old.durable + (kept - ending.flown) = omega (arith, length-append s.flown s.flight.batches, (s.down front_none).long, so, s.is_whole) in
-      serves_found disk ending old log (record { kept = kept; cause = ending.cause }) mounted (old.durable + (kept - ending.flown)) is.frames found safe s is_log (omega (arith, so)) is.at_rest is.object own staged is.map
+      serves_found disk ending old log (record { kept = kept; cause = ending.cause }) mounted (old.durable + (kept - ending.flown)) is.frames found safe s is_log (omega (arith, so)) is.at_rest is.object own staged is.index
       (ap batches_in frames ∙ flown_with moment_of left_since told image reads_an_image start opening disk ending old s) long
       (λ front. begins_more moment_of left_since told image reads_an_image start opening disk ending old s front (disk_in mounted.journal) leaves (s.mended wanted) kept (omega (arith, so, s.is_whole, s.is_flown front)))
   serves_begun disk ending old log mounted kept false safe s wanted is_log is own staged leaves c tells test so =
       let one = found_one moment_of left_since told image reads_an_image start opening disk ending old s c is.frames tells is.recovers in
       let frames : is.frames ≡ s.frames = old_found s.frames is.frames s.flight mounted.journal.end ending.end one is.at_rest.end s.end test in
       let long : length s.flown ≡ old.durable + (kept - ending.flown) = omega (arith, (s.down front_none).long, so) in
-      serves_found disk ending old log (record { kept = kept; cause = ending.cause }) mounted (old.durable + (kept - ending.flown)) is.frames s.flown safe s is_log (omega (arith, so)) is.at_rest is.object own staged is.map
+      serves_found disk ending old log (record { kept = kept; cause = ending.cause }) mounted (old.durable + (kept - ending.flown)) is.frames s.flown safe s is_log (omega (arith, so)) is.at_rest is.object own staged is.index
       (ap batches_in frames ∙ s.batches) long
       (λ front. subst (λ (k : ℕ). IsGate moment_of left_since old.identity start opening front
       (record (place_down s.ended s.taken (s.last front) (s.rest front)) { older = record (s.last front) { kept = Some k } ∷ s.rest front }) (disk_in mounted.journal)
@@ -213,15 +223,15 @@ module _ {D : Type 0} (moment_of : D → ℕ) (left_since : D → ℕ → List �
       → LeavesOnly moment_of left_since disk (disk_in mounted.journal) (ImageOrHeader (told disk) (image disk))
       → TellsAsBefore (told disk) (told (disk_in mounted.journal)) → IsLoggedDown (IsTold (told disk)) (backed old.log) ending (marks_of old) old.durable
       → AreCounted (IsTold (told disk)) (backed old.log) (faults_of disk) → faults_of disk ≤ faults_of (disk_in mounted.journal)
-      → Begins old new ending mounted.journal mounted.map
+      → Begins old new ending mounted.journal (of_index mounted.index) → IsShut old
       → IsMounted moment_of left_since told image faults_of start opening true new
-  mounted_begun disk ending old new mounted safe s wanted is own staged leaves telling l counted up done =
+  mounted_begun disk ending old new mounted safe s wanted is own staged leaves telling l counted up done shut =
       let kept : ℕ = kept_at ending mounted.journal.end in
       let now : ℕ = old.durable + (kept - ending.flown) in
       let within : now ≤ old.durable + (ending.whole - ending.flown) = omega (arith, kept_most ending (not (mounted.journal.end == ending.end)) safe.more) in
-      let made : IsMounted moment_of left_since told image faults_of start opening true (begun old new.log mounted.journal mounted.map now) = record {
+      let made : IsMounted moment_of left_since told image faults_of start opening true (begun old new.log mounted.journal (of_index mounted.index) now) = record {
         journal = mounted.journal;
-        safe = safe_begun told image disk ending old new.log (record { kept = kept; cause = ending.cause }) mounted now is.frames safe done.log within is.at_rest is.object own staged;
+        safe = safe_begun told image disk ending old new.log (record { kept = kept; cause = ending.cause }) mounted now is.frames safe done.log within is.at_rest is.object own staged is.index;
         serves = λ tells.
             let before = told_before (told disk) (told (disk_in mounted.journal)) telling tells in
             serves_begun disk ending old new.log mounted kept (not (mounted.journal.end == ending.end)) safe (s before) wanted done.log is own staged leaves before.0 before.1 refl refl;
@@ -234,6 +244,8 @@ module _ {D : Type 0} (moment_of : D → ℕ) (left_since : D → ℕ → List �
             (λ yes. let t = before_it yes in (one, begun_full disk ending old (s t) mounted is t.0 t.1)) safe.more refl (sym safe.own ∙ safe.none) l);
         counts = counts_same (IsTold (told disk)) (IsTold (told (disk_in mounted.journal))) (told_before (told disk) (told (disk_in mounted.journal)) telling) (backed old.log)
             (faults_of disk) (faults_of (disk_in mounted.journal)) counted (backed new.log) (ap (λ (b : Backed). b.stops) done.log) (ap (λ (b : Backed). b.downs) done.log) up;
+        reads = reading_begun (IsTold (told (disk_in mounted.journal))) (faults_of (disk_in mounted.journal)) old (begun old new.log mounted.journal (of_index mounted.index) now) shut safe.halts
+            (ap (λ (b : Backed). b.stops) done.log) refl refl;
       } in
       subst (IsMounted moment_of left_since told image faults_of start opening true) (sym done.same) made
 
@@ -245,9 +257,9 @@ module _ {D : Type 0} (moment_of : D → ℕ) (left_since : D → ℕ → List �
       → ((c : List ℕ) → image left c → ImageOrHeader (told disk) (image disk) c)
       → IsLoggedDown (IsTold (told disk)) (backed old.log) ending (marks_of old) old.durable
       → AreCounted (IsTold (told disk)) (backed old.log) (faults_of disk) → before ≡ faults_of disk → after ≡ faults_of left → (IsTold (told left) → HasRisen (faults_of disk) (faults_of left))
-      → Misses old new ending left before after
+      → Misses old new ending left before after → IsShut old
       → IsUnmounted moment_of left_since told image faults_of start opening new
-  unmounted_missed disk left ending old new before after safe s leaves telling images l counted from into rises done =
+  unmounted_missed disk left ending old new before after safe s leaves telling images l counted from into rises done shut =
       let log : backed new.log ≡ record (backed old.log) { downs = old.log.downs.items ++ record { incarnation = old.number; before = before; after = after } ∷ [] } = done.log in
       let made : IsUnmounted moment_of left_since told image faults_of start opening (record old { store = store.Disk left; mode = Down ending; log = new.log }) = record {
         disk = left;
@@ -304,5 +316,6 @@ module _ {D : Type 0} (moment_of : D → ℕ) (left_since : D → ℕ → List �
             (record { incarnation = old.number; before = before; after = after }) (ap (λ (b : Backed). b.stops) log) (ap (λ (b : Backed). b.downs) log) safe.number
             (λ none. absurd (omega (arith, safe.gone, ap (λ (ss : List Stop). length ss) none))) (omega (arith, from)) (omega (arith, into))
             (λ yes. subst (λ (x : ℕ × ℕ). HasRisen x.0 x.1) (ap (λ (n : ℕ). (n, faults_of left)) (sym from) ∙ ap (λ (n : ℕ). (before, n)) (sym into)) (rises yes));
+        shut = shut_stays old (record old { store = store.Disk left; mode = Down ending; log = new.log }) (ap (λ (b : Backed). b.stops) log) refl refl shut;
       } in
       subst (IsUnmounted moment_of left_since told image faults_of start opening) (sym done.same) made

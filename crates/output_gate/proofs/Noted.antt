@@ -1,17 +1,15 @@
 -- What holds of a back holds of it with another note of whether memory was wanting.
-use Rattle.std.proofs.Common.{◌≡◌, ◌∙◌, ap, sym, subst, refl, inl, inr, ⊎_elim, ℕ, List, Option, None, Ok, Err, Result, OnOk, OnErr, is_err}
+use Rattle.std.proofs.Common.{◌≡◌, ◌∙◌, ap, sym, subst, inl, inr, ⊎_elim, ℕ, List, Option, Ok, Err, Result, OnOk, OnErr, is_err}
 use Rattle.std.specs.Prelude.{◌⊎◌, Bool, true, false, not}
 use Rattle.batch_journal.specs.declared.journal.Journal.{Journal}
 use Rattle.do_value.specs.declared.fault.NoMemory.{NoMemory}
 use Rattle.storage_map.specs.declared.op.Op.{Op}
 use Rattle.timeline.specs.declared.entry.Entry.{Entry}
 use Rattle.timeline.specs.declared.notice.Notice.{Notice}
-use Rattle.output_gate.specs.Entering.{Enters, Failed, LosesEntry, Takes, TakesUnread, notice_at}
+use Rattle.output_gate.specs.Entering.{Enters, Failed, LosesEntry, Takes}
 use Rattle.output_gate.specs.Mending.{Remounts, LosesMend}
 use Rattle.output_gate.specs.Serving.{HasRoom, IsSafe, IsServing, IsMounted, IsSafeEnded, IsEnded, IsUnmounted, IsBackAs, IsBack, KeepsBack, KeepsBackAs, is_stopped, IsAsBefore}
-use Rattle.output_gate.specs.Taking.{fit_of}
 use Rattle.output_gate.specs.declared.back.Back.{Back}
-use Rattle.output_gate.proofs.Unfit.{unfit_notice}
 use Rattle.output_gate.specs.declared.back.Ending.{Ending}
 
 -- a back with this note
@@ -32,8 +30,8 @@ room_noted b s h = record {
 
 module _ {D : Type 0} (moment_of : D → ℕ) (left_since : D → ℕ → List ℕ → Type 0) (told : D → Option (List ℕ)) (image : D → List ℕ → Type 0) (faults_of : D → ℕ)
     (start : List (List Op)) (opening : ℕ) where
-  safe_noted : (journal : Journal D) (b : Back D) (s : Bool) → IsSafe told image journal b → IsSafe told image journal (noted b s)
-  safe_noted journal b s h = record {
+  safe_noted : (sound : Bool) (journal : Journal D) (b : Back D) (s : Bool) → IsSafe told image sound journal b → IsSafe told image sound journal (noted b s)
+  safe_noted sound journal b s h = record {
     store = h.store;
     mode = h.mode;
     room = room_noted b s h.room;
@@ -48,6 +46,7 @@ module _ {D : Type 0} (moment_of : D → ℕ) (left_since : D → ℕ → List �
     nameless = h.nameless;
     halts = h.halts;
     halted = h.halted;
+    stored = h.stored;
   }
 
   serves_noted : (sound : Bool) (journal : Journal D) (b : Back D) (s : Bool) → IsServing moment_of left_since told image start opening sound journal b
@@ -66,17 +65,19 @@ module _ {D : Type 0} (moment_of : D → ℕ) (left_since : D → ℕ → List �
     unflushed = h.unflushed;
     staged_for = h.staged_for;
     nameless = h.nameless;
-    cache = h.cache;
+    stored = h.stored;
+    kept = h.kept;
   }
 
   mounted_noted : (sound : Bool) (b : Back D) (s : Bool) → IsMounted moment_of left_since told image faults_of start opening sound b
       → IsMounted moment_of left_since told image faults_of start opening sound (noted b s)
   mounted_noted sound b s m = record {
     journal = m.journal;
-    safe = safe_noted m.journal b s m.safe;
+    safe = safe_noted sound m.journal b s m.safe;
     serves = λ tells. serves_noted sound m.journal b s (m.serves tells);
     logged = m.logged;
     counts = m.counts;
+    reads = record { unread = λ counts is. let u = m.reads.unread counts is in record { closed = u.closed; rising = u.rising; rose = u.rose }; closed = m.reads.closed; here = m.reads.here; behind = m.reads.behind };
   }
 
   safe_ended_noted : (disk : D) (ending : Ending) (b : Back D) (s : Bool) → IsSafeEnded disk ending b → IsSafeEnded disk ending (noted b s)
@@ -131,6 +132,7 @@ module _ {D : Type 0} (moment_of : D → ℕ) (left_since : D → ℕ → List �
     ended = λ tells. ended_noted u.disk u.ending b s (u.ended tells);
     logged = u.logged;
     counts = u.counts;
+    shut = record { closed = u.shut.closed; appended = u.shut.appended };
   }
 
   pub back_noted : (sound : Bool) (b : Back D) (s : Bool) → IsBackAs moment_of left_since told image faults_of start opening sound b
@@ -170,7 +172,7 @@ keeps_note moment_of left_since told image faults_of start opening old new same 
 
 -- What was done or wasn't, with the note.
 pub before_noted : {D : Type 0} (old mid : Back D) (s : Bool) → IsAsBefore old mid → IsAsBefore old (noted mid s)
-before_noted old mid s h = record { log = h.log; held = h.held; stuck = h.stuck; identity = h.identity; mode = h.mode; before = h.before; durable = h.durable; limit = h.limit }
+before_noted old mid s h = record { log = h.log; held = h.held; stuck = h.stuck; identity = h.identity; mode = h.mode; before = h.before; durable = h.durable; limit = h.limit; closed = h.closed }
 
 entered_noted : {D : Type 0} (old mid : Back D) (e : Entry) (s : Bool) → IsAsBefore old mid ⊎ ((failed : Failed) × Enters failed old mid e)
     → IsAsBefore old (noted mid s) ⊎ ((failed : Failed) × Enters failed old (noted mid s) e)
@@ -188,18 +190,19 @@ entered_noted old mid e s (inr (failed, h)) = inr (
     needs = h.needs;
     durable = h.durable;
     limit = h.limit;
+    closed = h.closed;
   },
 )
 
--- An entry is taken without a read, with the note.
-pub takes_noted : {D : Type 0} (told : D → Option (List ℕ)) (old mid : Back D) (got0 got : List Entry) (sent0 sent : List Notice) (s : Bool) → TakesUnread old mid got0 got sent0 sent
-    → Takes told old (noted mid s) got0 got sent0 sent
-takes_noted told old mid got0 got sent0 sent s t = record {
+-- An entry is taken, with the note.
+pub takes_noted : {D : Type 0} (told : D → Option (List ℕ)) (image : D → List ℕ → Type 0) (old mid : Back D) (got0 got : List Entry) (sent0 sent : List Notice) (s : Bool) → Takes told image old mid got0 got sent0 sent
+    → Takes told image old (noted mid s) got0 got sent0 sent
+takes_noted told image old mid got0 got sent0 sent s t = record {
   entry = t.entry;
   took = t.took;
-  failed = None;
+  failed = t.failed;
   enters = record {
-    may = tt;
+    may = t.enters.may;
     log = t.enters.log;
     stuck = t.enters.stuck;
     held = t.enters.held;
@@ -209,12 +212,13 @@ takes_noted told old mid got0 got sent0 sent s t = record {
     identity = t.enters.identity;
     durable = t.enters.durable;
     limit = t.enters.limit;
+    closed = t.enters.closed;
   };
-  answer = notice_at None old t.entry;
-  sends = t.told;
-  answers = λ disk at tells. refl;
-  unfit = λ is. unfit_notice (fit_of old t.entry) t.entry old.cache is;
-  rose = λ disk at tells. tt;
+  answer = t.answer;
+  sends = t.sends;
+  answers = t.answers;
+  unfit = t.unfit;
+  rose = t.rose;
 }
 
 -- An entry is lost, with the note.

@@ -1,7 +1,7 @@
 -- A back that begins.
 use Rattle.std.proofs.Common.{◌≡◌, ◌∙◌, ap, sym, refl, subst, inl, ℕ, suc, ◌≤◌, List, [], ◌++◌, append-nil, length, arith, Option, Some, None}
 use Rattle.std.proofs.lemmas.List.Elements.{All-nil}
-use Rattle.batch_journal.specs.Frames.{Frame, batches_in}
+use Rattle.batch_journal.specs.Frames.{Frame, batches_in, operations_in}
 use Rattle.batch_journal.specs.Recovery.{Recovers}
 use Rattle.storage_map.specs.Limits.{Object}
 use Rattle.std.proofs.Common.{Global}
@@ -12,7 +12,13 @@ use Rattle.batch_journal.specs.Mounting.{IsMountOf}
 use Rattle.batch_journal.specs.Rest.{IsStaged, disk_in}
 use Rattle.batch_journal.specs.declared.mount.Mounted.{Mounted}
 use Rattle.do_disk.specs.Disk.{next_count}
-use Rattle.storage_map.specs.Contents.{Contents, nothing, apply}
+use Rattle.storage_cache.specs.Cached.{Cached, of_index}
+use Rattle.storage_cache.proofs.Standing.{kept_index}
+use Rattle.storage_map.specs.Contents.{nothing, apply}
+use Rattle.storage_map.specs.declared.op.Op.{Op}
+use Rattle.batch_journal.specs.Places.{IsPlaceIn}
+use Rattle.object_storage.specs.Stored.{HasStored, HasKept}
+use Rattle.object_storage.proofs.Going.{mounted as stored_mounted}
 use Rattle.timeline.specs.History.{batches_in as batches_taken}
 use Rattle.timeline.specs.Logs.{Fronted, Backed, backed}
 use Rattle.timeline.specs.declared.back_log.BackLog.{BackLog}
@@ -72,8 +78,10 @@ module _ {D : Type 0} (moment_of : D → ℕ) (left_since : D → ℕ → List �
   }
 
 -- the back of a slot that was just mounted
-abbrev pub fresh : {D : Type 0} → Mounted D → (limit : ℕ) → Contents → VecDeque Held Global → BackLog → Back D
-fresh mounted limit cache held log = record {
+abbrev pub fresh : {D : Type 0} → Global → Mounted D → (limit : ℕ) → Cached → VecDeque Held Global → BackLog → Back D
+fresh alloc mounted limit cache held log = record {
+  alloc = alloc;
+  closed = 0;
   store = store.Journal mounted.journal;
   limit = limit;
   cache = cache;
@@ -95,10 +103,10 @@ fresh mounted limit cache held log = record {
 
 module _ {D : Type 0} (moment_of : D → ℕ) (left_since : D → ℕ → List ℕ → Type 0) (told : D → Option (List ℕ)) (image : D → List ℕ → Type 0) where
   pub serves_new : (disk : D) (mounted : Mounted D) (is : IsMountOf told image moment_of left_since disk mounted) → ((object : Object) → IsStaged mounted.journal object [])
-      → (limit : ℕ) (cache : Contents) (held : VecDeque Held Global) (log : BackLog) → cache ≡ mounted.map → held.items ≡ [] → backed log ≡ no_log
+      → (alloc : Global) (limit : ℕ) (cache : Cached) (held : VecDeque Held Global) (log : BackLog) → cache ≡ of_index mounted.index → held.items ≡ [] → backed log ≡ no_log
       → IsServing moment_of left_since told image (batches_in is.frames) (next_count (moment_of disk)) true mounted.journal
-      (fresh mounted limit cache held log)
-  serves_new disk mounted is staged limit cache held log map_is none empty =
+      (fresh alloc mounted limit cache held log)
+  serves_new disk mounted is staged alloc limit cache held log cache_is none empty =
       let names : NameOnly mounted.identity is.frames = all_named mounted.identity is.frames is.object in
       let fits : AreLogs no_log = record { flown = λ index stop some. absurd (no_stop some); begun = All-nil (λ (e : Entry). e.incarnation ≤ 1); ends = omega arith } in
       record {
@@ -128,13 +136,18 @@ module _ {D : Type 0} (moment_of : D → ℕ) (left_since : D → ℕ → List �
         unflushed = refl;
         staged_for = λ object named. staged object;
         nameless = λ named. (refl, staged);
-        cache = λ sound. map_is ∙ is.map ∙ ap (λ bs. apply nothing (flat_map (λ ops. ops) bs)) (sym (append-nil (batches_in is.frames)) ∙ sym (append-nil (batches_in is.frames ++ [])));
+        stored = λ sound object may.
+            subst (λ (x : Cached × List (List Op)). HasStored is.frames object [] x.0 (apply nothing (flat_map (λ ops. ops) x.1)))
+            (ap (λ (c : Cached). (c, batches_in is.frames)) (sym cache_is)
+            ∙ ap (λ bs. (cache, bs)) (sym (append-nil (batches_in is.frames)) ∙ sym (append-nil (batches_in is.frames ++ []))))
+            (stored_mounted is.frames object mounted.index is.index);
+        kept = λ sound. subst (HasKept is.frames) (sym cache_is) (kept_index (IsPlaceIn is.frames) mounted.index);
       }
 
   pub safe_new : (disk : D) (mounted : Mounted D) (is : IsMountOf told image moment_of left_since disk mounted) → ((object : Object) → IsStaged mounted.journal object [])
-      → (limit : ℕ) (cache : Contents) (held : VecDeque Held Global) (log : BackLog) → held.items ≡ [] → backed log ≡ no_log
-      → IsSafe told image mounted.journal (fresh mounted limit cache held log)
-  safe_new disk mounted is staged limit cache held log nobody empty =
+      → (alloc : Global) (limit : ℕ) (cache : Cached) (held : VecDeque Held Global) (log : BackLog) → cache ≡ of_index mounted.index → held.items ≡ [] → backed log ≡ no_log
+      → IsSafe told image true mounted.journal (fresh alloc mounted limit cache held log)
+  safe_new disk mounted is staged alloc limit cache held log cache_is nobody empty =
       let fits : AreLogs no_log = record { flown = λ index stop some. absurd (no_stop some); begun = All-nil (λ (e : Entry). e.incarnation ≤ 1); ends = omega arith } in
       record {
         store = refl;
@@ -160,4 +173,8 @@ module _ {D : Type 0} (moment_of : D → ℕ) (left_since : D → ℕ → List �
         nameless = λ named. (refl, staged);
         halts = subst (HaltsLast 0) (sym nobody) tt;
         halted = λ has. absurd (true_false (sym has ∙ ap has_halt nobody));
+        stored = λ sound. (
+          apply nothing (operations_in is.frames),
+          λ object may. subst (λ (c : Cached). HasStored is.frames object [] c (apply nothing (operations_in is.frames))) (sym cache_is) (stored_mounted is.frames object mounted.index is.index),
+        );
       }

@@ -1,5 +1,5 @@
 -- How the log and the counters of a back stand to one another.
-use Rattle.std.proofs.Common.{ap, inl, inr, ℕ, List, [], ◌∷◌, length, arith, Option}
+use Rattle.std.proofs.Common.{◌∙◌, ap, sym, inl, inr, ℕ, List, [], ◌∷◌, length, arith, Option}
 use Rattle.std.specs.Prelude.{Bool}
 use Rattle.storage_map.specs.declared.op.Op.{Op}
 use Rattle.timeline.specs.History.{History}
@@ -11,6 +11,7 @@ use Rattle.output_gate.specs.Taking.{is_mounted_mode}
 use Rattle.output_gate.specs.Telling.{KeepsWithin, IsOrdered}
 use Rattle.output_gate.specs.declared.back.Back.{Back}
 use Rattle.output_gate.specs.declared.back.Ending.{Ending}
+use Rattle.output_gate.proofs.Helds.{true_false}
 use Rattle.output_gate.proofs.Fitting.{never_mounted}
 
 ended_within : (marks : Marks) (h : History) → HaveEnded marks h → KeepsWithin h
@@ -34,6 +35,9 @@ module _ {D : Type 0} (moment_of : D → ℕ) (left_since : D → ℕ → List �
         more = omega (arith, s.unflown);
         unflown = λ less none. omega (arith, less, s.unflown, s.own, s.room.own, ap (λ bs. length bs) none);
         kept = λ front. ended_within (marks_of back) (older_of front (backed back.log)) (m.logged.placed front).ended;
+        closed = m.reads.closed;
+        held = m.reads.here;
+        read = m.reads.behind;
       }
 
   unmounted_ordered : (back : Back D) → IsUnmounted moment_of left_since told image faults_of start opening back → IsOrdered back
@@ -47,6 +51,9 @@ module _ {D : Type 0} (moment_of : D → ℕ) (left_since : D → ℕ → List �
         more = omega (arith, s.even);
         unflown = λ less. absurd (omega (arith, less, s.even));
         kept = λ front. ending_within u.ending (marks_of back) (older_of front (backed back.log)) (u.logged.ended front);
+        closed = omega (arith, u.shut.closed);
+        held = λ is. absurd (omega (arith, is, u.shut.closed));
+        read = λ stop is read. absurd (true_false (sym read ∙ u.shut.appended stop is));
       }
 
   pub is_ordered : (back : Back D) → IsBackAs moment_of left_since told image faults_of start opening sound back → IsOrdered back

@@ -1,11 +1,12 @@
 -- What a release does to a back that serves.
-use Rattle.std.proofs.Common.{◌≡◌, ◌∙◌, ap, sym, refl, subst, inl, inr, ℕ, suc, ◌+◌, ◌≤◌, List, [], ◌∷◌, ◌++◌, append-nil, length, map, arith, Option, vec_len}
+use Rattle.std.proofs.Common.{◌≡◌, ◌∙◌, ap, sym, refl, subst, inl, inr, ⊎_elim, ℕ, suc, ◌+◌, ◌≤◌, List, [], ◌∷◌, ◌++◌, append-nil, length, map, arith, Option, vec_len}
 use Rattle.std.proofs.Common.{Global}
-use Rattle.std.specs.Prelude.{◌⊎◌, Bool, true, ◌||◌}
+use Rattle.std.specs.Prelude.{◌⊎◌, Bool, true, false, ◌||◌}
 use Rattle.std.specs.declared.collections.VecDeque.{VecDeque}
 use Rattle.batch_journal.specs.declared.journal.Journal.{Journal}
 use Rattle.timeline.specs.declared.back_log.BackLog.{BackLog}
 use Rattle.output_gate.specs.Fits.{last_of}
+use Rattle.output_gate.proofs.Reading.{halt_behind, reading_stays, unread_rest}
 use Rattle.output_gate.proofs.Unmounted.{or_true}
 use Rattle.std.specs.Vec.{vec_capacity}
 use Rattle.batch_journal.specs.Moments.{IsTold}
@@ -18,7 +19,7 @@ use Rattle.timeline.specs.Passed.{Passed}
 use Rattle.timeline.specs.declared.back_log.Release.{Release}
 use Rattle.output_gate.specs.Ended.{IsLogged}
 use Rattle.output_gate.specs.Gate.{Place, place_of, history_at, Lists, IsGate}
-use Rattle.output_gate.specs.Held.{passed_by, passed_of, waiting_in, is_held_halt, has_halt, HaltsLast}
+use Rattle.output_gate.specs.Held.{passed_by, passed_of, waiting_in, is_held_halt, has_halt, unread_in, HaltsLast}
 use Rattle.output_gate.specs.Kept.{RecoversToPrefix}
 use Rattle.output_gate.specs.Releasing.{release_at}
 use Rattle.output_gate.specs.Serving.{HasRoom, IsSafe, IsServing, IsMounted, marks_of}
@@ -73,11 +74,11 @@ released_room old log held all room is flights stops = record {
 pub halt_rest : (h : Held) (rest : List Held) → has_halt rest ≡ true → has_halt (h ∷ rest) ≡ true
 halt_rest h rest has = ap (λ (b : Bool). is_held_halt h.body || b) has ∙ or_true (is_held_halt h.body)
 
-module _ {D : Type 0} (told : D → Option (List ℕ)) (image : D → List ℕ → Type 0) where
-  safe_release : (old : Back D) (log : BackLog) (held : VecDeque Held Global) (h : Held) (journal : Journal D) (all : List Release) → IsSafe told image journal old
+module _ {D : Type 0} (told : D → Option (List ℕ)) (image : D → List ℕ → Type 0) (sound : Bool) where
+  safe_release : (old : Back D) (log : BackLog) (held : VecDeque Held Global) (h : Held) (journal : Journal D) (all : List Release) → IsSafe told image sound journal old → is_held_halt h.body ≡ false
       → old.held.items ≡ h ∷ held.items → LogReleased old.log log all → log.flights ≡ old.log.flights → log.stops ≡ old.log.stops
-      → IsSafe told image journal (record old { held = held; log = log })
-  safe_release old log held h journal all s first is flights stops = record {
+      → IsSafe told image sound journal (record old { held = held; log = log })
+  safe_release old log held h journal all s none first is flights stops = record {
     store = s.store;
     mode = s.mode;
     room = released_room old log held all s.room is flights stops;
@@ -91,7 +92,13 @@ module _ {D : Type 0} (told : D → Option (List ℕ)) (image : D → List ℕ �
     staged_for = s.staged_for;
     nameless = s.nameless;
     halts = (subst (HaltsLast old.before) first s.halts).1;
-    halted = λ has. let e = s.halted (ap has_halt first ∙ halt_rest h held.items has) in (e.0, ap (λ (b : Backed). last_of b.taken) is ∙ e.1, e.2, e.3);
+    halted = λ has. let e = s.halted (ap has_halt first ∙ halt_rest h held.items has) in (
+      e.0,
+      ap (λ (b : Backed). last_of b.taken) is ∙ e.1,
+      e.2,
+      ⊎_elim (λ halts. inl halts) (λ by. inr (by.0, by.1, unread_rest h held.items none ∙ sym (ap unread_in first) ∙ by.2)) e.3,
+    );
+    stored = s.stored;
   }
 
 module _ {D : Type 0} (moment_of : D → ℕ) (left_since : D → ℕ → List ℕ → Type 0) (told : D → Option (List ℕ)) (image : D → List ℕ → Type 0) (faults_of : D → ℕ)
@@ -133,16 +140,17 @@ module _ {D : Type 0} (moment_of : D → ℕ) (left_since : D → ℕ → List �
         unflushed = s.unflushed;
         staged_for = s.staged_for;
         nameless = s.nameless;
-        cache = s.cache;
+        stored = s.stored;
+        kept = s.kept;
       }
 
   pub mounted_release : (old : Back D) (log : BackLog) (held : VecDeque Held Global) (h : Held) (m : IsMounted moment_of left_since told image faults_of start opening sound old)
-      → old.held.items ≡ h ∷ held.items → h.needs ≤ old.durable
+      → is_held_halt h.body ≡ false → old.held.items ≡ h ∷ held.items → h.needs ≤ old.durable
       → LogReleased old.log log (old.log.released.items ++ map (release_at (moment_of (disk_in m.journal))) (passed_of h)) → log.flights ≡ old.log.flights → log.stops ≡ old.log.stops
       → IsMounted moment_of left_since told image faults_of start opening sound (record old { held = held; log = log })
-  mounted_release old log held h m first ready is flights stops = record {
+  mounted_release old log held h m none first ready is flights stops = record {
     journal = m.journal;
-    safe = safe_release told image old log held h m.journal (old.log.released.items ++ map (release_at (moment_of (disk_in m.journal))) (passed_of h)) m.safe first is flights stops;
+    safe = safe_release told image sound old log held h m.journal (old.log.released.items ++ map (release_at (moment_of (disk_in m.journal))) (passed_of h)) m.safe none first is flights stops;
     serves = λ tells. serves_release old log held h m.journal (m.serves tells) first ready is flights stops;
     logged =
         let all : List Release = old.log.released.items ++ map (release_at (moment_of (disk_in m.journal))) (passed_of h) in
@@ -151,4 +159,7 @@ module _ {D : Type 0} (moment_of : D → ℕ) (left_since : D → ℕ → List �
         (logged_same tells tells (λ yes. yes) (backed old.log) (marks_of old) old.own old.before old.durable (record (backed old.log) { released = all }) refl refl refl
         (λ front. released_place front (backed old.log) all) m.logged);
     counts = counts_stay told faults_of (disk_in m.journal) (disk_in m.journal) (backed old.log) (backed log) refl (ap (λ (b : Backed). b.stops) is) (ap (λ (b : Backed). b.downs) is) m.counts;
+    reads = reading_stays (IsTold (told (disk_in m.journal))) (IsTold (told (disk_in m.journal))) (λ yes. yes) (faults_of (disk_in m.journal)) (faults_of (disk_in m.journal)) (omega arith) old
+        (record old { held = held; log = log }) (ap (λ (b : Backed). b.stops) is) (ap (λ (b : Backed). b.downs) is) refl refl (unread_rest h held.items none ∙ sym (ap unread_in first))
+        (λ has. halt_behind h held.items none (sym (ap has_halt first) ∙ has)) m.reads;
   }

@@ -1,32 +1,37 @@
 -- The restart behind a halt.
-use Rattle.std.proofs.Common.{◌≡◌, ◌∙◌, ap, sym, refl, subst, ℕ, suc, ◌+◌, ◌≤◌, List, [], ◌∷◌, ◌++◌, length, sum, arith, Option, Some, None, Global}
+use Rattle.std.proofs.Common.{◌≡◌, ◌∙◌, ap, sym, refl, subst, inl, inr, append-nil, ℕ, suc, ◌+◌, ◌≤◌, List, [], ◌∷◌, ◌++◌, length, sum, arith, Option, Some, None, Global}
 use Rattle.std.proofs.lemmas.List.{length_push}
-use Rattle.std.specs.Prelude.{Bool, true, ◌||◌}
+use Rattle.std.specs.Prelude.{◌⊎◌, Bool, true, false, not, ◌||◌, if◌then◌else◌}
 use Rattle.std.specs.declared.collections.VecDeque.{VecDeque}
 use Rattle.batch_journal.specs.Rest.{disk_in}
 use Rattle.batch_journal.specs.declared.journal.Journal.{Journal}
 use Rattle.storage_map.specs.declared.op.Op.{Op}
-use Rattle.timeline.specs.History.{Incarnation, entries_of, batches_in as batches_taken, is_halting}
+use Rattle.timeline.specs.History.{Incarnation, entries_of, batches_in as batches_taken, durable_by}
 use Rattle.timeline.specs.Logs.{Fronted, Backed, backed}
-use Rattle.timeline.specs.Passed.{Passed, bound_if, bound_by}
+use Rattle.timeline.specs.Passed.{Passed, bound_if, bound_by, discards}
 use Rattle.timeline.specs.declared.back_log.BackLog.{BackLog}
 use Rattle.timeline.specs.declared.back_log.End.{End}
 use Rattle.timeline.specs.declared.back_log.Release.{Release}
 use Rattle.timeline.specs.declared.back_log.Stop.{Stop}
 use Rattle.timeline.specs.declared.caller.Cause.{Cause}
+use Rattle.timeline.specs.declared.caller.Cause.TheVariants as cause
+use Rattle.timeline.specs.declared.entry.Entry.{Entry}
 use Rattle.batch_journal.specs.Moments.{IsTold}
 use Rattle.output_gate.specs.Down.{place_down}
 use Rattle.output_gate.specs.Ended.{IsLogged}
 use Rattle.output_gate.specs.Gate.{Place, place_of, Lists, IsGate}
-use Rattle.output_gate.specs.Held.{passed_by, passed_of, waiting_in, is_held_halt, has_halt, halts_well, HaltsLast}
-use Rattle.output_gate.specs.Serving.{HasRoom, IsSafe, IsServing, IsMounted, marks_of, stop_of}
+use Rattle.output_gate.specs.Held.{passed_by, passed_of, waiting_in, is_held_halt, has_halt, halts_well, is_read, unread_by, unread_in, HaltsLast}
+use Rattle.output_gate.specs.Serving.{HaltsBy, HasRoom, IsSafe, IsServing, IsMounted, halt_of, marks_of}
 use Rattle.output_gate.specs.Standing.{AreLogs, own_entries, own_flights, older_of, going_on}
 use Rattle.output_gate.specs.declared.back.Back.{Back}
 use Rattle.output_gate.specs.declared.held.Held.{Held}
 use Rattle.output_gate.specs.declared.held.HeldBody.{HeldBody}
 use Rattle.output_gate.specs.declared.held.HeldBody.TheVariants.{Halt}
 use Rattle.output_gate.proofs.Flushes.{front_none}
-use Rattle.output_gate.proofs.Counts.{counts_ended, no_counts}
+use Rattle.output_gate.specs.Counted.{stop_counts, AreCounted}
+use Rattle.output_gate.specs.Fits.{is_halt}
+use Rattle.output_gate.proofs.Counts.{counts_ended, counts_unread}
+use Rattle.output_gate.proofs.Reading.{counts_read, read_of, unread_counts, reading_restarted}
 use Rattle.output_gate.proofs.Endings.{keeps_all, logged_restarted}
 use Rattle.output_gate.proofs.Helds.{true_false}
 use Rattle.output_gate.proofs.Histories.{all_below, stops_fit, follows_fits}
@@ -39,7 +44,7 @@ abbrev pub restarted : {D : Type 0} → Back D → BackLog → VecDeque Held Glo
 restarted old log held = record old { held = held; own = 0; needs = old.before; number = old.number + 1; log = log }
 
 abbrev pub LogRestarts : {D : Type 0} → Back D → BackLog → Cause → Type 0
-LogRestarts old log c = backed log ≡ record (backed old.log) { stops = old.log.stops.items ++ stop_of old c ∷ []; ends = old.log.ends.items ++ record { kept = old.own; cause = c } ∷ [] }
+LogRestarts old log c = backed log ≡ record (backed old.log) { stops = old.log.stops.items ++ halt_of old c ∷ []; ends = old.log.ends.items ++ record { kept = old.own; cause = c } ∷ [] }
 
 none_staged : {X : Type 0} (xs : List X) (n : ℕ) → n ≡ n + length xs → xs ≡ []
 none_staged [] n is = refl
@@ -55,10 +60,25 @@ pub record Halting {D : Type 0} (old : Back D) (held : VecDeque Held Global) (h 
   pub ready : h.needs ≤ old.durable
 
 last_halt : {D : Type 0} (old : Back D) (held : VecDeque Held Global) (h : Held) (c : Cause) → HaltsLast old.before old.held.items → Halting old held h c
-    → (held.items ≡ []) × (h.needs ≡ old.before) × (is_halting c ≡ true)
+    → (held.items ≡ []) × (h.needs ≡ old.before) × (not (discards c (is_read c)) ≡ true)
 last_halt old held h c last halting =
     let all = (subst (HaltsLast old.before) halting.first last).0 (ap is_held_halt halting.body) in
     (all.0, all.1, sym (ap halts_well halting.body) ∙ all.2)
+
+-- the last entry is the halt, or the stop is by a read
+by_halt : {D : Type 0} {old : Back D} (held : VecDeque Held Global) (h : Held) (c : Cause) → held.items ≡ [] → Halting old held h c → (e : Entry) → HaltsBy e old
+    → (is_halt e.body ≡ true) ⊎ ((halt_of old c).read ≡ true)
+by_halt held h c none halting e (inl halts) = inl halts
+by_halt held h c none halting e (inr by) =
+    inr (read_of c by.1 (sym (ap unread_in (halting.first ∙ ap (λ rest. h ∷ rest) none) ∙ append-nil (unread_by h.body) ∙ ap unread_by halting.body) ∙ by.2))
+
+-- what isn't by a read has no counts
+none_counted : (c : Cause) → is_read c ≡ false → stop_counts c ≡ []
+none_counted (cause.Disk before after) is = absurd (true_false is)
+none_counted (cause.Full needed limit) is = refl
+none_counted cause.Exceeded is = refl
+none_counted cause.StartThrew is = refl
+none_counted cause.BlockThrew is = refl
 
 -- where the log stands behind a halt
 pub restart_place : (front : Fronted) (back : Backed) (stop : Stop) (own : ℕ) → AreLogs back → stop.flights ≡ length back.flights → length back.ends ≡ length back.stops
@@ -70,11 +90,16 @@ restart_place front back stop own logs all followed =
     place_followed front mid (record { kept = own; cause = stop.cause }) (stops_fit front_none back stop logs all) n (omega (arith, length_push back.stops stop)) followed
     (suc n) [] (record (going_on front n (own_entries back) (own_flights back)) { stop = Some stop }) (older_of front back) (place_stopped front back stop logs all)
 
-module _ {D : Type 0} (told : D → Option (List ℕ)) (image : D → List ℕ → Type 0) where
+-- all batches are durable, whatever ended it
+halt_durable : (read : Bool) (own flown : ℕ) → own ≡ flown → (if read then own else flown) ≡ flown
+halt_durable true own flown is = is
+halt_durable false own flown is = refl
+
+module _ {D : Type 0} (told : D → Option (List ℕ)) (image : D → List ℕ → Type 0) (sound : Bool) where
   halt_room : (old : Back D) (log : BackLog) (held : VecDeque Held Global) (c : Cause) → HasRoom old → LogRestarts old log c → old.before ≡ old.durable → HasRoom (restarted old log held)
   halt_room old log held c room is even =
       let b : Backed = backed old.log in
-      let stop : Stop = stop_of old c in
+      let stop : Stop = halt_of old c in
       let end : End = record { kept = old.own; cause = c } in
       let mid : Backed = record b { stops = b.stops ++ stop ∷ [] } in
       let n : ℕ = length old.log.stops.items in
@@ -92,8 +117,8 @@ module _ {D : Type 0} (told : D → Option (List ℕ)) (image : D → List ℕ �
         followed = omega (arith, room.followed, ap (λ (x : Backed). length x.ends) is, length_push old.log.ends.items end, ap (λ (x : Backed). length x.stops) is, stopped);
       }
 
-  safe_restart : (old : Back D) (log : BackLog) (held : VecDeque Held Global) (h : Held) (c : Cause) (journal : Journal D) → IsSafe told image journal old → Halting old held h c → LogRestarts old log c
-      → IsSafe told image journal (restarted old log held)
+  safe_restart : (old : Back D) (log : BackLog) (held : VecDeque Held Global) (h : Held) (c : Cause) (journal : Journal D) → IsSafe told image sound journal old → Halting old held h c → LogRestarts old log c
+      → IsSafe told image sound journal (restarted old log held)
   safe_restart old log held h c journal s halting is =
       let last = last_halt old held h c s.halts halting in
       let even : old.before ≡ old.durable = omega (arith, s.unflown, last.1, halting.ready) in
@@ -112,32 +137,34 @@ module _ {D : Type 0} (told : D → Option (List ℕ)) (image : D → List ℕ �
         nameless = s.nameless;
         halts = subst (HaltsLast old.before) (sym last.0) tt;
         halted = λ has. absurd (true_false (sym has ∙ ap has_halt last.0));
+        stored = s.stored;
       }
 
 module _ {D : Type 0} (moment_of : D → ℕ) (left_since : D → ℕ → List ℕ → Type 0) (told : D → Option (List ℕ)) (image : D → List ℕ → Type 0) (faults_of : D → ℕ) (start : List (List Op)) (opening : ℕ) (sound : Bool) where
-  serves_restart : (old : Back D) (log : BackLog) (held : VecDeque Held Global) (h : Held) (c : Cause) (journal : Journal D) → IsSafe told image journal old
+  serves_restart : (old : Back D) (log : BackLog) (held : VecDeque Held Global) (h : Held) (c : Cause) (journal : Journal D) → IsSafe told image sound journal old
       → IsServing moment_of left_since told image start opening sound journal old → Halting old held h c → LogRestarts old log c
       → IsServing moment_of left_since told image start opening sound journal (restarted old log held)
   serves_restart old log held h c journal safe s halting is =
       let last = last_halt old held h c safe.halts halting in
       let even : old.before ≡ old.durable = omega (arith, safe.unflown, last.1, halting.ready) in
       let b : Backed = backed old.log in
-      let stop : Stop = stop_of old c in
+      let stop : Stop = halt_of old c in
       let n : ℕ = length old.log.stops.items in
       let ended : Fronted → Incarnation = λ front. record (going_on front n (own_entries b) (own_flights b)) { stop = Some stop } in
       let place : (front : Fronted) → place_of front (backed log) ≡ record (place_down (suc n) [] (ended front) (older_of front b)) { older = record (ended front) { kept = Some old.own } ∷ older_of front b } =
       λ front. ap (place_of front) is ∙ restart_place front b stop old.own s.room.logs refl s.room.followed in
       let waits : waiting_in old.held.items ≡ [] =
       ap waiting_in halting.first ∙ ap (λ ps. ps ++ waiting_in held.items) (halt_waits h c halting.body) ∙ ap waiting_in last.0 in
-      let bound : bound_by (Some stop) (own_flights b) ≡ None = ap (λ yes. bound_if yes c (sum (own_flights b))) (keeps_all c last.2) in
+      let bound : bound_by (Some stop) (own_flights b) ≡ None = ap (λ yes. bound_if yes c (durable_by (Some stop) (own_flights b))) (keeps_all c last.2) in
       record {
-        room = halt_room told image old log held c s.room is even;
+        room = halt_room told image sound old log held c s.room is even;
         frames = s.frames;
         left = s.left;
         flown = s.flown;
         staged = s.staged;
         gate = λ front.
             let l : Lists = record { released = old.log.released.items; left = s.left; waiting = waiting_in old.held.items; flown = s.flown; staged = s.staged } in
+            let g = s.gate front in
             subst (λ (x : Place × List Release × List Passed). IsGate moment_of left_since old.identity start opening front x.0 (disk_in journal)
             (record l { released = x.1; waiting = x.2 }) old.before old.durable)
             (ap (λ (k : ℕ). (record (place_down (suc n) [] (ended front) (older_of front b)) { older = record (ended front) { kept = Some k } ∷ older_of front b }, old.log.released.items, waiting_in old.held.items)) (sym s.room.own)
@@ -147,7 +174,7 @@ module _ {D : Type 0} (moment_of : D → ℕ) (left_since : D → ℕ → List �
             (subst (λ (k : ℕ). IsGate moment_of left_since old.identity start opening front
             (record { ended = suc n; taken = []; flights = []; older = record (ended front) { kept = Some (length (batches_taken (own_entries b))) } ∷ older_of front b }) (disk_in journal) l old.before k) even
             (restarts moment_of left_since old.identity start opening front (place_of front b) (disk_in journal) l old.before stop
-            (subst (λ (k : ℕ). IsGate moment_of left_since old.identity start opening front (place_of front b) (disk_in journal) l old.before k) (sym even) (s.gate front)) waits bound s.room.own refl));
+            (subst (λ (k : ℕ). IsGate moment_of left_since old.identity start opening front (place_of front b) (disk_in journal) l old.before k) (sym even) g) waits bound s.room.own (halt_durable (is_read c) old.own (sum (own_flights b)) (omega (arith, s.room.own, g.counted, g.flown, even)))));
         at_rest = s.at_rest;
         named = s.named;
         batches = s.batches;
@@ -155,14 +182,15 @@ module _ {D : Type 0} (moment_of : D → ℕ) (left_since : D → ℕ → List �
         unflushed = s.unflushed;
         staged_for = s.staged_for;
         nameless = s.nameless;
-        cache = s.cache;
+        stored = s.stored;
+        kept = s.kept;
       }
 
   pub mounted_restart : (old : Back D) (log : BackLog) (held : VecDeque Held Global) (h : Held) (c : Cause) (m : IsMounted moment_of left_since told image faults_of start opening sound old)
       → Halting old held h c → LogRestarts old log c → IsMounted moment_of left_since told image faults_of start opening sound (restarted old log held)
   mounted_restart old log held h c m halting is = record {
     journal = m.journal;
-    safe = safe_restart told image old log held h c m.journal m.safe halting is;
+    safe = safe_restart told image sound old log held h c m.journal m.safe halting is;
     serves = λ tells. serves_restart old log held h c m.journal m.safe (m.serves tells) halting is;
     logged =
         let s = m.safe in
@@ -170,11 +198,26 @@ module _ {D : Type 0} (moment_of : D → ℕ) (left_since : D → ℕ → List �
         let e = s.halted (ap has_halt halting.first ∙ ap (λ (b : HeldBody). is_held_halt b || has_halt held.items) halting.body) in
         let tells : Type 0 = IsTold (told (disk_in m.journal)) in
         subst (λ (b : Backed). IsLogged tells b (record (marks_of old) { needs = old.before }) 0 old.before old.durable) (sym is)
-        (logged_restarted tells tells (λ yes. yes) (backed old.log) (marks_of old) old.own old.before old.durable (stop_of old c) e.0 s.room.logs refl s.room.followed s.room.own
-        (omega (arith, s.unflown, last.1, halting.ready)) refl refl last.2 e.1 (e.2 ∙ s.room.number) e.3 (λ front. restart_place front (backed old.log) (stop_of old c) old.own s.room.logs refl s.room.followed) m.logged);
-    counts =
+        (logged_restarted tells tells (λ yes. yes) (backed old.log) (marks_of old) old.own old.before old.durable (halt_of old c) e.0 s.room.logs refl s.room.followed s.room.own
+        (omega (arith, s.unflown, last.1, halting.ready)) refl refl last.2 e.1 (e.2 ∙ s.room.number) (by_halt held h c last.0 halting e.0 e.3)
+        (λ front. restart_place front (backed old.log) (halt_of old c) old.own s.room.logs refl s.room.followed) m.logged);
+    counts = counts_halt (is_read c) refl;
+    reads =
         let last = last_halt old held h c m.safe.halts halting in
-        let tells : Type 0 = IsTold (told (disk_in m.journal)) in
-        counts_ended tells tells (λ yes. yes) (backed old.log) (faults_of (disk_in m.journal)) (faults_of (disk_in m.journal)) m.counts (backed log) (stop_of old c)
-        (ap (λ (b : Backed). b.stops) is) (ap (λ (b : Backed). b.downs) is) (no_counts c last.2) (omega arith);
+        let only : old.held.items ≡ h ∷ [] = halting.first ∙ ap (λ rest. h ∷ rest) last.0 in
+        reading_restarted (IsTold (told (disk_in m.journal))) (faults_of (disk_in m.journal)) old (restarted old log held) h c (halt_of old c) only halting.body last.0 m.safe.room.number refl refl
+        (ap (λ (b : Backed). b.stops) is) refl m.reads;
   }
+    where
+      counts_halt : (read : Bool) → is_read c ≡ read → AreCounted (IsTold (told (disk_in m.journal))) (backed log) (faults_of (disk_in m.journal))
+      counts_halt true reads =
+          let last = last_halt old held h c m.safe.halts halting in
+          let counts = counts_read c reads in
+          let unread : unread_in old.held.items ≡ counts.0 ∷ [] =
+          ap unread_in (halting.first ∙ ap (λ rest. h ∷ rest) last.0) ∙ append-nil (unread_by h.body) ∙ ap unread_by halting.body ∙ counts.1 in
+          let u = m.reads.unread counts.0 unread in
+          counts_unread (IsTold (told (disk_in m.journal))) (IsTold (told (disk_in m.journal))) (λ yes. yes) (backed old.log) (faults_of (disk_in m.journal)) (faults_of (disk_in m.journal)) m.counts (backed log) (halt_of old c) counts.0
+          (ap (λ (b : Backed). b.stops) is) (ap (λ (b : Backed). b.downs) is) (sym (unread_counts c) ∙ counts.1) u.rising u.rose
+      counts_halt false reads =
+          counts_ended (IsTold (told (disk_in m.journal))) (IsTold (told (disk_in m.journal))) (λ yes. yes) (backed old.log) (faults_of (disk_in m.journal)) (faults_of (disk_in m.journal)) m.counts (backed log) (halt_of old c)
+          (ap (λ (b : Backed). b.stops) is) (ap (λ (b : Backed). b.downs) is) (none_counted c reads) (omega arith)

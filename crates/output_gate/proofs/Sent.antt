@@ -3,14 +3,8 @@ use denote.RattleType.{RattleType}
 use denote.Param.Send.{IsSend, plain_send, sendable}
 use denote.Param.SendFields.{as_row_send, declared_send, variants_send}
 use Rattle.std.proofs.Crossing.{crosses}
-use Rattle.std.proofs.MapsCrossing as maps
-use Rattle.do_value.proofs.num.Num.TheSendSync as num
-use Rattle.do_value.proofs.text.Text.TheSendSync as text
-use Rattle.do_value.proofs.value.Fields.TheLaws.TheKnot as values
-use Rattle.storage_map.proofs.alarm.Alarm.TheSendSync as alarm
 use Rattle.storage_map.proofs.identity.Identity.TheSendSync as identity
-use Rattle.storage_map.specs.contracts.map.Map as Map
-use Rattle.storage_cache.specs.contracts.cache.Cache as Cache
+use Rattle.storage_cache.proofs.Sent.{cache_send}
 use Rattle.batch_journal.specs.contracts.pending.Pending as Pending
 use Rattle.batch_journal.specs.contracts.journal.Journal as Journal
 use Rattle.timeline.proofs.Sent.{message_send, back_log_send}
@@ -30,13 +24,6 @@ body_send = variants_send HeldBody.enum (search (parts, message_send, cause.the_
 
 held_send : IsSend Held.the_row
 held_send = declared_send Held.the_type (search (parts, body_send) depth 20 fits 4000)
-
--- ---- the storage as a task sees it
-map_send : IsSend Map.the_row
-map_send = search (sendable, crosses, maps.crosses, values.crosses, num.the_send, num.the_sync, text.the_send, text.the_sync, alarm.the_send) depth 40 fits 8000
-
-cache_send : IsSend Cache.the_row
-cache_send = search (sendable, crosses, map_send) depth 20 fits 4000
 
 -- ---- the mode
 ending_send : IsSend Ending.the_row

@@ -1,5 +1,5 @@
 -- What taking an entry does to a back that serves.
-use Rattle.std.proofs.Common.{◌≡◌, ◌∙◌, ap, sym, refl, subst, ℕ, suc, ◌+◌, ◌≤◌, List, [], ◌∷◌, ◌++◌, append-nil, append_assoc, length, length-append, arith, Option, Some, None}
+use Rattle.std.proofs.Common.{◌≡◌, ◌∙◌, ap, sym, refl, subst, inl, inr, ⊎_elim, ℕ, suc, ◌+◌, ◌<◌, ◌≤◌, List, [], ◌∷◌, ◌++◌, append-nil, append_assoc, length, length-append, arith, Option, Some, None}
 use Rattle.std.proofs.lemmas.Grind.{flat_map-append}
 use Rattle.std.proofs.lemmas.List.{length_push}
 use Rattle.storage_map.proofs.Folds.{apply-append}
@@ -8,6 +8,7 @@ use Rattle.batch_journal.specs.Moments.{IsTold}
 use Rattle.batch_journal.specs.Rest.{IsAtRest, IsStaged, disk_in}
 use Rattle.batch_journal.specs.Frames.{Frame}
 use Rattle.batch_journal.specs.declared.journal.Journal.{Journal}
+use Rattle.storage_cache.specs.Cached.{Cached}
 use Rattle.storage_map.specs.Contents.{Contents, nothing, apply}
 use Rattle.storage_map.specs.Limits.{Object}
 use Rattle.storage_map.specs.declared.op.Op.{Op}
@@ -20,24 +21,28 @@ use Rattle.timeline.specs.declared.back_log.Release.{Release}
 use Rattle.timeline.specs.declared.entry.Body.TheVariants as body
 use Rattle.timeline.specs.declared.entry.Entry.{Entry}
 use Rattle.output_gate.specs.Gate.{Place, place_of, Lists, IsGate}
-use Rattle.output_gate.specs.Held.{passed_of, waiting_in, is_held_halt, has_halt, halts_well, HaltsLast}
+use Rattle.output_gate.specs.Held.{passed_of, waiting_in, is_held_halt, has_halt, halts_well, unread_by, unread_in, HaltsLast}
 use Rattle.output_gate.specs.Passing.{IsSilent}
+use Rattle.output_gate.specs.Kept.{MayBe}
 use Rattle.output_gate.specs.declared.held.Held.{Held}
+use Rattle.output_gate.specs.declared.held.HeldBody.TheVariants as held_body
+use Rattle.timeline.specs.declared.caller.Cause.TheVariants as causes
 use Rattle.timeline.specs.declared.message.Message.{Message}
 use Rattle.std.proofs.Common.{Global}
 use Rattle.std.specs.declared.collections.VecDeque.{VecDeque}
 use Rattle.std.specs.Prelude.{Bool, true, false}
 use Rattle.storage_map.specs.Ops.{batch_bytes}
-use Rattle.output_gate.specs.Counted.{AreCounted}
+use Rattle.object_storage.specs.Stored.{HasStored, HasKept, HasSome}
+use Rattle.output_gate.specs.Counted.{AreCounted, AreRising, HasRisenIn, counts_in}
 use Rattle.output_gate.specs.Ended.{IsLogged}
 use Rattle.output_gate.specs.Fits.{is_halt, last_of, comes_behind}
 use Rattle.output_gate.specs.declared.store.Store.{Store}
 use Rattle.output_gate.specs.declared.store.Store.TheVariants as store
-use Rattle.output_gate.specs.Serving.{HasRoom, IsSafe, IsServing, IsMounted, marks_of}
+use Rattle.output_gate.specs.Serving.{HaltsBy, HasRoom, IsSafe, IsServing, IsMounted, IsReading, marks_of}
 use Rattle.output_gate.specs.Standing.{AreLogs, own_entries, older_of}
 use Rattle.output_gate.specs.Taking.{LogTook, LogSame}
 use Rattle.output_gate.specs.declared.back.Back.{Back}
-use Rattle.output_gate.proofs.Flushes.{front_none, placed}
+use Rattle.output_gate.proofs.Flushes.{be_same, front_none, may_be, placed}
 use Rattle.output_gate.proofs.Helds.{true_false, halts_none, halts_push, push_none}
 use Rattle.output_gate.proofs.Named.{some_none, no_frames, named_gate}
 use Rattle.output_gate.proofs.Gates.{batches_more, takes_batch, takes_silent, takes_message}
@@ -45,6 +50,7 @@ use Rattle.output_gate.proofs.Histories.{takes as history_takes, takes_fit}
 use Rattle.output_gate.proofs.Counts.{counts_stay}
 use Rattle.output_gate.proofs.Endings.{logged_took, logged_said, logged_same}
 use Rattle.output_gate.proofs.Ordered.{last_push, no_halt}
+use Rattle.output_gate.proofs.Reading.{reading_stays, reading_none, reading_fails, unread_push, unread_none}
 
 -- the operations of one more batch
 applies : (line : List (List Op)) (ops : List Op) → apply (apply nothing (flat_map (λ x. x) line)) ops ≡ apply nothing (flat_map (λ x. x) (line ++ ops ∷ []))
@@ -71,7 +77,7 @@ abbrev pub bind_entry : {D : Type 0} → Back D → ℕ → Object → Entry
 bind_entry back number object = record { incarnation = back.number; number = number; body = body.Bind object }
 
 -- the back with a batch more
-abbrev pub with_batch : {D : Type 0} → Back D → BackLog → Journal D → Contents → (bytes needs : ℕ) → Back D
+abbrev pub with_batch : {D : Type 0} → Back D → BackLog → Journal D → Cached → (bytes needs : ℕ) → Back D
 with_batch old log journal cache bytes needs =
     record old { store = store.Journal journal; cache = cache; log = log; before = old.before + 1; own = old.own + 1; needs = needs; unflushed = bytes }
 
@@ -91,7 +97,7 @@ same_object one other same = ap (λ (o : Option Object). named_or o one) same
 -- the log's lists and the counters fit still
 pub took_room : {D : Type 0} (old : Back D) (log : BackLog) (e : Entry) (more : ℕ) → HasRoom old → e.incarnation ≡ suc (length old.log.stops.items) → LogTook old.log log e
     → more ≡ length (batches_of (said_by e.body)) → more ≤ 1
-    → (later : Store D) (cache : Contents) (held : VecDeque Held Global) (identity : Option Object) (bytes needs : ℕ)
+    → (later : Store D) (cache : Cached) (held : VecDeque Held Global) (identity : Option Object) (bytes needs : ℕ)
     → HasRoom (record old { store = later; cache = cache; identity = identity; held = held; log = log; before = old.before + more; own = old.own + more; needs = needs; unflushed = bytes })
 took_room old log e more room is took count most later cache held identity bytes needs =
     let own : own_entries (backed log) ≡ own_entries (backed old.log) ++ e ∷ [] = ap (λ (p : Place). p.taken) (took_place old.log log e room.logs is took.taken front_none) in
@@ -107,7 +113,7 @@ took_room old log e more room is took count most later cache held identity bytes
       followed = ap (λ (b : Backed). length b.ends) took.taken ∙ room.followed ∙ ap (λ (b : Backed). length b.stops) (sym took.taken);
     }
 
-pub same_room : {D : Type 0} (old : Back D) (log : BackLog) → HasRoom old → LogSame old.log log → (later : Store D) (cache : Contents) (held : VecDeque Held Global) (stuck : Bool)
+pub same_room : {D : Type 0} (old : Back D) (log : BackLog) → HasRoom old → LogSame old.log log → (later : Store D) (cache : Cached) (held : VecDeque Held Global) (stuck : Bool)
     → HasRoom (record old { store = later; cache = cache; held = held; stuck = stuck; log = log })
 same_room old log room same later cache held stuck = record {
   logs = subst AreLogs (sym same.same) room.logs;
@@ -145,27 +151,68 @@ halted_as : (old new : List Held) (e : Entry) (before : ℕ) (more : List Passed
 halted_as old new e before more (HoldsMore.nothing_more same empty other) free has = absurd (true_false (sym has ∙ ap has_halt same ∙ free))
 halted_as old new e before more (HoldsMore.one_more h is says last halts) free has = halted_if old h (is_halt e.body) free (sym (ap has_halt is) ∙ has) halts
 
-module _ {D : Type 0} (told : D → Option (List ℕ)) (image : D → List ℕ → Type 0) where
-  free_if : (journal : Journal D) (back : Back D) (s : IsSafe told image journal back) (e : Entry) (b : Bool) → has_halt back.held.items ≡ b
-      → e.incarnation ≡ back.number → comes_behind (last_of back.log.taken.items) e ≡ true → has_halt back.held.items ≡ false
-  free_if journal back s e false is own comes = is
-  free_if journal back s e true is own comes =
+-- some object that it may be
+abbrev pub some_object : Option Object → Object
+some_object None = ([], [])
+some_object (Some object) = object
+
+pub may_some : (identity : Option Object) → MayBe identity (some_object identity)
+may_some None = tt
+may_some (Some object) = refl
+
+pub has_some_of : (identity : Option Object) (frames : List Frame) (staged : List (List Op)) (m : Contents) (cache : Cached)
+    → ((object : Object) → MayBe identity object → HasStored frames object staged cache m) → HasSome cache frames
+has_some_of identity frames staged m cache stored = (some_object identity, staged, m, stored (some_object identity) (may_some identity))
+
+-- What is stored behind a batch.
+pub record StoresOps {D : Type 0} (told : D → Option (List ℕ)) (image : D → List ℕ → Type 0) (journal : Journal D) (old new : Cached) (object : Object) (ops : List Op) : Type 0 where
+  pub stored : (frames : List Frame) (staged : List (List Op)) (m : Contents) → IsAtRest told image journal frames → IsStaged journal object staged → HasStored frames object staged old m
+      → HasStored frames object (staged ++ ops ∷ []) new (apply m ops)
+  pub kept : (frames : List Frame) → HasKept frames old → HasKept frames new
+
+-- the end by a read that failed, as it is held
+abbrev pub unread_held : {D : Type 0} → Back D → ℕ × ℕ → Held
+unread_held old counts = record { body = held_body.Halt (causes.Disk counts.0 counts.1); needs = old.before; since = old.number }
+
+-- the last entry is that by which the held halt came, of a back that holds the same
+halts_same : {D : Type 0} (e : Entry) (old new : Back D) → new.closed ≡ old.closed → new.number ≡ old.number → new.held.items ≡ old.held.items → HaltsBy e old → HaltsBy e new
+halts_same e old new closed number items (inl halts) = inl halts
+halts_same e old new closed number items (inr by) = inr (closed ∙ by.0 ∙ sym number, by.1, ap unread_in items ∙ by.2)
+
+-- What is stored in one cache is stored in the other, and what that keeps stands too: no batch was taken and none was flushed.
+pub record KeepsStored {D : Type 0} (told : D → Option (List ℕ)) (image : D → List ℕ → Type 0) (journal : Journal D) (old new : Cached) : Type 0 where
+  pub stored : (frames : List Frame) (object : Object) (staged : List (List Op)) (m : Contents) → HasStored frames object staged old m → HasStored frames object staged new m
+  pub kept : (frames : List Frame) → IsAtRest told image journal frames → IsTold (told (disk_in journal)) → HasSome old frames → HasKept frames old → HasKept frames new
+
+pub same_stored : {D : Type 0} (told : D → Option (List ℕ)) (image : D → List ℕ → Type 0) (journal : Journal D) (old new : Cached) → new ≡ old → KeepsStored told image journal old new
+same_stored told image journal old new same = record {
+  stored = λ frames object staged m is. subst (λ (c : Cached). HasStored frames object staged c m) (sym same) is;
+  kept = λ frames rest tells some keeps. subst (HasKept frames) (sym same) keeps;
+}
+
+module _ {D : Type 0} (told : D → Option (List ℕ)) (image : D → List ℕ → Type 0) (sound : Bool) where
+  free_if : (journal : Journal D) (back : Back D) (s : IsSafe told image sound journal back) (e : Entry) (b : Bool) → has_halt back.held.items ≡ b
+      → e.incarnation ≡ back.number → comes_behind (last_of back.log.taken.items) e ≡ true → back.closed < back.number → has_halt back.held.items ≡ false
+  free_if journal back s e false is own comes on = is
+  free_if journal back s e true is own comes on =
       let h = s.halted is in
-      absurd (no_halt h.0 e (h.2 ∙ sym own) h.3 (ap (λ (o : Option Entry). comes_behind o e) (sym h.1) ∙ comes))
+      ⊎_elim (λ halts. absurd (no_halt h.0 e (h.2 ∙ sym own) halts (ap (λ (o : Option Entry). comes_behind o e) (sym h.1) ∙ comes)))
+      (λ by. absurd (omega (arith, by.0, on))) h.3
 
-  pub free : (journal : Journal D) (back : Back D) → IsSafe told image journal back → (e : Entry) → e.incarnation ≡ back.number → comes_behind (last_of back.log.taken.items) e ≡ true → has_halt back.held.items ≡ false
-  free journal back s e own comes = free_if journal back s e (has_halt back.held.items) refl own comes
+  pub free : (journal : Journal D) (back : Back D) → IsSafe told image sound journal back → (e : Entry) → e.incarnation ≡ back.number → comes_behind (last_of back.log.taken.items) e ≡ true
+      → back.closed < back.number → has_halt back.held.items ≡ false
+  free journal back s e own comes on = free_if journal back s e (has_halt back.held.items) refl own comes on
 
-  safe_batch : (old : Back D) (log : BackLog) (number : ℕ) (ops : List Op) (tail : Option ℕ) (confirmed : Bool) (journal later : Journal D) (cache : Contents) (bytes needs : ℕ) (object : Object)
-      → IsSafe told image journal old → LogTook old.log log (batch_entry old number ops tail confirmed) → old.identity ≡ Some object
-      → comes_behind (last_of old.log.taken.items) (batch_entry old number ops tail confirmed) ≡ true
+  safe_batch : (old : Back D) (log : BackLog) (number : ℕ) (ops : List Op) (tail : Option ℕ) (confirmed : Bool) (journal later : Journal D) (cache : Cached) (bytes needs : ℕ) (object : Object)
+      → IsSafe told image sound journal old → LogTook old.log log (batch_entry old number ops tail confirmed) → old.identity ≡ Some object
+      → comes_behind (last_of old.log.taken.items) (batch_entry old number ops tail confirmed) ≡ true → old.closed < old.number
       → ((batches : List (List Op)) → IsStaged journal object batches → IsStaged later object (batches ++ ops ∷ []))
-      → ((frames : List Frame) → IsAtRest told image journal frames → IsAtRest told image later frames)
+      → ((frames : List Frame) → IsAtRest told image journal frames → IsAtRest told image later frames) → StoresOps told image journal old.cache cache object ops
       → bytes ≡ old.unflushed + length (batch_bytes ops)
-      → IsSafe told image later (with_batch old log later cache bytes needs)
-  safe_batch old log number ops tail confirmed journal later cache bytes needs object s took named comes staged frames is =
+      → IsSafe told image sound later (with_batch old log later cache bytes needs)
+  safe_batch old log number ops tail confirmed journal later cache bytes needs object s took named comes on staged frames wrote is =
       let e : Entry = batch_entry old number ops tail confirmed in
-      let none = free journal old s e refl comes in
+      let none = free journal old s e refl comes on in
       record {
         store = refl;
         mode = s.mode;
@@ -181,14 +228,20 @@ module _ {D : Type 0} (told : D → Option (List ℕ)) (image : D → List ℕ �
         nameless = λ nobody. absurd (some_none (sym named ∙ nobody));
         halts = halts_none (old.before + 1) old.held.items none;
         halted = λ has. absurd (true_false (sym has ∙ none));
+        stored = λ yes.
+            let st = s.stored yes in (
+              apply st.0 ops,
+              λ other may. subst (λ (o : Object). HasStored s.frames o (s.staged ++ ops ∷ []) cache (apply st.0 ops)) (be_same old.identity object other named may)
+                  (wrote.stored s.frames s.staged st.0 s.at_rest (s.staged_for object named) (st.1 object (may_be old.identity object named))),
+            );
       }
 
   safe_said : (old : Back D) (log : BackLog) (held : VecDeque Held Global) (e : Entry) (more : List Passed) (journal : Journal D)
-      → IsSafe told image journal old → LogTook old.log log e → e.incarnation ≡ old.number → comes_behind (last_of old.log.taken.items) e ≡ true
+      → IsSafe told image sound journal old → LogTook old.log log e → e.incarnation ≡ old.number → comes_behind (last_of old.log.taken.items) e ≡ true → old.closed < old.number
       → batches_of (said_by e.body) ≡ [] → HoldsMore old.held.items held.items e old.before more
-      → IsSafe told image journal (record old { held = held; log = log })
-  safe_said old log held e more journal s took own comes silent holds =
-      let none = free journal old s e own comes in
+      → IsSafe told image sound journal (record old { held = held; log = log })
+  safe_said old log held e more journal s took own comes on silent holds =
+      let none = free journal old s e own comes on in
       let room = took_room old log e 0 s.room (own ∙ s.room.number) took (ap length (sym silent)) (omega arith) old.store old.cache held old.identity old.unflushed old.needs in
       record {
         store = s.store;
@@ -204,16 +257,49 @@ module _ {D : Type 0} (told : D → Option (List ℕ)) (image : D → List ℕ �
         staged_for = s.staged_for;
         nameless = s.nameless;
         halts = halts_as old.held.items held.items e old.before more holds none;
-        halted = λ has. (e, ap (λ (b : Backed). last_of b.taken) took.taken ∙ last_push old.log.taken.items e, own, halted_as old.held.items held.items e old.before more holds none has);
+        halted = λ has. (e, ap (λ (b : Backed). last_of b.taken) took.taken ∙ last_push old.log.taken.items e, own, inl (halted_as old.held.items held.items e old.before more holds none has));
+        stored = s.stored;
+      }
+
+  -- a read failed, and the end by that is held
+  safe_unread : (old : Back D) (log : BackLog) (held : VecDeque Held Global) (e : Entry) (h : Held) (counts : ℕ × ℕ) (journal : Journal D)
+      → IsSafe told image sound journal old → LogTook old.log log e → e.incarnation ≡ old.number → comes_behind (last_of old.log.taken.items) e ≡ true → old.closed < old.number
+      → batches_of (said_by e.body) ≡ [] → h ≡ unread_held old counts → held.items ≡ old.held.items ++ h ∷ []
+      → IsSafe told image sound journal (record old { held = held; log = log; closed = old.number })
+  safe_unread old log held e h counts journal s took own comes on silent is_held items =
+      let none = free journal old s e own comes on in
+      let room = took_room old log e 0 s.room (own ∙ s.room.number) took (ap length (sym silent)) (omega arith) old.store old.cache held old.identity old.unflushed old.needs in
+      let body : unread_by h.body ≡ counts ∷ [] = ap (λ (x : Held). unread_by x.body) is_held in
+      record {
+        store = s.store;
+        mode = s.mode;
+        room = record { logs = room.logs; flights = λ other. took.flights; stops = λ other. took.stops; number = room.number; own = omega (arith, room.own); few = omega (arith, room.few); own_few = omega (arith, room.own_few); followed = room.followed };
+        frames = s.frames;
+        staged = s.staged;
+        at_rest = s.at_rest;
+        named = s.named;
+        unflown = s.unflown;
+        own = s.own;
+        unflushed = s.unflushed;
+        staged_for = s.staged_for;
+        nameless = s.nameless;
+        halts = subst (HaltsLast old.before) (sym items) (halts_push old.before old.held.items h none (λ yes. (ap (λ (x : Held). x.needs) is_held, ap (λ (x : Held). halts_well x.body) is_held)));
+        halted = λ has. (
+          e,
+          ap (λ (b : Backed). last_of b.taken) took.taken ∙ last_push old.log.taken.items e,
+          own,
+          inr (refl, counts, ap unread_in items ∙ unread_push old.held.items h ∙ ap (λ cs. cs ++ unread_by h.body) (unread_none old.held.items none) ∙ body),
+        );
+        stored = s.stored;
       }
 
   safe_bind : (old : Back D) (log : BackLog) (number : ℕ) (object : Object) (journal : Journal D)
-      → IsSafe told image journal old → LogTook old.log log (bind_entry old number object) → old.identity ≡ None
-      → comes_behind (last_of old.log.taken.items) (bind_entry old number object) ≡ true
-      → IsSafe told image journal (record old { identity = Some object; log = log })
-  safe_bind old log number object journal s took nobody comes =
+      → IsSafe told image sound journal old → LogTook old.log log (bind_entry old number object) → old.identity ≡ None
+      → comes_behind (last_of old.log.taken.items) (bind_entry old number object) ≡ true → old.closed < old.number
+      → IsSafe told image sound journal (record old { identity = Some object; log = log })
+  safe_bind old log number object journal s took nobody comes on =
       let e : Entry = bind_entry old number object in
-      let none = free journal old s e refl comes in
+      let none = free journal old s e refl comes on in
       let room = took_room old log e 0 s.room s.room.number took refl (omega arith) old.store old.cache old.held (Some object) old.unflushed old.needs in
       let nothing = s.nameless nobody in
       record {
@@ -231,14 +317,15 @@ module _ {D : Type 0} (told : D → Option (List ℕ)) (image : D → List ℕ �
         nameless = λ is. absurd (some_none is);
         halts = halts_none old.before old.held.items none;
         halted = λ has. absurd (true_false (sym has ∙ none));
+        stored = λ yes. let st = s.stored yes in (st.0, λ other same. st.1 other (subst (λ (i : Option Object). MayBe i other) (sym nobody) tt));
       }
 
-  safe_same : (old : Back D) (log : BackLog) (held : VecDeque Held Global) (journal later : Journal D) (cache : Contents) (stuck : Bool)
-      → IsSafe told image journal old → LogSame old.log log → held.items ≡ old.held.items
+  pub safe_same : (out : Bool) (old : Back D) (log : BackLog) (held : VecDeque Held Global) (journal later : Journal D) (cache : Cached) (stuck : Bool)
+      → IsSafe told image sound journal old → LogSame old.log log → held.items ≡ old.held.items
       → ((object : Object) (batches : List (List Op)) → IsStaged journal object batches → IsStaged later object batches)
-      → ((frames : List Frame) → IsAtRest told image journal frames → IsAtRest told image later frames)
-      → IsSafe told image later (record old { store = store.Journal later; cache = cache; held = held; stuck = stuck; log = log })
-  safe_same old log held journal later cache stuck s same items staged frames = record {
+      → ((frames : List Frame) → IsAtRest told image journal frames → IsAtRest told image later frames) → (out ≡ true → (sound ≡ true) × KeepsStored told image journal old.cache cache)
+      → IsSafe told image out later (record old { store = store.Journal later; cache = cache; held = held; stuck = stuck; log = log })
+  safe_same out old log held journal later cache stuck s same items staged frames keeps = record {
     store = refl;
     mode = s.mode;
     room = same_room old log s.room same (store.Journal later) cache held stuck;
@@ -252,15 +339,21 @@ module _ {D : Type 0} (told : D → Option (List ℕ)) (image : D → List ℕ �
     staged_for = λ object is. staged object s.staged (s.staged_for object is);
     nameless = λ is. ((s.nameless is).0, λ object. staged object [] ((s.nameless is).1 object));
     halts = subst (HaltsLast old.before) (sym items) s.halts;
-    halted = λ has. let h = s.halted (sym (ap has_halt items) ∙ has) in (h.0, ap (λ (b : Backed). last_of b.taken) same.same ∙ h.1, h.2, h.3);
+    halted = λ has. let h = s.halted (sym (ap has_halt items) ∙ has) in (
+      h.0,
+      ap (λ (b : Backed). last_of b.taken) same.same ∙ h.1,
+      h.2,
+      halts_same h.0 old (record old { store = store.Journal later; cache = cache; held = held; stuck = stuck; log = log }) refl refl items h.3,
+    );
+    stored = λ yes. let k = keeps yes in let st = s.stored k.0 in (st.0, λ other may. k.1.stored s.frames other s.staged st.0 (st.1 other may));
   }
 
 module _ {D : Type 0} (moment_of : D → ℕ) (left_since : D → ℕ → List ℕ → Type 0) (told : D → Option (List ℕ)) (image : D → List ℕ → Type 0) (faults_of : D → ℕ) (start : List (List Op)) (opening : ℕ) (sound : Bool) where
-  serves_batch : (old : Back D) (log : BackLog) (number : ℕ) (ops : List Op) (tail : Option ℕ) (confirmed : Bool) (journal later : Journal D) (cache : Contents) (bytes needs : ℕ) (object : Object)
+  serves_batch : (old : Back D) (log : BackLog) (number : ℕ) (ops : List Op) (tail : Option ℕ) (confirmed : Bool) (journal later : Journal D) (cache : Cached) (bytes needs : ℕ) (object : Object)
       → IsServing moment_of left_since told image start opening sound journal old → LogTook old.log log (batch_entry old number ops tail confirmed) → old.identity ≡ Some object
       → ((batches : List (List Op)) → IsStaged journal object batches → IsStaged later object (batches ++ ops ∷ []))
       → ((frames : List Frame) → IsAtRest told image journal frames → IsAtRest told image later frames)
-      → disk_in later ≡ disk_in journal → cache ≡ apply old.cache ops → bytes ≡ old.unflushed + length (batch_bytes ops)
+      → disk_in later ≡ disk_in journal → StoresOps told image journal old.cache cache object ops → bytes ≡ old.unflushed + length (batch_bytes ops)
       → IsServing moment_of left_since told image start opening sound later (with_batch old log later cache bytes needs)
   serves_batch old log number ops tail confirmed journal later cache bytes needs object s took named staged frames disk wrote is =
       let e : Entry = batch_entry old number ops tail confirmed in
@@ -286,16 +379,21 @@ module _ {D : Type 0} (moment_of : D → ℕ) (left_since : D → ℕ → List �
         unflushed = is ∙ more_bytes s.staged ops old.unflushed s.unflushed;
         staged_for = λ other is_named. subst (λ (o : Object). IsStaged later o (s.staged ++ ops ∷ [])) (same_object object other (sym named ∙ is_named)) (staged s.staged (s.staged_for object named));
         nameless = λ nobody. absurd (some_none (sym named ∙ nobody));
-        cache = λ yes. wrote ∙ ap (λ m. apply m ops) (s.cache yes) ∙ applies line ops ∙ ap (λ bs. apply nothing (flat_map (λ x. x) bs)) (append_assoc (start ++ s.flown) s.staged (ops ∷ []));
+        stored = λ yes other may.
+            subst (λ (x : Object × Contents). HasStored s.frames x.0 (s.staged ++ ops ∷ []) cache x.1)
+            (ap (λ (o : Object). (o, apply (apply nothing (flat_map (λ x. x) line)) ops)) (be_same old.identity object other named may)
+            ∙ ap (λ (m : Contents). (other, m)) (applies line ops ∙ ap (λ bs. apply nothing (flat_map (λ x. x) bs)) (append_assoc (start ++ s.flown) s.staged (ops ∷ []))))
+            (wrote.stored s.frames s.staged (apply nothing (flat_map (λ x. x) line)) s.at_rest (s.staged_for object named) (s.stored yes object (may_be old.identity object named)));
+        kept = λ yes. wrote.kept s.frames (s.kept yes);
       }
 
   -- An entry that writes nothing: what is held is added to by the messages that wait for it.
-  serves_said : (old : Back D) (log : BackLog) (held : VecDeque Held Global) (e : Entry) (more : List Passed) (journal : Journal D) → IsServing moment_of left_since told image start opening sound journal old
+  serves_said : (old : Back D) (log : BackLog) (held : VecDeque Held Global) (closed : ℕ) (e : Entry) (more : List Passed) (journal : Journal D) → IsServing moment_of left_since told image start opening sound journal old
       → LogTook old.log log e → e.incarnation ≡ old.number → batches_of (said_by e.body) ≡ [] → waiting_in held.items ≡ waiting_in old.held.items ++ more
       → ((front : Fronted) (s : IsServing moment_of left_since told image start opening sound journal old) → IsGate moment_of left_since old.identity start opening front (record (place_of front (backed old.log)) { taken = own_entries (backed old.log) ++ e ∷ [] })
       (disk_in journal) (record { released = old.log.released.items; left = s.left; waiting = waiting_in old.held.items ++ more; flown = s.flown; staged = s.staged }) old.before old.durable)
-      → IsServing moment_of left_since told image start opening sound journal (record old { held = held; log = log })
-  serves_said old log held e more journal s took own silent waits gate =
+      → IsServing moment_of left_since told image start opening sound journal (record old { held = held; log = log; closed = closed })
+  serves_said old log held closed e more journal s took own silent waits gate =
       let released : log.released.items ≡ old.log.released.items = ap (λ (b : Backed). b.released) took.taken in
       let number : e.incarnation ≡ suc (length old.log.stops.items) = own ∙ s.room.number in
       let room = took_room old log e 0 s.room number took (ap length (sym silent)) (omega arith) old.store old.cache held old.identity old.unflushed old.needs in
@@ -319,15 +417,16 @@ module _ {D : Type 0} (moment_of : D → ℕ) (left_since : D → ℕ → List �
         unflushed = s.unflushed;
         staged_for = s.staged_for;
         nameless = s.nameless;
-        cache = s.cache;
+        stored = s.stored;
+        kept = s.kept;
       }
 
-  serves_silent : (old : Back D) (log : BackLog) (held : VecDeque Held Global) (e : Entry) (journal : Journal D) → IsServing moment_of left_since told image start opening sound journal old
+  serves_silent : (old : Back D) (log : BackLog) (held : VecDeque Held Global) (closed : ℕ) (e : Entry) (journal : Journal D) → IsServing moment_of left_since told image start opening sound journal old
       → LogTook old.log log e → e.incarnation ≡ old.number → is_mend e.body ≡ false → IsSilent e.body → batches_of (said_by e.body) ≡ []
       → waiting_in held.items ≡ waiting_in old.held.items ++ []
-      → IsServing moment_of left_since told image start opening sound journal (record old { held = held; log = log })
-  serves_silent old log held e journal s took own other silent none waits =
-      serves_said old log held e [] journal s took own none waits
+      → IsServing moment_of left_since told image start opening sound journal (record old { held = held; log = log; closed = closed })
+  serves_silent old log held closed e journal s took own other silent none waits =
+      serves_said old log held closed e [] journal s took own none waits
       (λ front t.
       let l : Lists = record { released = old.log.released.items; left = t.left; waiting = waiting_in old.held.items; flown = t.flown; staged = t.staged } in
       subst (λ (ws : List Passed). IsGate moment_of left_since old.identity start opening front (record (place_of front (backed old.log)) { taken = own_entries (backed old.log) ++ e ∷ [] }) (disk_in journal)
@@ -341,7 +440,7 @@ module _ {D : Type 0} (moment_of : D → ℕ) (left_since : D → ℕ → List �
       → IsServing moment_of left_since told image start opening sound journal (record old { held = held; log = log })
   serves_message old log held e sent journal s took own says reach waits =
       let one : ℕ → Passed = λ n. record { message = sent; needs = old.needs; since = n } in
-      serves_said old log held e (one (suc (length old.log.stops.items)) ∷ []) journal s took own (ap (λ b. batches_of (said_by b)) says)
+      serves_said old log held old.closed e (one (suc (length old.log.stops.items)) ∷ []) journal s took own (ap (λ b. batches_of (said_by b)) says)
       (waits ∙ ap (λ n. waiting_in old.held.items ++ one n ∷ []) s.room.number)
       (λ front t. takes_message moment_of left_since old.identity start opening front (place_of front (backed old.log))
       (record { released = old.log.released.items; left = t.left; waiting = waiting_in old.held.items; flown = t.flown; staged = t.staged }) old.before old.durable (disk_in journal) e sent old.needs says (reach front) (t.gate front))
@@ -352,7 +451,7 @@ module _ {D : Type 0} (moment_of : D → ℕ) (left_since : D → ℕ → List �
       → IsServing moment_of left_since told image start opening sound journal (record old { identity = Some object; log = log })
   serves_bind old log number object journal s took nobody =
       let e : Entry = bind_entry old number object in
-      let said = serves_silent old log old.held e journal s took refl refl (λ n k. refl) refl (sym (append-nil (waiting_in old.held.items))) in
+      let said = serves_silent old log old.held old.closed e journal s took refl refl (λ n k. refl) refl (sym (append-nil (waiting_in old.held.items))) in
       record {
         room = record {
           logs = said.room.logs;
@@ -379,16 +478,17 @@ module _ {D : Type 0} (moment_of : D → ℕ) (left_since : D → ℕ → List �
         unflushed = said.unflushed;
         staged_for = λ other is. subst (λ bs. IsStaged journal other bs) (sym (said.nameless nobody).0) ((said.nameless nobody).1 other);
         nameless = λ is. absurd (some_none is);
-        cache = said.cache;
+        stored = λ yes other same. said.stored yes other (subst (λ (i : Option Object). MayBe i other) (sym nobody) tt);
+        kept = said.kept;
       }
 
-  serves_same : (out : Bool) (old : Back D) (log : BackLog) (held : VecDeque Held Global) (journal later : Journal D) (cache : Contents) (stuck : Bool)
+  serves_same : (out : Bool) (old : Back D) (log : BackLog) (held : VecDeque Held Global) (journal later : Journal D) (cache : Cached) (stuck : Bool)
       → IsServing moment_of left_since told image start opening sound journal old → LogSame old.log log → held.items ≡ old.held.items
       → ((object : Object) (batches : List (List Op)) → IsStaged journal object batches → IsStaged later object batches)
       → ((frames : List Frame) → IsAtRest told image journal frames → IsAtRest told image later frames)
-      → disk_in later ≡ disk_in journal → (out ≡ true → (sound ≡ true) × (cache ≡ old.cache))
+      → disk_in later ≡ disk_in journal → IsTold (told (disk_in journal)) → (out ≡ true → (sound ≡ true) × KeepsStored told image journal old.cache cache)
       → IsServing moment_of left_since told image start opening out later (record old { store = store.Journal later; cache = cache; held = held; stuck = stuck; log = log })
-  serves_same out old log held journal later cache stuck s same items staged frames disk keeps = record {
+  serves_same out old log held journal later cache stuck s same items staged frames disk tells keeps = record {
     room = same_room old log s.room same (store.Journal later) cache held stuck;
     frames = s.frames;
     left = s.left;
@@ -406,7 +506,10 @@ module _ {D : Type 0} (moment_of : D → ℕ) (left_since : D → ℕ → List �
     unflushed = s.unflushed;
     staged_for = λ object is. staged object s.staged (s.staged_for object is);
     nameless = λ is. ((s.nameless is).0, λ object. staged object [] ((s.nameless is).1 object));
-    cache = λ yes. let k = keeps yes in k.1 ∙ s.cache k.0;
+    stored = λ yes other may. let k = keeps yes in k.1.stored s.frames other s.staged (apply nothing (flat_map (λ x. x) (start ++ s.flown ++ s.staged))) (s.stored k.0 other may);
+    kept = λ yes.
+        let k = keeps yes in
+        k.1.kept s.frames s.at_rest tells (has_some_of old.identity s.frames s.staged (apply nothing (flat_map (λ x. x) (start ++ s.flown ++ s.staged))) old.cache (s.stored k.0)) (s.kept k.0);
   }
 
   -- what the log shows behind an entry that writes nothing
@@ -422,78 +525,114 @@ module _ {D : Type 0} (moment_of : D → ℕ) (left_since : D → ℕ → List �
   took_counts old log e m later disk took =
       counts_stay told faults_of (disk_in m.journal) later (backed old.log) (backed log) disk (ap (λ (b : Backed). b.stops) took.taken) (ap (λ (b : Backed). b.downs) took.taken) m.counts
 
+  -- no read has failed of an incarnation that goes on
+  took_reads : (old : Back D) (log : BackLog) (held : VecDeque Held Global) (identity : Option Object) (e : Entry) (m : IsMounted moment_of left_since told image faults_of start opening sound old) → e.incarnation ≡ old.number
+      → comes_behind (last_of old.log.taken.items) e ≡ true → old.closed < old.number → LogTook old.log log e → unread_in held.items ≡ []
+      → IsReading (IsTold (told (disk_in m.journal))) (faults_of (disk_in m.journal)) (record old { identity = identity; held = held; log = log })
+  took_reads old log held identity e m own comes on took unread =
+      reading_none (IsTold (told (disk_in m.journal))) (IsTold (told (disk_in m.journal))) (λ tells. tells) (faults_of (disk_in m.journal)) (faults_of (disk_in m.journal)) (omega arith) old
+      (record old { identity = identity; held = held; log = log }) (ap (λ (b : Backed). b.stops) took.taken) (ap (λ (b : Backed). b.downs) took.taken) refl refl
+      (free told image sound m.journal old m.safe e own comes on) unread m.reads
+
   -- All of it, over any disk.
-  pub mounted_batch : (old : Back D) (log : BackLog) (number : ℕ) (ops : List Op) (tail : Option ℕ) (confirmed : Bool) (later : Journal D) (cache : Contents) (bytes needs : ℕ) (object : Object)
+  pub mounted_batch : (old : Back D) (log : BackLog) (number : ℕ) (ops : List Op) (tail : Option ℕ) (confirmed : Bool) (later : Journal D) (cache : Cached) (bytes needs : ℕ) (object : Object)
       (m : IsMounted moment_of left_since told image faults_of start opening sound old) → LogTook old.log log (batch_entry old number ops tail confirmed) → old.identity ≡ Some object
-      → comes_behind (last_of old.log.taken.items) (batch_entry old number ops tail confirmed) ≡ true
+      → comes_behind (last_of old.log.taken.items) (batch_entry old number ops tail confirmed) ≡ true → old.closed < old.number
       → ((batches : List (List Op)) → IsStaged m.journal object batches → IsStaged later object (batches ++ ops ∷ []))
       → ((frames : List Frame) → IsAtRest told image m.journal frames → IsAtRest told image later frames)
-      → disk_in later ≡ disk_in m.journal → cache ≡ apply old.cache ops → bytes ≡ old.unflushed + length (batch_bytes ops) → needs ≡ follows old.before old.needs confirmed
+      → disk_in later ≡ disk_in m.journal → StoresOps told image m.journal old.cache cache object ops → bytes ≡ old.unflushed + length (batch_bytes ops) → needs ≡ follows old.before old.needs confirmed
       → IsMounted moment_of left_since told image faults_of start opening sound (with_batch old log later cache bytes needs)
-  mounted_batch old log number ops tail confirmed later cache bytes needs object m took named comes staged frames disk wrote is is_needs = record {
+  mounted_batch old log number ops tail confirmed later cache bytes needs object m took named comes on staged frames disk wrote is is_needs = record {
     journal = later;
-    safe = safe_batch told image old log number ops tail confirmed m.journal later cache bytes needs object m.safe took named comes staged frames is;
+    safe = safe_batch told image sound old log number ops tail confirmed m.journal later cache bytes needs object m.safe took named comes on staged frames wrote is;
     serves = λ tells. serves_batch old log number ops tail confirmed m.journal later cache bytes needs object (m.serves (subst (λ (d : D). IsTold (told d)) disk tells)) took named staged frames disk wrote is;
     logged = subst (λ (b : Backed). IsLogged (IsTold (told (disk_in later))) b (record (marks_of old) { needs = needs }) (old.own + 1) (old.before + 1) old.durable) (sym took.taken)
         (logged_took (IsTold (told (disk_in m.journal))) (IsTold (told (disk_in later))) (λ tells. subst (λ (d : D). IsTold (told d)) disk tells) (backed old.log) (marks_of old) old.own old.before old.durable
         (batch_entry old number ops tail confirmed) 1 needs m.safe.room.logs m.safe.room.number m.safe.room.own is_needs m.logged);
     counts = took_counts old log (batch_entry old number ops tail confirmed) m (disk_in later) disk took;
+    reads = reading_stays (IsTold (told (disk_in m.journal))) (IsTold (told (disk_in later))) (λ tells. subst (λ (d : D). IsTold (told d)) disk tells) (faults_of (disk_in m.journal)) (faults_of (disk_in later))
+        (omega (arith, ap faults_of disk)) old (with_batch old log later cache bytes needs) (ap (λ (b : Backed). b.stops) took.taken) (ap (λ (b : Backed). b.downs) took.taken) refl refl refl (λ has. has) m.reads;
   }
 
   pub mounted_silent : (old : Back D) (log : BackLog) (held : VecDeque Held Global) (e : Entry) (m : IsMounted moment_of left_since told image faults_of start opening sound old)
-      → LogTook old.log log e → e.incarnation ≡ old.number → comes_behind (last_of old.log.taken.items) e ≡ true
-      → is_mend e.body ≡ false → IsSilent e.body → batches_of (said_by e.body) ≡ [] → HoldsMore old.held.items held.items e old.before []
+      → LogTook old.log log e → e.incarnation ≡ old.number → comes_behind (last_of old.log.taken.items) e ≡ true → old.closed < old.number
+      → is_mend e.body ≡ false → IsSilent e.body → batches_of (said_by e.body) ≡ [] → HoldsMore old.held.items held.items e old.before [] → unread_in held.items ≡ []
       → IsMounted moment_of left_since told image faults_of start opening sound (record old { held = held; log = log })
-  mounted_silent old log held e m took own comes other silent none holds = record {
+  mounted_silent old log held e m took own comes on other silent none holds unread = record {
     journal = m.journal;
-    safe = safe_said told image old log held e [] m.journal m.safe took own comes none holds;
-    serves = λ tells. serves_silent old log held e m.journal (m.serves tells) took own other silent none (waits_as old.held.items held.items e old.before [] holds);
+    safe = safe_said told image sound old log held e [] m.journal m.safe took own comes on none holds;
+    serves = λ tells. serves_silent old log held old.closed e m.journal (m.serves tells) took own other silent none (waits_as old.held.items held.items e old.before [] holds);
     logged = said_logged old log e m took (own ∙ m.safe.room.number) none;
     counts = took_counts old log e m (disk_in m.journal) refl took;
+    reads = took_reads old log held old.identity e m own comes on took unread;
+  }
+
+  -- A read failed: the ask is taken, and the end by that is held.
+  pub mounted_unread : (old : Back D) (log : BackLog) (held : VecDeque Held Global) (e : Entry) (counts : ℕ × ℕ) (m : IsMounted moment_of left_since told image faults_of start opening sound old)
+      → LogTook old.log log e → e.incarnation ≡ old.number → comes_behind (last_of old.log.taken.items) e ≡ true → old.closed < old.number
+      → is_mend e.body ≡ false → IsSilent e.body → batches_of (said_by e.body) ≡ [] → held.items ≡ old.held.items ++ unread_held old counts ∷ []
+      → AreRising 0 (counts_in (backed old.log) ++ counts ∷ []) (faults_of (disk_in m.journal)) → (IsTold (told (disk_in m.journal)) → HasRisenIn counts)
+      → IsMounted moment_of left_since told image faults_of start opening sound (record old { held = held; log = log; closed = old.number })
+  mounted_unread old log held e counts m took own comes on other silent none items rises rose = record {
+    journal = m.journal;
+    safe = safe_unread told image sound old log held e (unread_held old counts) counts m.journal m.safe took own comes on none refl items;
+    serves = λ tells. serves_silent old log held old.number e m.journal (m.serves tells) took own other silent none (ap waiting_in items ∙ waits_more old.held.items (unread_held old counts));
+    logged = said_logged old log e m took (own ∙ m.safe.room.number) none;
+    counts = took_counts old log e m (disk_in m.journal) refl took;
+    reads = reading_fails (IsTold (told (disk_in m.journal))) (faults_of (disk_in m.journal)) old (record old { held = held; log = log; closed = old.number }) counts (unread_held old counts) refl
+        (free told image sound m.journal old m.safe e own comes on) items (ap (λ (b : Backed). b.stops) took.taken) (ap (λ (b : Backed). b.downs) took.taken) refl refl rises rose m.reads;
   }
 
   pub mounted_message : (old : Back D) (log : BackLog) (held : VecDeque Held Global) (e : Entry) (sent : Message) (m : IsMounted moment_of left_since told image faults_of start opening sound old)
-      → LogTook old.log log e → e.incarnation ≡ old.number → comes_behind (last_of old.log.taken.items) e ≡ true → e.body ≡ body.Message sent
-      → HoldsMore old.held.items held.items e old.before (record { message = sent; needs = old.needs; since = old.number } ∷ [])
+      → LogTook old.log log e → e.incarnation ≡ old.number → comes_behind (last_of old.log.taken.items) e ≡ true → old.closed < old.number → e.body ≡ body.Message sent
+      → unread_in held.items ≡ [] → HoldsMore old.held.items held.items e old.before (record { message = sent; needs = old.needs; since = old.number } ∷ [])
       → IsMounted moment_of left_since told image faults_of start opening sound (record old { held = held; log = log })
-  mounted_message old log held e sent m took own comes says holds = record {
+  mounted_message old log held e sent m took own comes on says unread holds = record {
     journal = m.journal;
-    safe = safe_said told image old log held e (record { message = sent; needs = old.needs; since = old.number } ∷ []) m.journal m.safe took own comes (ap (λ b. batches_of (said_by b)) says) holds;
+    safe = safe_said told image sound old log held e (record { message = sent; needs = old.needs; since = old.number } ∷ []) m.journal m.safe took own comes on (ap (λ b. batches_of (said_by b)) says) holds;
     serves = λ tells. serves_message old log held e sent m.journal (m.serves tells) took own says (λ front. (m.logged.placed front).reach)
         (waits_as old.held.items held.items e old.before (record { message = sent; needs = old.needs; since = old.number } ∷ []) holds);
     logged = said_logged old log e m took (own ∙ m.safe.room.number) (ap (λ b. batches_of (said_by b)) says);
     counts = took_counts old log e m (disk_in m.journal) refl took;
+    reads = took_reads old log held old.identity e m own comes on took unread;
   }
 
   pub mounted_bind : (old : Back D) (log : BackLog) (number : ℕ) (object : Object) (m : IsMounted moment_of left_since told image faults_of start opening sound old)
-      → LogTook old.log log (bind_entry old number object) → old.identity ≡ None → comes_behind (last_of old.log.taken.items) (bind_entry old number object) ≡ true
+      → LogTook old.log log (bind_entry old number object) → old.identity ≡ None → comes_behind (last_of old.log.taken.items) (bind_entry old number object) ≡ true → old.closed < old.number
       → IsMounted moment_of left_since told image faults_of start opening sound (record old { identity = Some object; log = log })
-  mounted_bind old log number object m took nobody comes = record {
+  mounted_bind old log number object m took nobody comes on = record {
     journal = m.journal;
-    safe = safe_bind told image old log number object m.journal m.safe took nobody comes;
+    safe = safe_bind told image sound old log number object m.journal m.safe took nobody comes on;
     serves = λ tells. serves_bind old log number object m.journal (m.serves tells) took nobody;
     logged = said_logged old log (bind_entry old number object) m took m.safe.room.number refl;
     counts = took_counts old log (bind_entry old number object) m (disk_in m.journal) refl took;
+    reads = took_reads old log old.held (Some object) (bind_entry old number object) m refl comes on took
+        (unread_none old.held.items (free told image sound m.journal old m.safe (bind_entry old number object) refl comes on));
   }
 
-  pub mounted_same : (out : Bool) (old : Back D) (log : BackLog) (held : VecDeque Held Global) (later : Journal D) (cache : Contents) (stuck : Bool) (m : IsMounted moment_of left_since told image faults_of start opening sound old)
+  pub mounted_same : (out : Bool) (old : Back D) (log : BackLog) (held : VecDeque Held Global) (later : Journal D) (cache : Cached) (stuck : Bool) (m : IsMounted moment_of left_since told image faults_of start opening sound old)
       → LogSame old.log log → held.items ≡ old.held.items
       → ((object : Object) (batches : List (List Op)) → IsStaged m.journal object batches → IsStaged later object batches)
       → ((frames : List Frame) → IsAtRest told image m.journal frames → IsAtRest told image later frames)
-      → disk_in later ≡ disk_in m.journal → (out ≡ true → (sound ≡ true) × (cache ≡ old.cache))
+      → disk_in later ≡ disk_in m.journal → (out ≡ true → (sound ≡ true) × KeepsStored told image m.journal old.cache cache)
       → IsMounted moment_of left_since told image faults_of start opening out (record old { store = store.Journal later; cache = cache; held = held; stuck = stuck; log = log })
   mounted_same out old log held later cache stuck m same items staged frames disk keeps = record {
     journal = later;
-    safe = safe_same told image old log held m.journal later cache stuck m.safe same items staged frames;
-    serves = λ tells. serves_same out old log held m.journal later cache stuck (m.serves (subst (λ (d : D). IsTold (told d)) disk tells)) same items staged frames disk keeps;
+    safe = safe_same told image sound out old log held m.journal later cache stuck m.safe same items staged frames keeps;
+    serves = λ tells.
+        let was = subst (λ (d : D). IsTold (told d)) disk tells in
+        serves_same out old log held m.journal later cache stuck (m.serves was) same items staged frames disk was keeps;
     logged = subst (λ (b : Backed). IsLogged (IsTold (told (disk_in later))) b (marks_of old) old.own old.before old.durable) (sym same.same)
         (logged_same (IsTold (told (disk_in m.journal))) (IsTold (told (disk_in later))) (λ tells. subst (λ (d : D). IsTold (told d)) disk tells) (backed old.log) (marks_of old) old.own old.before old.durable
         (backed old.log) refl refl refl (λ front. refl) m.logged);
     counts = counts_stay told faults_of (disk_in m.journal) (disk_in later) (backed old.log) (backed log) disk (ap (λ (b : Backed). b.stops) same.same) (ap (λ (b : Backed). b.downs) same.same) m.counts;
+    reads = reading_stays (IsTold (told (disk_in m.journal))) (IsTold (told (disk_in later))) (λ tells. subst (λ (d : D). IsTold (told d)) disk tells) (faults_of (disk_in m.journal)) (faults_of (disk_in later))
+        (omega (arith, ap faults_of disk)) old (record old { store = store.Journal later; cache = cache; held = held; stuck = stuck; log = log }) (ap (λ (b : Backed). b.stops) same.same)
+        (ap (λ (b : Backed). b.downs) same.same) refl refl (ap unread_in items) (λ has. ap has_halt items ∙ has) m.reads;
   }
 
   -- Memory was wanting, and what was staged stays.
-  pub kept_fails : (old new : Back D) (cache : Contents) (held : VecDeque Held Global) (log : BackLog) → new ≡ record old { cache = cache; held = held; log = log }
+  pub kept_fails : (old new : Back D) (cache : Cached) (held : VecDeque Held Global) (log : BackLog) → new ≡ record old { cache = cache; held = held; log = log }
       → LogSame old.log log → held.items ≡ old.held.items
       → IsMounted moment_of left_since told image faults_of start opening sound old → IsMounted moment_of left_since told image faults_of start opening false new
   kept_fails old new cache held log is same items m =

@@ -25,9 +25,12 @@ use Rattle.output_gate.specs.Down.{place_down}
 use Rattle.output_gate.specs.Gate.{place_of, history_at}
 use Rattle.output_gate.specs.Held.{waiting_in}
 use Rattle.output_gate.specs.Kept.{RecoversToLine, HasLeft, HaveLeft}
-use Rattle.output_gate.specs.Serving.{IsMounted, IsUnmounted, IsBackAs}
+use Rattle.output_gate.specs.Serving.{IsMounted, IsUnmounted, IsBackAs, alarm_of}
 use Rattle.output_gate.specs.Standing.{own_entries, older_of}
 use Rattle.output_gate.specs.Storing.{IsDiskOf}
+use Rattle.object_storage.specs.Stored.{HasStored}
+use Rattle.output_gate.specs.Entering.{StandsForMap}
+use Rattle.output_gate.proofs.Takings.{may_some, some_object}
 use Rattle.output_gate.specs.Taking.{is_mounted_mode, notice_of}
 use Rattle.output_gate.specs.Telling.{HasTold, opened_map}
 use Rattle.output_gate.specs.declared.back.Back.{Back}
@@ -179,22 +182,42 @@ written_in opened [] = opened
 written_in opened (i ∷ older) = written (start_after opened older) (said_in i.taken)
 
 module _ {D : Type 0} (moment_of : D → ℕ) (left_since : D → ℕ → List ℕ → Type 0) (told : D → Option (List ℕ)) (image : D → List ℕ → Type 0) (faults_of : D → ℕ) (start : List (List Op)) (opening : ℕ) where
-  serving_map : (back : Back D) (m : IsMounted moment_of left_since told image faults_of start opening true back) → IsTold (told (disk_in m.journal)) → (front : Fronted)
-      → back.cache ≡ written (start_after (opened_map start) (older_of front (backed back.log))) (said_in (own_entries (backed back.log)))
+  serving_map : (back : Back D) (m : IsMounted moment_of left_since told image faults_of start opening true back) → (tells : IsTold (told (disk_in m.journal))) → (front : Fronted)
+      → apply nothing (flat_map (λ ops. ops) (start ++ (m.serves tells).flown ++ (m.serves tells).staged))
+      ≡ written (start_after (opened_map start) (older_of front (backed back.log))) (said_in (own_entries (backed back.log)))
   serving_map back m tells front =
       let s = m.serves tells in
       let kept = kept_before (older_of front (backed back.log)) in
       let own = batches_in (own_entries (backed back.log)) in
-      s.cache refl
-      ∙ ap (λ bs. apply nothing (flat_map (λ ops. ops) bs)) (append_assoc start s.flown s.staged ∙ ap (λ bs. start ++ bs) (sym (s.gate front).line) ∙ sym (append_assoc start kept own))
+      ap (λ bs. apply nothing (flat_map (λ ops. ops) bs)) (append_assoc start s.flown s.staged ∙ ap (λ bs. start ++ bs) (sym (s.gate front).line) ∙ sym (append_assoc start kept own))
       ∙ joined (start ++ kept) own
       ∙ ap (λ m. apply m (flat_map (λ ops. ops) own)) (ap (apply nothing) (flat_map-append (λ ops. ops) start kept) ∙ apply-append nothing (flat_map (λ ops. ops) start) (flat_map (λ ops. ops) kept))
       ∙ sym (all_written (start_after (opened_map start) (older_of front (backed back.log))) (own_entries (backed back.log)))
 
+  -- the map that is stored, and its alarm
+  stands_for : (back : Back D) (m : IsMounted moment_of left_since told image faults_of start opening true back) → IsTold (told (disk_in m.journal)) → (front : Fronted)
+      → StandsForMap told image (written (start_after (opened_map start) (older_of front (backed back.log))) (said_in (own_entries (backed back.log)))) back
+  stands_for back m tells front =
+      let s = m.serves tells in
+      record {
+        journal = m.journal;
+        frames = s.frames;
+        staged = s.staged;
+        at = m.safe.store;
+        at_rest = s.at_rest;
+        stored = λ object may. subst (λ (x : Contents). HasStored s.frames object s.staged back.cache x) (serving_map back m tells front) (s.stored refl object may);
+        kept = s.kept refl;
+      }
+
+  alarm_stands : (back : Back D) (m : Contents) → StandsForMap told image m back → alarm_of back ≡ m.alarm
+  alarm_stands back m has = (has.stored (some_object back.identity) (may_some back.identity)).cache_of.alarm
+
   pub map_is : (back : Back D) (disk : D) → IsDiskOf back.store disk → IsTold (told disk) → IsBackAs moment_of left_since told image faults_of start opening true back → back.mode ≡ Mounted
-      → (front : Fronted) (i : Incarnation) (older : History) → history front (backed back.log) ≡ i ∷ older → back.cache ≡ written (start_after (opened_map start) older) (said_in i.taken)
+      → (front : Fronted) (i : Incarnation) (older : History) → history front (backed back.log) ≡ i ∷ older
+      → StandsForMap told image (written (start_after (opened_map start) older) (said_in i.taken)) back × (alarm_of back ≡ (written (start_after (opened_map start) older) (said_in i.taken)).alarm)
   map_is back disk at tells b mode front i older is =
       let m = mounted_of moment_of left_since told image faults_of start opening true back b (ap is_mounted_mode mode) in
       let same = same_disk back.store (disk_in m.journal) disk (subst (λ (s : Store D). IsDiskOf s (disk_in m.journal)) (sym m.safe.store) refl) at in
-      serving_map back m (subst (λ (d : D). IsTold (told d)) (sym same) tells) front
-      ∙ ap (written_in (opened_map start)) (sym (stands front (backed back.log) m.safe.room.logs) ∙ is)
+      let has = subst (λ (x : Contents). StandsForMap told image x back) (ap (written_in (opened_map start)) (sym (stands front (backed back.log) m.safe.room.logs) ∙ is))
+      (stands_for back m (subst (λ (d : D). IsTold (told d)) (sym same) tells) front) in
+      (has, alarm_stands back (written (start_after (opened_map start) older) (said_in i.taken)) has)

@@ -11,8 +11,9 @@ use Rattle.batch_journal.specs.Staged.{frame_of}
 use Rattle.batch_journal.specs.declared.journal.Journal.{Journal}
 use Rattle.storage_map.specs.Limits.{Object}
 use Rattle.storage_map.specs.declared.op.Op.{Op}
-use Rattle.timeline.specs.History.{Incarnation, History, batches_in, before_stop, durable_by, history, incarnation_at, incarnations, is_halting, kept_before}
+use Rattle.timeline.specs.History.{Incarnation, History, batches_in, before_stop, durable_by, history, incarnation_at, incarnations, kept_before}
 use Rattle.timeline.specs.Logs.{Fronted, Backed, backed}
+use Rattle.timeline.specs.Passed.{discards}
 use Rattle.timeline.specs.declared.back_log.Stop.{Stop}
 use Rattle.timeline.specs.declared.caller.Cause.{Cause}
 use Rattle.timeline.specs.declared.caller.Cause.TheVariants as cause
@@ -27,15 +28,16 @@ use Rattle.output_gate.specs.Entering.{Enters, Failed, identity_after, identity_
 use Rattle.output_gate.specs.Fits.{fits_mounted}
 use Rattle.output_gate.specs.Flushing.{Ends, FliesAll, Flushes}
 use Rattle.output_gate.specs.Gate.{Place, history_at, place_of}
-use Rattle.output_gate.specs.Held.{HaltsLast, halts_well, has_halt, is_held_halt}
+use Rattle.output_gate.specs.Held.{HaltsLast, halts_well, has_halt, is_held_halt, is_read}
 use Rattle.output_gate.specs.Logs.{no_log}
 use Rattle.output_gate.specs.Mending.{HasBegun, HasMissed, Remounts, kept_at}
 use Rattle.output_gate.specs.Releasing.{Releases, Stays, released_log}
-use Rattle.output_gate.specs.Serving.{IsAsBefore, IsAtEnd, IsBackAs, IsEnded, IsMounted, IsServing, IsUnmounted, marks_of, stop_of}
+use Rattle.output_gate.specs.Serving.{IsAsBefore, IsAtEnd, IsBackAs, IsEnded, IsMounted, IsServing, IsUnmounted, halt_of, marks_of, stop_of}
 use Rattle.output_gate.specs.Standing.{AreLogs, older_of, own_entries, own_flights}
 use Rattle.output_gate.specs.Storing.{HasLimit, IsCauseOf, IsDiskOf, KeepsEnd}
 use Rattle.output_gate.specs.Taking.{fit_of, is_mounted_mode, is_wanted}
-use Rattle.output_gate.specs.Written.{AreFilled, AreWritten, FindsEnd, IsFoundWith, IsFullBy, IsWritten, MayBe, end_with, frames_before, frames_in, going, needed_by, unflown, unflown_in}
+use Rattle.output_gate.specs.Kept.{MayBe}
+use Rattle.output_gate.specs.Written.{AreFilled, AreWritten, FindsEnd, IsFoundWith, IsFullBy, IsWritten, end_with, frames_before, frames_in, going, needed_by, unflown, unflown_in}
 use Rattle.output_gate.specs.declared.back.Back.{Back}
 use Rattle.output_gate.specs.declared.back.Ending.{Ending}
 use Rattle.output_gate.specs.declared.back.Mode.{Mode}
@@ -53,6 +55,7 @@ use Rattle.output_gate.proofs.Histories.{stands}
 use Rattle.output_gate.proofs.Mountings.{place_followed}
 use Rattle.output_gate.proofs.Places.{missed_place, place_flew, place_stopped, place_took, released_place}
 use Rattle.output_gate.proofs.Remounts.{same_ending}
+use Rattle.output_gate.proofs.Orderly.{is_ordered}
 use Rattle.output_gate.proofs.Restarts.{restart_place}
 use Rattle.output_gate.proofs.Steps.{flushed_back, longer, safe_object}
 use Rattle.output_gate.proofs.Stored.{in_it, same_disk, same_journal, still_end}
@@ -241,7 +244,7 @@ module _ {D : Type 0} (moment_of : D → ℕ) (left_since : D → ℕ → List �
         (enters.mode ∙ ap (λ (x : Fit). mode_after x old.mode e.body) is) keeps
         (λ object may. subst (λ (i : Option Object). MayBe i object) (enters.identity ∙ ap (λ (x : Fit). identity_after x old.identity e.body) is) may)
     enters_as known e failed enters keeps fit.Late is =
-        took_late known e (comes old e (late_of old e is) (number_of old known) (order_of old known)) (enters.log ∙ ap (λ (x : Fit). logged_as x (backed old.log) e) is)
+        took_late known e (comes old e (late_of old e is) (number_of old known) (order_of old known) (is_ordered moment_of left_since told image faults_of start opening sound old known).read) (enters.log ∙ ap (λ (x : Fit). logged_as x (backed old.log) e) is)
         (enters.mode ∙ ap (λ (x : Fit). mode_after x old.mode e.body) is) keeps (enters.identity ∙ ap (λ (x : Fit). identity_after x old.identity e.body) is)
 
     pub written_enters : Known old → (e : Entry) (failed : Failed) → Enters failed old new e → KeepsEnd old.store new.store → AreWritten limit end new
@@ -251,7 +254,7 @@ module _ {D : Type 0} (moment_of : D → ℕ) (left_since : D → ℕ → List �
     module _ (m : IsMounted moment_of left_since told image faults_of start opening sound old) (tells : IsTold (told (disk_in m.journal))) (more : old.before ≢ old.durable) where
       named_of : (object : Object) → MayBe old.identity object → old.identity ≡ Some object
       named_of object may =
-          let o = safe_object told image m.journal old m.safe more in
+          let o = safe_object told image sound m.journal old m.safe more in
           is_known old.identity o.0 object o.1 may
 
       left_over : (front : Fronted) → IsServing moment_of left_since told image start opening sound m.journal old
@@ -351,7 +354,7 @@ module _ {D : Type 0} (moment_of : D → ℕ) (left_since : D → ℕ → List �
         ⊎_elim (λ f. flies_so m now more f) (λ e. ends_so m now more e (has m.journal m.safe.store)) flushes
 
     -- ---- something is let go
-    halting_full : (object : Object) (i : Incarnation) (older : History) (c : Cause) → is_halting c ≡ true → IsFullBy limit end object i older c
+    halting_full : (object : Object) (i : Incarnation) (older : History) (c : Cause) → not (discards c (is_read c)) ≡ true → IsFullBy limit end object i older c
     halting_full object i older (cause.Disk before after) is = tt
     halting_full object i older (cause.Full needs most) is = absurd (true_false (sym is))
     halting_full object i older cause.Exceeded is = tt
@@ -380,14 +383,14 @@ module _ {D : Type 0} (moment_of : D → ℕ) (left_since : D → ℕ → List �
         )
 
     halted_so : (later : Bool) → IsBackAs moment_of left_since told image faults_of start opening later new → (m : IsMounted moment_of left_since told image faults_of start opening sound old)
-        → (c : Cause) → is_halting c ≡ true → new.mode ≡ old.mode → new.durable ≡ old.durable → new.identity ≡ old.identity → new.store ≡ old.store
-        → backed new.log ≡ record (backed old.log) { stops = old.log.stops.items ++ stop_of old c ∷ []; ends = old.log.ends.items ++ record { kept = old.own; cause = c } ∷ [] }
+        → (c : Cause) → not (discards c (is_read c)) ≡ true → new.mode ≡ old.mode → new.durable ≡ old.durable → new.identity ≡ old.identity → new.store ≡ old.store
+        → backed new.log ≡ record (backed old.log) { stops = old.log.stops.items ++ halt_of old c ∷ []; ends = old.log.ends.items ++ record { kept = old.own; cause = c } ∷ [] }
         → AreWritten limit end new
     halted_so later known m c halts mode durable same kept log front object may =
         let b : Backed = backed old.log in
         let w = all front object (subst (λ (o : Option Object). MayBe o object) same may) in
         let p : Place = place_of front b in
-        let stop : Stop = stop_of old c in
+        let stop : Stop = halt_of old c in
         let n : ℕ = suc (length b.stops) in
         let last : Incarnation = last_of_place front p stop in
         let at = ap (place_of front) log ∙ restart_place front b stop old.own m.safe.room.logs refl m.safe.room.followed in

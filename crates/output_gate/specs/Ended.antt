@@ -1,5 +1,5 @@
 -- What a log shows of the incarnations that have ended, whatever the disk tells.
-use Rattle.std.specs.Prelude.{◌≡◌, ℕ, suc, ◌+◌, ◌-◌, ◌<◌, ◌≤◌, nat_lt, Bool, true, false, List, [], ◌∷◌, ◌++◌, length, map, sum, slice_get, Option, Some, None}
+use Rattle.std.specs.Prelude.{◌≡◌, ◌⊎◌, ℕ, suc, ◌+◌, ◌-◌, ◌<◌, ◌≤◌, nat_lt, Bool, true, false, List, [], ◌∷◌, ◌++◌, length, map, sum, slice_get, Option, Some, None}
 use Rattle.std.specs.List.{All}
 use Rattle.timeline.specs.Headline.{KeepBy}
 use Rattle.timeline.specs.History.{Incarnation, History, batches_in, durable, kept_before, said_in}
@@ -30,13 +30,13 @@ abbrev pub last_stop : List Stop → Option Stop
 last_stop stops = slice_get stops (length stops - 1)
 
 -- Entries are taken in the order of their incarnations, and something was taken of each that has ended. Where the newest end
--- discarded nothing, the last entry is the halt, or of the incarnation behind it.
+-- discarded nothing, the last entry is the halt, or of the incarnation behind it, or a read failed.
 pub record AreInOrder (taken : List Entry) (stops : List Stop) : Type 0 where
   pub numbered : (e : Entry) → last_of taken ≡ Some e → 0 < e.incarnation
   pub sorted : All (λ e. e.incarnation ≤ newest_of taken) taken
   pub newest : length stops ≤ newest_of taken
   pub halted : (stop : Stop) → last_stop stops ≡ Some stop → discards stop.cause stop.read ≡ false → newest_of taken ≡ length stops
-      → halts_as (last_of taken) ≡ true
+      → (halts_as (last_of taken) ≡ true) ⊎ (stop.read ≡ true)
 
 -- What a back keeps beside its log: the batches that were durable at the last end at an append; what a message of the incarnation that
 -- ended then needs where such a message still passes; and what the next message of the newest one needs.

@@ -1,6 +1,9 @@
 -- What a take does, as its caller sees it.
 use Rattle.std.specs.Prelude.{◌≡◌, ◌⊎◌, ℕ, ◌+◌, ◌<◌, Bool, true, false, List, [], ◌∷◌, ◌++◌, option_to_list, ◌-◌, length, slice_get, Option, Some, None, IfSome, is_some, Result, Ok, Err}
+use Rattle.batch_journal.specs.Frames.{Frame}
 use Rattle.batch_journal.specs.Moments.{IsTold}
+use Rattle.batch_journal.specs.Rest.{IsAtRest}
+use Rattle.batch_journal.specs.declared.journal.Journal.{Journal}
 use Rattle.do_disk.specs.Disk.{Rose}
 use Rattle.do_value.specs.declared.fault.NoMemory.{NoMemory}
 use Rattle.storage_map.specs.Contents.{Contents}
@@ -25,11 +28,13 @@ use Rattle.timeline.specs.declared.notice.Stepped.TheVariants.{Nothing}
 use Rattle.output_gate.specs.Fits.{comes_behind, fits_mounted, fits_down, last_of}
 use Rattle.output_gate.specs.declared.back.Ending.{Ending}
 use Rattle.output_gate.specs.declared.back.Mode.{Mode}
-use Rattle.output_gate.specs.declared.back.Mode.TheVariants.{Wanted, Down}
-use Rattle.output_gate.specs.Serving.{IsMounted, IsUnmounted, IsAsBefore}
-use Rattle.output_gate.specs.Storing.{IsDiskOf, KeepsDisk}
+use Rattle.output_gate.specs.declared.back.Mode.TheVariants.{Mounted, Wanted, Down}
+use Rattle.output_gate.specs.Serving.{AreStored, IsMounted, IsUnmounted, IsAsBefore}
+use Rattle.output_gate.specs.Storing.{IsDiskOf, KeepsDisk, ReadsDisk}
 use Rattle.output_gate.specs.Taking.{notice_of, fit_of, LogRoom, most_unflushed}
+use Rattle.object_storage.specs.Stored.{HasKept}
 use Rattle.output_gate.specs.declared.back.Back.{Back}
+use Rattle.output_gate.specs.declared.store.Store.TheVariants as store
 use Rattle.output_gate.specs.declared.fit.Fit.{Fit}
 use Rattle.output_gate.specs.declared.fit.Fit.TheVariants as fit
 
@@ -55,13 +60,27 @@ abbrev pub notice_with : Failed → Fit → Entry → Contents → Option Notice
 notice_with None f e m = notice_as f e m
 notice_with (Some counts) f e m = None
 
-abbrev pub notice_at : {D : Type 0} → Failed → Back D → Entry → Option Notice
-notice_at failed back e = notice_with failed (fit_of back e) e back.cache
+-- The map that a back answers by while its incarnation is mounted: what its journal's frames and its cache have stored.
+pub record StandsForMap {D : Type 0} (told : D → Option (List ℕ)) (image : D → List ℕ → Type 0) (m : Contents) (back : Back D) : Type 0 where
+  pub journal : Journal D
+  pub frames : List Frame
+  pub staged : List (List Op)
+  pub at : back.store ≡ store.Journal journal
+  pub at_rest : IsAtRest told image journal frames
+  pub stored : AreStored back frames staged m
+  pub kept : HasKept frames back.cache
+
+abbrev pub HasMap : {D : Type 0} → (D → Option (List ℕ)) → (D → List ℕ → Type 0) → Contents → Back D → Type 0
+HasMap told image m back = back.mode ≡ Mounted → StandsForMap told image m back
 
 -- A read fails of an ask of the newest incarnation alone, while that is mounted.
 abbrev pub IsAsk : Body → Type 0
 IsAsk (body.Ask ask free) = Unit {0}
 IsAsk _ = ⊥
+
+abbrev pub MayAsk : Failed → Body → Type 0
+MayAsk None b = Unit {0}
+MayAsk (Some counts) b = IsAsk b
 
 abbrev pub MayFail : {D : Type 0} → Failed → Back D → Entry → Type 0
 MayFail None back e = Unit {0}
@@ -106,6 +125,20 @@ held_as fit.Late back e = late_held back e
 abbrev pub held_with : {D : Type 0} → Failed → Fit → Back D → Entry → List Held
 held_with None f back e = held_as f back e
 held_with (Some counts) f back e = record { body = held.Halt (cause.Disk counts.0 counts.1); needs = back.before; since = back.number } ∷ []
+
+-- The same of an entry of the newest incarnation, while that is mounted.
+abbrev pub own_answer : Failed → ℕ → Contents → Body → Option Notice
+own_answer None number m b = notice_of number m b
+own_answer (Some counts) number m b = None
+
+abbrev pub own_held : Failed → (before needs since number : ℕ) → Body → List Held
+own_held None before needs since number b = held_by before needs since number b
+own_held (Some counts) before needs since number b = record { body = held.Halt (cause.Disk counts.0 counts.1); needs = before; since = since } ∷ []
+
+-- Of an incarnation of which a read failed nothing more is taken.
+abbrev pub closed_with : {D : Type 0} → Failed → Back D → ℕ
+closed_with None back = back.closed
+closed_with (Some counts) back = back.number
 
 -- A `Mend` of an incarnation that is down asks for a mounting; nothing else that is taken changes how a back stands.
 abbrev pub asked : Mode → Mode
@@ -164,6 +197,7 @@ pub record Enters {D : Type 0} (failed : Failed) (old new : Back D) (e : Entry) 
   pub identity : new.identity ≡ identity_after (fit_of old e) old.identity e.body
   pub durable : new.durable ≡ old.durable
   pub limit : new.limit ≡ old.limit
+  pub closed : new.closed ≡ closed_with failed old
 
 -- Nothing is done, and all is as before.
 pub record IsIdle {D A B : Type 0} (old new : Back D) (taken_before taken : List A) (sent_before sent : List B)
@@ -175,23 +209,26 @@ pub record IsIdle {D A B : Type 0} (old new : Back D) (taken_before taken : List
 
 -- The next entry of the line is taken, and the front is told what it waits for: over a disk that tells its content what the map says, where no
 -- read failed, and a read fails only where the count of faults rose.
-pub record Takes {D : Type 0} (told : D → Option (List ℕ)) (old new : Back D) (got_before got : List Entry) (sent_before sent : List Notice) : Type 0 where
+pub record Takes {D : Type 0} (told : D → Option (List ℕ)) (image : D → List ℕ → Type 0) (old new : Back D) (got_before got : List Entry) (sent_before sent : List Notice) : Type 0 where
   pub entry : Entry
   pub took : got ≡ got_before ++ entry ∷ []
   pub failed : Failed
   pub enters : Enters failed old new entry
   pub answer : Option Notice
   pub sends : sent ≡ sent_before ++ option_to_list answer
-  pub answers : (disk : D) → IsDiskOf old.store disk → IsTold (told disk) → answer ≡ notice_at failed old entry
+  pub answers : (disk : D) → IsDiskOf old.store disk → IsTold (told disk) → (m : Contents) → HasMap told image m old
+      → answer ≡ notice_with failed (fit_of old entry) entry m
   pub unfit : is_unfit (fit_of old entry) ≡ true → answer ≡ None
   pub rose : (disk : D) → IsDiskOf old.store disk → IsTold (told disk) → IfSome failed (λ counts. Rose counts.0 counts.1)
 
--- The same of a back whose map is in memory: it reads nothing.
-pub record TakesUnread {D : Type 0} (old new : Back D) (got_before got : List Entry) (sent_before sent : List Notice) : Type 0 where
-  pub entry : Entry
-  pub took : got ≡ got_before ++ entry ∷ []
-  pub told : sent ≡ sent_before ++ option_to_list (notice_at None old entry)
-  pub enters : Enters None old new entry
+-- The same of an entry that was taken off the line.
+pub record TakesEntry {D : Type 0} (told : D → Option (List ℕ)) (image : D → List ℕ → Type 0) (old new : Back D) (entry : Entry) (answer : Option Notice) : Type 0 where
+  pub failed : Failed
+  pub enters : Enters failed old new entry
+  pub answers : (disk : D) → IsDiskOf old.store disk → IsTold (told disk) → (m : Contents) → HasMap told image m old
+      → answer ≡ notice_with failed (fit_of old entry) entry m
+  pub unfit : is_unfit (fit_of old entry) ≡ true → answer ≡ None
+  pub rose : (disk : D) → IsDiskOf old.store disk → IsTold (told disk) → IfSome failed (λ counts. Rose counts.0 counts.1)
 
 -- Memory was wanting: an entry is gone from the line, and the front wasn't told of it. Nothing was done of it, or it was entered
 -- and its notice is lost.
@@ -211,22 +248,29 @@ pub record CanTake {D : Type 0} (moment_of : D → ℕ) (left_since : D → ℕ 
   pub back : IsMounted moment_of left_since told image faults_of start opening true old
   pub room : LogRoom old.log
   pub comes : comes_behind (last_of old.log.taken.items) (record { incarnation = old.number; number = number; body = b }) ≡ true
+  pub goes_on : old.closed < old.number
   pub fits : fits_mounted b (is_some old.identity) ≡ true
   pub few : old.unflushed < most_unflushed
 
 pub record TakesOwn {D : Type 0} (moment_of : D → ℕ) (left_since : D → ℕ → List ℕ → Type 0) (told : D → Option (List ℕ)) (image : D → List ℕ → Type 0)
     (faults_of : D → ℕ)
-    (old new : Back D) (number : ℕ) (b : Body) : Type 0 where
+    (old new : Back D) (number : ℕ) (b : Body) (answer : Option Notice) : Type 0 where
+  pub failed : Failed
+  pub may : MayAsk failed b
+  pub answers : (disk : D) → IsDiskOf old.store disk → IsTold (told disk) → (m : Contents) → StandsForMap told image m old
+      → answer ≡ own_answer failed number m b
+  pub rose : (disk : D) → IsDiskOf old.store disk → IsTold (told disk) → IfSome failed (λ counts. Rose counts.0 counts.1)
   pub log : backed new.log ≡ record (backed old.log) { taken = old.log.taken.items ++ record { incarnation = old.number; number = number; body = b } ∷ [] }
   pub stuck : new.stuck ≡ old.stuck
-  pub holds : new.held.items ≡ old.held.items ++ held_by old.before old.needs old.number number b
+  pub holds : new.held.items ≡ old.held.items ++ own_held failed old.before old.needs old.number number b
   pub mode : new.mode ≡ old.mode
   pub before : new.before ≡ before_by b old.before
   pub needs : new.needs ≡ needs_by b old.before old.needs
   pub identity : new.identity ≡ identity_by b old.identity
   pub durable : new.durable ≡ old.durable
   pub limit : new.limit ≡ old.limit
-  pub disk : KeepsDisk old.store new.store
+  pub closed : new.closed ≡ closed_with failed old
+  pub disk : ReadsDisk told old.store new.store
   pub back : (start : List (List Op)) (opening : ℕ) → IsMounted moment_of left_since told image faults_of start opening true old
       → IsMounted moment_of left_since told image faults_of start opening true new
 
@@ -234,7 +278,7 @@ pub record FailsOwn {D : Type 0} (moment_of : D → ℕ) (left_since : D → ℕ
     (faults_of : D → ℕ)
     (old new : Back D) : Type 0 where
   pub same : IsAsBefore old new
-  pub disk : KeepsDisk old.store new.store
+  pub disk : ReadsDisk told old.store new.store
   pub back : (start : List (List Op)) (opening : ℕ) → IsMounted moment_of left_since told image faults_of start opening true old
       → IsMounted moment_of left_since told image faults_of start opening false new
 
@@ -262,6 +306,7 @@ pub record TakesDown {D : Type 0} (moment_of : D → ℕ) (left_since : D → �
   pub identity : new.identity ≡ old.identity
   pub durable : new.durable ≡ old.durable
   pub limit : new.limit ≡ old.limit
+  pub closed : new.closed ≡ old.closed
   pub disk : KeepsDisk old.store new.store
   pub back : (start : List (List Op)) (opening : ℕ) → IsUnmounted moment_of left_since told image faults_of start opening old
       → IsUnmounted moment_of left_since told image faults_of start opening new

@@ -27,13 +27,13 @@ pub record FliesAll {D : Type 0} (old new : Back D) : Type 0 where
   pub log : backed new.log ≡ record (backed old.log) { flights = old.log.flights.items ++ (old.before - old.durable) ∷ [] }
   pub mode : new.mode ≡ old.mode
   pub held : new.held ≡ old.held
-  pub cache : new.cache ≡ old.cache
   pub before : new.before ≡ old.before
   pub needs : new.needs ≡ old.needs
   pub durable : new.durable ≡ old.before
   pub limit : new.limit ≡ old.limit
   pub identity : new.identity ≡ old.identity
   pub stuck : new.stuck ≡ old.stuck
+  pub closed : new.closed ≡ old.closed
   pub end : GetsFrame old new
 
 -- The incarnation ends, by a cause that the append had, and a mounting is wanted, for which the journal's end before the append is
@@ -55,6 +55,7 @@ pub record Ends {D : Type 0} (faults_of : D → ℕ) (old new : Back D) : Type 0
   pub limit : new.limit ≡ old.limit
   pub identity : new.identity ≡ old.identity
   pub stuck : new.stuck ≡ old.stuck
+  pub closed : new.closed ≡ old.closed
 
 abbrev pub Flushes : {D : Type 0} → (D → ℕ) → Back D → Back D → Type 0
 Flushes faults_of old new = FliesAll old new ⊎ Ends faults_of old new

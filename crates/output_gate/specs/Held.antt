@@ -1,11 +1,11 @@
 -- What a back holds: the messages among it, and what an end leaves of it.
-use Rattle.std.specs.Prelude.{◌≡◌, ℕ, nat_lt, Bool, true, false, ◌||◌, if◌then◌else◌, List, [], ◌∷◌, Err}
+use Rattle.std.specs.Prelude.{◌≡◌, ℕ, nat_lt, Bool, true, false, not, ◌||◌, if◌then◌else◌, List, [], ◌∷◌, Err}
 use Rattle.std.specs.List.{flat_map}
-use Rattle.timeline.specs.Passed.{Passed}
+use Rattle.timeline.specs.Passed.{Passed, discards}
 use Rattle.timeline.specs.declared.caller.Cause.{Cause}
 use Rattle.timeline.specs.declared.caller.Failure.TheVariants as failure
 use Rattle.timeline.specs.declared.message.Message.TheVariants as message
-use Rattle.timeline.specs.History.{is_halting}
+use Rattle.timeline.specs.declared.caller.Cause.TheVariants as cause
 use Rattle.output_gate.specs.declared.held.Held.{Held}
 use Rattle.output_gate.specs.declared.held.HeldBody.{HeldBody}
 use Rattle.output_gate.specs.declared.held.HeldBody.TheVariants.{Message, Sync, Halt}
@@ -39,10 +39,23 @@ abbrev pub has_halt : List Held → Bool
 has_halt [] = false
 has_halt (held ∷ rest) = is_held_halt held.body || has_halt rest
 
--- the cause of a halt is one by which a front ends an incarnation
+-- An end that is held with this cause is by a read of the disk that failed; a front's halt has another one.
+abbrev pub is_read : Cause → Bool
+is_read (cause.Disk before after) = true
+is_read _ = false
+
+-- the cause of a halt is one that discards nothing: a front's, or a read that failed
 abbrev pub halts_well : HeldBody → Bool
-halts_well (Halt cause) = is_halting cause
+halts_well (Halt c) = not (discards c (is_read c))
 halts_well _ = true
+
+-- the disk's counts before a read that failed and after it, where an end by that is held
+abbrev pub unread_by : HeldBody → List (ℕ × ℕ)
+unread_by (Halt (cause.Disk before after)) = (before, after) ∷ []
+unread_by _ = []
+
+abbrev pub unread_in : List Held → List (ℕ × ℕ)
+unread_in held = flat_map (λ h. unread_by h.body) held
 
 -- A halt stands at the end, and needs all batches.
 abbrev pub HaltsLast : ℕ → List Held → Type 0

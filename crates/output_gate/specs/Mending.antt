@@ -12,14 +12,16 @@ use Rattle.timeline.specs.declared.notice.Notice.{Notice}
 use Rattle.timeline.specs.declared.notice.Notice.TheVariants as notice
 use Rattle.timeline.specs.declared.notice.Stepped.{Stepped}
 use Rattle.timeline.specs.declared.notice.Stepped.TheVariants.{Nothing}
-use Rattle.output_gate.specs.Serving.{IsUnmounted, IsAsBefore}
+use Rattle.output_gate.specs.Serving.{alarm_of, IsUnmounted, IsAsBefore}
 use Rattle.output_gate.specs.Storing.{IsDiskOf}
 use Rattle.output_gate.specs.Taking.{is_wanted}
 use Rattle.output_gate.specs.declared.mending.Found.{Found}
 use Rattle.output_gate.specs.declared.mending.Found.TheVariants as found
 use Rattle.batch_journal.specs.Rest.{end_of, limit_of}
 use Rattle.batch_journal.specs.declared.journal.Journal.{Journal}
-use Rattle.storage_map.specs.Contents.{Contents}
+use Rattle.batch_journal.specs.declared.mount.Mounted.{Mounted as JustMounted}
+use Rattle.storage_cache.specs.Cached.{Cached, of_index}
+use Rattle.storage_map.specs.Indexed.{Indexed}
 use Rattle.storage_map.specs.Limits.{Object}
 use Rattle.timeline.specs.Logs.{backed}
 use Rattle.timeline.specs.declared.back_log.BackLog.{BackLog}
@@ -36,13 +38,13 @@ is_own_object found identity = (found ≡ identity) ⊎ (found ≡ None)
 abbrev pub kept_at : Ending → (end : ℕ) → ℕ
 kept_at ending end = if not (end == ending.end) then ending.whole else ending.flown
 
--- The next incarnation begins over this journal and map.
-pub record Begins {D : Type 0} (old new : Back D) (ending : Ending) (journal : Journal D) (map : Contents) : Type 0 where
+-- The next incarnation begins over this journal and the index of its mounting.
+pub record Begins {D : Type 0} (old new : Back D) (ending : Ending) (journal : Journal D) (cache : Cached) : Type 0 where
   pub log : backed new.log ≡ record (backed old.log)
       { ends = old.log.ends.items ++ record { kept = kept_at ending (end_of journal); cause = ending.cause } ∷ [] }
   pub same : new ≡ record old {
     store = store.Journal journal;
-    cache = map;
+    cache = cache;
     mode = Mounted;
     durable = old.durable + (kept_at ending (end_of journal) - ending.flown);
     before = old.durable + (kept_at ending (end_of journal) - ending.flown);
@@ -57,14 +59,22 @@ pub record Misses {D : Type 0} (old new : Back D) (ending : Ending) (disk : D) (
 
 -- What a mounting of this disk gave: a journal over it, or the disk; a crash meanwhile leaves what one might have left before.
 abbrev pub IsFound : {D : Type 0} → (D → ℕ) → (D → ℕ → List ℕ → Type 0) → (D → Option (List ℕ)) → (D → List ℕ → Type 0) → D → Found D → Type 0
-IsFound moment_of left_since told image disk (found.Mounted mounted) =
-    IsMountOf told image moment_of left_since disk mounted × ((object : Object) → IsStaged mounted.journal object [])
-    × LeavesOnly moment_of left_since disk (disk_in mounted.journal) (ImageOrHeader (told disk) (image disk))
-    × TellsAsBefore (told disk) (told (disk_in mounted.journal))
+IsFound moment_of left_since told image disk (found.Mounted journal identity cache) =
+    ((index : Indexed) × (cache ≡ of_index index)
+    × IsMountOf told image moment_of left_since disk (record { journal = journal; identity = identity; index = index }))
+    × ((object : Object) → IsStaged journal object [])
+    × LeavesOnly moment_of left_since disk (disk_in journal) (ImageOrHeader (told disk) (image disk)) × TellsAsBefore (told disk) (told (disk_in journal))
 IsFound moment_of left_since told image disk (found.Refused left) =
     LeavesOnly moment_of left_since disk left (ImageOrHeader (told disk) (image disk)) × TellsAsBefore (told disk) (told left)
 IsFound moment_of left_since told image disk (found.NoMemory left) =
     LeavesOnly moment_of left_since disk left (ImageOrHeader (told disk) (image disk)) × TellsAsBefore (told disk) (told left)
+
+-- This was mounted, with a cache of its index; or memory was wanting for that, and its disk is left.
+abbrev pub HasCache : {D : Type 0} → JustMounted D → Found D → Type 0
+HasCache mounted (found.Mounted journal identity cache) =
+    (journal ≡ mounted.journal) × (identity ≡ mounted.identity) × (cache ≡ of_index mounted.index)
+HasCache mounted (found.Refused left) = ⊥
+HasCache mounted (found.NoMemory left) = left ≡ disk_in mounted.journal
 
 -- the file is refused: it is foreign, damaged or of two objects
 abbrev pub IsRefusedFile : List ℕ → Type 0
@@ -77,12 +87,12 @@ IsRefusedFor faults_of told disk found = Unit {0}
 
 -- The journal has the limit with which it was mounted.
 abbrev pub IsLimited : {D : Type 0} → ℕ → Found D → Type 0
-IsLimited limit (found.Mounted mounted) = limit_of mounted.journal ≡ limit
+IsLimited limit (found.Mounted journal identity cache) = limit_of journal ≡ limit
 IsLimited limit found = Unit {0}
 
 -- The disk's count of faults is as before where the mounting was good, and never falls.
 abbrev pub CountsFound : {D : Type 0} → (D → ℕ) → D → Found D → Type 0
-CountsFound faults_of disk (found.Mounted mounted) = faults_of (disk_in mounted.journal) ≡ faults_of disk
+CountsFound faults_of disk (found.Mounted journal identity cache) = faults_of (disk_in journal) ≡ faults_of disk
 CountsFound faults_of disk (found.Refused left) = HasRisen (faults_of disk) (faults_of left) ⊎ (faults_of left ≡ faults_of disk)
 CountsFound faults_of disk (found.NoMemory left) = faults_of left ≡ faults_of disk
 
@@ -118,10 +128,9 @@ pub record CanMend {D : Type 0} (moment_of : D → ℕ) (left_since : D → ℕ 
 -- after; and this the front is told.
 pub record HasBegun {D : Type 0} (old new : Back D) (ending : Ending) (told : Notice) : Type 0 where
   pub journal : Journal D
-  pub map : Contents
-  pub begins : Begins old new ending journal map
+  pub begins : Begins old new ending journal new.cache
   pub limit : limit_of journal ≡ old.limit
-  pub notice : told ≡ notice.Fresh old.number map.alarm ending.cause
+  pub notice : told ≡ notice.Fresh old.number (alarm_of new) ending.cause
 
 pub record HasMissed {D : Type 0} (faults_of : D → ℕ) (old new : Back D) (ending : Ending) (told : Notice) : Type 0 where
   pub disk : D

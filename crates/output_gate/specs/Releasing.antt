@@ -13,7 +13,8 @@ use Rattle.timeline.specs.declared.notice.Notice.{Notice}
 use Rattle.timeline.specs.declared.notice.Notice.TheVariants as notice
 use Rattle.timeline.specs.declared.notice.Stepped.{Stepped}
 use Rattle.timeline.specs.declared.notice.Stepped.TheVariants.{Nothing}
-use Rattle.output_gate.specs.Serving.{stop_of, IsBackAs}
+use Rattle.output_gate.specs.Held.{is_read}
+use Rattle.output_gate.specs.Serving.{alarm_of, halt_of, IsBackAs}
 use Rattle.output_gate.specs.Storing.{IsDiskOf}
 use Rattle.output_gate.specs.declared.back.Back.{Back}
 use Rattle.output_gate.specs.declared.held.Held.{Held}
@@ -38,13 +39,13 @@ released_log back moment held (Message sent) = record (backed back.log)
 released_log back moment held (Sync number) = backed back.log
 released_log back moment held (Halt cause) =
     record (backed back.log)
-    { stops = back.log.stops.items ++ stop_of back cause ∷ []; ends = back.log.ends.items ++ record { kept = back.own; cause = cause } ∷ [] }
+    { stops = back.log.stops.items ++ halt_of back cause ∷ []; ends = back.log.ends.items ++ record { kept = back.own; cause = cause } ∷ [] }
 
 -- what the front is told, and what leaves
 abbrev pub released_notices : {D : Type 0} → Back D → HeldBody → List Notice
 released_notices back (Message sent) = []
 released_notices back (Sync number) = notice.Synced number ∷ []
-released_notices back (Halt cause) = notice.Fresh (back.number + 1) back.cache.alarm cause ∷ []
+released_notices back (Halt cause) = notice.Fresh (back.number + 1) (alarm_of back) cause ∷ []
 
 abbrev pub released_messages : HeldBody → List Sent
 released_messages (Message sent) = sent ∷ []
@@ -75,6 +76,7 @@ pub record Releases {D : Type 0} (moment_of : D → ℕ) (old new : Back D) (sen
   pub limit : new.limit ≡ old.limit
   pub settled : new.settled ≡ old.settled
   pub unflushed : new.unflushed ≡ old.unflushed
+  pub closed : new.closed ≡ old.closed
 
 -- Nothing is done, and all is as before.
 pub record IsIdleRelease {D : Type 0} (old new : Back D) (sent_before sent : List Notice) (out_before out : List Sent)
@@ -98,6 +100,7 @@ pub record Stays {D : Type 0} (old new : Back D) (sent_before sent : List Notice
   pub before : new.before ≡ old.before
   pub durable : new.durable ≡ old.durable
   pub limit : new.limit ≡ old.limit
+  pub closed : new.closed ≡ old.closed
 
 -- What letting this go needs, and does.
 pub record CanGo {D : Type 0} (moment_of : D → ℕ) (left_since : D → ℕ → List ℕ → Type 0) (told : D → Option (List ℕ)) (image : D → List ℕ → Type 0)
@@ -140,6 +143,6 @@ pub record HaltRoom (log : BackLog) : Type 0 where
 -- An incarnation has ended by a halt, and is followed with all of its batches.
 abbrev pub LogHalts : BackLog → BackLog → Cause → ℕ → Type 0
 LogHalts old new c kept = backed new ≡ record (backed old) {
-  stops = old.stops.items ++ record { cause = c; flights = length old.flights.items; batches = kept; read = false } ∷ [];
+  stops = old.stops.items ++ record { cause = c; flights = length old.flights.items; batches = kept; read = is_read c } ∷ [];
   ends = old.ends.items ++ record { kept = kept; cause = c } ∷ [];
 }

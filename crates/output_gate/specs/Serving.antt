@@ -1,5 +1,5 @@
 -- A back that serves, and one whose incarnation has ended at an append.
-use Rattle.std.specs.Prelude.{◌≡◌, ◌≢◌, ◌⊎◌, ℕ, suc, ◌+◌, ◌-◌, ◌≤◌, nat_lt, Bool, true, false, not, List, [], ◌∷◌, ◌++◌, length, Option, Some, None, Result, OnOk, OnErr, vec_len}
+use Rattle.std.specs.Prelude.{◌≡◌, ◌≢◌, ◌⊎◌, ℕ, ℤ, suc, ◌+◌, ◌-◌, ◌<◌, ◌≤◌, nat_lt, Bool, true, false, not, List, [], ◌∷◌, ◌++◌, length, Option, Some, None, Result, OnOk, OnErr, vec_len}
 use Rattle.std.specs.List.{flat_map}
 use Rattle.std.specs.Vec.{vec_capacity}
 use Rattle.batch_journal.specs.Frames.{Frame, journal_bytes, batches_in}
@@ -10,7 +10,7 @@ use Rattle.batch_journal.specs.declared.journal.Journal.{Journal}
 use Rattle.do_value.specs.declared.fault.NoMemory.{NoMemory}
 use Rattle.timeline.specs.declared.caller.Cause.TheVariants as causes
 use Rattle.timeline.specs.declared.entry.Entry.{Entry}
-use Rattle.storage_map.specs.Contents.{nothing, apply}
+use Rattle.storage_map.specs.Contents.{Contents, nothing, apply}
 use Rattle.storage_map.specs.Limits.{Object}
 use Rattle.storage_map.specs.Ops.{batch_bytes}
 use Rattle.storage_map.specs.declared.op.Op.{Op}
@@ -19,13 +19,14 @@ use Rattle.timeline.specs.Logs.{Fronted, backed}
 use Rattle.timeline.specs.Passed.{Passed}
 use Rattle.timeline.specs.declared.back_log.Stop.{Stop}
 use Rattle.timeline.specs.declared.caller.Cause.{Cause}
-use Rattle.output_gate.specs.Counted.{AreCounted}
+use Rattle.object_storage.specs.Stored.{HasStored, HasKept}
+use Rattle.output_gate.specs.Counted.{counts_in, AreCounted, AreRising, HasRisenIn}
 use Rattle.output_gate.specs.Down.{place_down, IsDown}
-use Rattle.output_gate.specs.Ended.{IsLogged, IsLoggedDown, Marks, late_if}
+use Rattle.output_gate.specs.Ended.{IsLogged, IsLoggedDown, Marks, last_stop, late_if}
 use Rattle.output_gate.specs.Fits.{is_halt, last_of}
 use Rattle.output_gate.specs.Gate.{place_of, IsGate}
-use Rattle.output_gate.specs.Held.{stays, waiting_in, has_halt, HaltsLast}
-use Rattle.output_gate.specs.Kept.{NameOnly}
+use Rattle.output_gate.specs.Held.{stays, waiting_in, has_halt, is_read, unread_in, HaltsLast}
+use Rattle.output_gate.specs.Kept.{MayBe, NameOnly}
 use Rattle.output_gate.specs.Passing.{AreMended}
 use Rattle.output_gate.specs.Standing.{AreLogs, own_entries}
 use Rattle.output_gate.specs.Storing.{IsDiskOf}
@@ -47,8 +48,18 @@ pub record HasRoom {D : Type 0} (back : Back D) : Type 0 where
   pub own_few : back.own ≤ length back.log.taken.items
   pub followed : length back.log.ends.items ≡ length back.log.stops.items
 
--- Of any disk: the journal is at rest, its frames name the object, and what isn't durable is staged.
-pub record IsSafe {D : Type 0} (told : D → Option (List ℕ)) (image : D → List ℕ → Type 0) (journal : Journal D) (back : Back D) : Type 0 where
+-- A map is stored: the cache is one of it, and what isn't in memory stands in the frames, or in what is staged behind them for the
+-- slot's object, or for any where it has none yet.
+abbrev pub AreStored : {D : Type 0} → Back D → List Frame → List (List Op) → Contents → Type 0
+AreStored back frames staged m = (object : Object) → MayBe back.identity object → HasStored frames object staged back.cache m
+
+-- The last entry is the halt that is held, or the ask whose read failed.
+abbrev pub HaltsBy : {D : Type 0} → Entry → Back D → Type 0
+HaltsBy e back = (is_halt e.body ≡ true) ⊎ ((back.closed ≡ back.number) × (counts : ℕ × ℕ) × (unread_in back.held.items ≡ counts ∷ []))
+
+-- Of any disk: the journal is at rest, its frames name the object, what isn't durable is staged, and some map is stored; after want of
+-- memory the cache isn't sound.
+pub record IsSafe {D : Type 0} (told : D → Option (List ℕ)) (image : D → List ℕ → Type 0) (sound : Bool) (journal : Journal D) (back : Back D) : Type 0 where
   pub store : back.store ≡ store.Journal journal
   pub mode : back.mode ≡ Mounted
   pub room : HasRoom back
@@ -62,11 +73,12 @@ pub record IsSafe {D : Type 0} (told : D → Option (List ℕ)) (image : D → L
   pub staged_for : (object : Object) → back.identity ≡ Some object → IsStaged journal object staged
   pub nameless : back.identity ≡ None → (staged ≡ []) × ((object : Object) → IsStaged journal object [])
   pub halts : HaltsLast back.before back.held.items
-  pub halted : has_halt back.held.items ≡ true → (e : Entry) × (last_of back.log.taken.items ≡ Some e) × (e.incarnation ≡ back.number) × (is_halt e.body ≡ true)
+  pub halted : has_halt back.held.items ≡ true → (e : Entry) × (last_of back.log.taken.items ≡ Some e) × (e.incarnation ≡ back.number) × HaltsBy e back
+  pub stored : sound ≡ true → (m : Contents) × AreStored back frames staged m
 
 -- Of a disk that tells its content: the frames have the batches of the start and those that are durable, the other batches of the
--- line are staged, the cache has what the line leaves, and what is held are the messages that wait. After want of memory the
--- cache isn't sound.
+-- line are staged, what the line leaves is stored, what is kept of reads stands in the frames, and what is held are the messages that
+-- wait.
 pub record IsServing {D : Type 0} (moment_of : D → ℕ) (left_since : D → ℕ → List ℕ → Type 0) (told : D → Option (List ℕ)) (image : D → List ℕ → Type 0)
     (start : List (List Op)) (opening : ℕ) (sound : Bool) (journal : Journal D) (back : Back D) : Type 0 where
   pub room : HasRoom back
@@ -84,20 +96,42 @@ pub record IsServing {D : Type 0} (moment_of : D → ℕ) (left_since : D → �
   pub unflushed : back.unflushed ≡ length (flat_map batch_bytes staged)
   pub staged_for : (object : Object) → back.identity ≡ Some object → IsStaged journal object staged
   pub nameless : back.identity ≡ None → (staged ≡ []) × ((object : Object) → IsStaged journal object [])
-  pub cache : sound ≡ true → back.cache ≡ apply nothing (flat_map (λ ops. ops) (start ++ flown ++ staged))
+  pub stored : sound ≡ true → AreStored back frames staged (apply nothing (flat_map (λ ops. ops) (start ++ flown ++ staged)))
+  pub kept : sound ≡ true → HasKept frames back.cache
 
 abbrev pub marks_of : {D : Type 0} → Back D → Marks
 marks_of back = record { settled = back.settled; late = back.late; needs = back.needs }
+
+-- An end by a read that failed is held, of the newest incarnation: the disk's counts round it stand behind those of the log, and over a disk that
+-- tells its content they rose.
+pub record IsUnread {D : Type 0} (tells : Type 0) (now : ℕ) (back : Back D) (counts : ℕ × ℕ) : Type 0 where
+  pub closed : back.closed ≡ back.number
+  pub rising : AreRising 0 (counts_in (backed back.log) ++ counts ∷ []) now
+  pub rose : tells → HasRisenIn counts
+
+-- What reads that failed have left: of the incarnations from this one on entries are taken, but that the newest may be one of which such
+-- an end is held; and where the newest end was by one, none of its incarnation.
+pub record IsReading {D : Type 0} (tells : Type 0) (now : ℕ) (back : Back D) : Type 0 where
+  pub unread : (counts : ℕ × ℕ) → unread_in back.held.items ≡ counts ∷ [] → IsUnread tells now back counts
+  pub closed : back.closed ≤ back.number
+  pub here : back.closed ≡ back.number → has_halt back.held.items ≡ true
+  pub behind : (stop : Stop) → last_stop back.log.stops.items ≡ Some stop → stop.read ≡ true → length back.log.stops.items ≤ back.closed
+
+-- While it isn't mounted nothing of the kind is held, and the newest end was at an append.
+pub record IsShut {D : Type 0} (back : Back D) : Type 0 where
+  pub closed : back.closed < back.number
+  pub appended : (stop : Stop) → last_stop back.log.stops.items ≡ Some stop → stop.read ≡ false
 
 -- The newest incarnation is mounted.
 pub record IsMounted {D : Type 0} (moment_of : D → ℕ) (left_since : D → ℕ → List ℕ → Type 0) (told : D → Option (List ℕ)) (image : D → List ℕ → Type 0)
     (faults_of : D → ℕ)
     (start : List (List Op)) (opening : ℕ) (sound : Bool) (back : Back D) : Type 0 where
   pub journal : Journal D
-  pub safe : IsSafe told image journal back
+  pub safe : IsSafe told image sound journal back
   pub serves : IsTold (told (disk_in journal)) → IsServing moment_of left_since told image start opening sound journal back
   pub logged : IsLogged (IsTold (told (disk_in journal))) (backed back.log) (marks_of back) back.own back.before back.durable
   pub counts : AreCounted (IsTold (told (disk_in journal))) (backed back.log) (faults_of (disk_in journal))
+  pub reads : IsReading (IsTold (told (disk_in journal))) (faults_of (disk_in journal)) back
 
 -- It isn't mounted, since an end of which this is known.
 abbrev pub IsAtEnd : Ending → Mode → Type 0
@@ -156,6 +190,11 @@ pub record IsUnmounted {D : Type 0} (moment_of : D → ℕ) (left_since : D → 
   pub ended : IsTold (told disk) → IsEnded moment_of left_since image start opening disk ending back
   pub logged : IsLoggedDown (IsTold (told disk)) (backed back.log) ending (marks_of back) back.durable
   pub counts : AreCounted (IsTold (told disk)) (backed back.log) (faults_of disk)
+  pub shut : IsShut back
+
+-- the alarm of the map that the storage stands for
+abbrev pub alarm_of : {D : Type 0} → Back D → Option (ℤ × ℕ)
+alarm_of back = back.cache.index.alarm
 
 -- What holds of a back whose cache is sound, or needn't be; and a step from such a back to such.
 abbrev pub IsBackAs : {D : Type 0} → (D → ℕ) → (D → ℕ → List ℕ → Type 0) → (D → Option (List ℕ)) → (D → List ℕ → Type 0) → (D → ℕ) → List (List Op) → ℕ
@@ -184,6 +223,7 @@ pub record IsAsBefore {D : Type 0} (old new : Back D) : Type 0 where
   pub before : new.before ≡ old.before
   pub durable : new.durable ≡ old.durable
   pub limit : new.limit ≡ old.limit
+  pub closed : new.closed ≡ old.closed
 
 -- Memory was wanting at a step of this back.
 abbrev pub is_stopped : {D : Type 0} → Back D → Bool
@@ -227,6 +267,9 @@ pub record CanStop {D : Type 0} (back : Back D) : Type 0 where
 
 abbrev pub stop_of : {D : Type 0} → Back D → Cause → Stop
 stop_of back cause = record { cause = cause; flights = length back.log.flights.items; batches = back.own; read = false }
+
+abbrev pub halt_of : {D : Type 0} → Back D → Cause → Stop
+halt_of back cause = record { cause = cause; flights = length back.log.flights.items; batches = back.own; read = is_read cause }
 
 abbrev pub ending_of : {D : Type 0} → Back D → Fault → Ending
 ending_of back fault = record { cause = fault.cause; end = fault.end; flown = back.own - (back.before - back.durable); whole = back.own }

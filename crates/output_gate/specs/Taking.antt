@@ -40,7 +40,7 @@ is_mounted_mode mode = false
 abbrev pub may_take : {D : Type 0} → Back D → Bool
 may_take back = not back.stuck && not (is_wanted back.mode) && nat_lt back.unflushed most_unflushed
 
--- What an entry is to a back.
+-- What an entry is to a back. One of an incarnation of which a read failed is unfit, as one behind a halt.
 abbrev pub fit_as : (fits own mounted : Bool) → Fit
 fit_as false own mounted = fit.Unfit
 fit_as true true true = fit.Own
@@ -56,8 +56,8 @@ fit_in behind within own mounted known b = fit_as (behind && within && fits_so o
 
 abbrev pub fit_of : {D : Type 0} → Back D → Entry → Fit
 fit_of back e =
-    fit_in (comes_behind (last_of back.log.taken.items) e) (not (nat_lt back.number e.incarnation)) (e.incarnation == back.number) (is_mounted_mode back.mode)
-    (is_some back.identity) e.body
+    fit_in (comes_behind (last_of back.log.taken.items) e && nat_lt back.closed e.incarnation) (not (nat_lt back.number e.incarnation))
+    (e.incarnation == back.number) (is_mounted_mode back.mode) (is_some back.identity) e.body
 
 -- the log has the room of an entry, a flight and a stop
 pub record LogRoom (log : BackLog) : Type 0 where

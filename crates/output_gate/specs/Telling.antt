@@ -1,5 +1,5 @@
 -- What a back tells whoever reads its log, over a disk that tells its content and whatever its front has logged.
-use Rattle.std.specs.Prelude.{◌≡◌, ◌≢◌, ℕ, suc, ◌<◌, ◌≤◌, false, List, [], ◌∷◌, length, map, Option, Some}
+use Rattle.std.specs.Prelude.{◌≡◌, ◌≢◌, ℕ, suc, ◌<◌, ◌≤◌, true, false, List, [], ◌∷◌, length, map, Option, Some}
 use Rattle.std.specs.List.{All, flat_map}
 use Rattle.batch_journal.specs.Moments.{IsTold}
 use Rattle.storage_map.specs.Contents.{Contents, nothing, apply}
@@ -11,12 +11,15 @@ use Rattle.timeline.specs.Intake.{answer_in}
 use Rattle.timeline.specs.Logs.{Fronted, Backed, backed}
 use Rattle.timeline.specs.Passed.{Passed, passed}
 use Rattle.timeline.specs.Told.{stored_answer, written}
+use Rattle.timeline.specs.declared.back_log.Stop.{Stop}
 use Rattle.timeline.specs.declared.entry.Body.{Body}
 use Rattle.timeline.specs.declared.notice.Notice.{Notice}
 use Rattle.output_gate.specs.Counted.{counts_in, AreRising, HasRisenIn, IsBehindEnd}
-use Rattle.output_gate.specs.Ended.{stop_causes, end_causes}
+use Rattle.output_gate.specs.Ended.{last_stop, stop_causes, end_causes}
+use Rattle.output_gate.specs.Held.{has_halt}
 use Rattle.output_gate.specs.Kept.{RecoversToLine, HaveLeft}
-use Rattle.output_gate.specs.Serving.{IsBack, is_stopped}
+use Rattle.output_gate.specs.Entering.{StandsForMap}
+use Rattle.output_gate.specs.Serving.{alarm_of, IsBack, is_stopped}
 use Rattle.output_gate.specs.Standing.{AreLogs, own_entries, older_of}
 use Rattle.output_gate.specs.Storing.{IsDiskOf}
 use Rattle.output_gate.specs.Taking.{notice_of}
@@ -55,14 +58,16 @@ opened_map start = apply nothing (flat_map (λ ops. ops) start)
 abbrev pub NoticesAnswer : Type 0
 NoticesAnswer = (number : ℕ) (m : Contents) (b : Body) (n : Notice) → notice_of number m b ≡ Some n → answer_in n ≡ stored_answer m b ∷ []
 
--- While the newest incarnation is mounted, and memory wasn't wanting, the map of a back is what that incarnation has written on the
--- map with which it started.
+-- While the newest incarnation is mounted, and memory wasn't wanting, a back's storage stands for what that incarnation has written on the
+-- map with which it started, and its alarm is that map's.
 abbrev pub MapIsWritten : {D : Type 0} → (D → ℕ) → (D → ℕ → List ℕ → Type 0) → (D → Option (List ℕ)) → (D → List ℕ → Type 0) → (D → ℕ) → Back D → Type 0
 MapIsWritten {D} moment_of left_since told image faults_of back = (start : List (List Op)) (opening : ℕ) (disk : D) → IsDiskOf back.store disk
     → IsTold (told disk)
     → IsBack moment_of left_since told image faults_of start opening back → is_stopped back ≡ false → back.mode ≡ Mounted
     → (front : Fronted) (i : Incarnation) (older : History)
-    → history front (backed back.log) ≡ i ∷ older → back.cache ≡ written (start_after (opened_map start) older) (said_in i.taken)
+    → history front (backed back.log) ≡ i ∷ older
+    → StandsForMap told image (written (start_after (opened_map start) older) (said_in i.taken)) back
+    × (alarm_of back ≡ (written (start_after (opened_map start) older) (said_in i.taken)).alarm)
 
 -- The newest of these kept no more batches than were taken of it.
 abbrev pub KeepsWithin : History → Type 0
@@ -71,7 +76,7 @@ KeepsWithin (i ∷ older) = (count : ℕ) → i.kept ≡ Some count → count �
 
 -- How the log and the counters of a back stand to one another, over any disk. While the newest incarnation is mounted each that has
 -- ended was followed; else the last one wasn't yet. Each mounting that failed is of an incarnation behind an end. Where batches wait for a
--- flush the newest incarnation has some.
+-- flush the newest incarnation has some. No read has failed of an incarnation behind the newest, and of that one only where an end is held.
 pub record IsOrdered {D : Type 0} (back : Back D) : Type 0 where
   pub logs : AreLogs (backed back.log)
   pub followed : back.mode ≡ Mounted → length back.log.ends.items ≡ length back.log.stops.items
@@ -80,6 +85,9 @@ pub record IsOrdered {D : Type 0} (back : Back D) : Type 0 where
   pub more : back.durable ≤ back.before
   pub unflown : back.durable < back.before → batches_in (own_entries (backed back.log)) ≢ []
   pub kept : (front : Fronted) → KeepsWithin (older_of front (backed back.log))
+  pub closed : back.closed ≤ back.number
+  pub held : back.closed ≡ back.number → has_halt back.held.items ≡ true
+  pub read : (stop : Stop) → last_stop back.log.stops.items ≡ Some stop → stop.read ≡ true → length back.log.stops.items ≤ back.closed
 
 abbrev pub BackIsOrdered : {D : Type 0} → (D → ℕ) → (D → ℕ → List ℕ → Type 0) → (D → Option (List ℕ)) → (D → List ℕ → Type 0) → (D → ℕ) → Back D → Type 0
 BackIsOrdered moment_of left_since told image faults_of back = (start : List (List Op)) (opening : ℕ)

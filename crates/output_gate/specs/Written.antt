@@ -14,6 +14,7 @@ use Rattle.timeline.specs.declared.back_log.Stop.{Stop}
 use Rattle.timeline.specs.declared.caller.Cause.{Cause}
 use Rattle.timeline.specs.declared.caller.Cause.TheVariants as cause
 use Rattle.output_gate.specs.Gate.{history_at, place_of}
+use Rattle.output_gate.specs.Kept.{MayBe}
 use Rattle.output_gate.specs.Logs.{no_log}
 use Rattle.output_gate.specs.Serving.{IsAtEnd, IsBack}
 use Rattle.output_gate.specs.Standing.{older_of}
@@ -70,11 +71,6 @@ AreFilled limit end object [] = Unit {0}
 AreFilled limit end object (i ∷ older) =
     (sum i.flights ≤ length (batches_in i.taken)) × ((stop : Stop) → i.stop ≡ Some stop → IsFullBy limit end object i older stop.cause)
     × All (λ count. 1 ≤ count) i.flights × AreFilled limit end object older
-
--- The slot's object, or any where it has none yet.
-abbrev pub MayBe : Option Object → Object → Type 0
-MayBe None object = Unit {0}
-MayBe (Some known) object = known ≡ object
 
 -- What the incarnation that ended last had not flown.
 abbrev pub unflown_in : History → List (List Op)

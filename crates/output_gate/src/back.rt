@@ -1,8 +1,8 @@
 //! The back half of an object.
-ghost use Rattle.std.specs.Prelude.{◌≡◌, []};
+ghost use Rattle.std.specs.Prelude.{◌≡◌, [], IfOk, IfErr};
 ghost use Rattle.batch_journal.specs.Frames.{batches_in};
 ghost use Rattle.batch_journal.specs.Mounting.{IsMountOf};
-ghost use Rattle.batch_journal.specs.Rest.{IsStaged};
+ghost use Rattle.batch_journal.specs.Rest.{IsStaged, disk_in};
 ghost use Rattle.do_disk.specs.Disk.{next_count};
 ghost use Rattle.storage_map.specs.Limits.{Object};
 ghost use Rattle.timeline.specs.Logs.{backed};
@@ -46,6 +46,7 @@ pub(crate) struct Ending {
 
 /// The back half of an object.
 pub struct Back<D> {
+    pub(crate) alloc: Global,
     pub(crate) store: Store<D>,
     // the journal's limit in bytes
     pub(crate) limit: u64,
@@ -69,8 +70,9 @@ pub struct Back<D> {
     pub(crate) late: Option<u64>,
     // the encoded bytes of the batches that are taken and not durable
     pub(crate) unflushed: u64,
-    // the number of the newest incarnation
+    // the number of the newest incarnation; and of the newest of which a read failed, 0 where none has: nothing more is taken of that one
     pub(crate) number: u64,
+    pub(crate) closed: u64,
     pub(crate) log: BackLog,
 }
 
@@ -78,6 +80,7 @@ pub struct Back<D> {
 impl<D: Drop> Drop for Back<D> {
     fn drop(self) {
         let Back {
+            alloc: _,
             store,
             limit: _,
             cache,
@@ -94,6 +97,7 @@ impl<D: Drop> Drop for Back<D> {
             late: _,
             unflushed: _,
             number: _,
+            closed: _,
             log,
         } = self;
         drop(store);
@@ -115,24 +119,28 @@ pub struct BackParts<D> {
 }
 
 impl<D: Disk> Back<D> {
-    /// A back of a slot that was just mounted.
-    pub fn new(alloc: Global, mounted: Mounted<D>) -> Back<D>
+    /// A back of a slot that was just mounted. For want of memory it hands the disk back.
+    pub fn new(alloc: Global, mounted: Mounted<D>) -> Result<Back<D>, D>
         requires { (object : Object) → IsStaged mounted.journal object [] }
-        ensures fresh { IsFresh mounted result }
-        ensures back { (disk : D) (is : IsMountOf D.told D.image D.moment_of D.left_since disk mounted)
-            → IsBack D.moment_of D.left_since D.told D.image D.faults_of (batches_in is.frames) (next_count (D.moment_of disk)) result }
+        ensures fresh { IfOk result (λ back. IsFresh mounted back) }
+        ensures back { IfOk result (λ back. (disk : D) (is : IsMountOf D.told D.image D.moment_of D.left_since disk mounted)
+            → IsBack D.moment_of D.left_since D.told D.image D.faults_of (batches_in is.frames) (next_count (D.moment_of disk)) back) }
+        ensures disk { IfErr result (λ disk. disk ≡ disk_in mounted.journal) }
     {
         let Mounted {
             journal,
             identity,
-            map,
-            index: _,
+            index,
         } = mounted;
         let limit = journal.limit();
-        Back {
+        let Ok(cache) = Cache::new(alloc, index) else {
+            return Err(journal.into_disk());
+        };
+        Ok(Back {
+            alloc,
             store: Store::Journal(journal),
             limit,
-            cache: Cache::new(map),
+            cache,
             identity,
             held: VecDeque::new(alloc),
             mode: Mode::Mounted,
@@ -146,6 +154,7 @@ impl<D: Disk> Back<D> {
             late: None,
             unflushed: 0,
             number: 1,
+            closed: 0,
             log: BackLog {
                 taken: Vec::new(alloc),
                 flights: Vec::new(alloc),
@@ -154,7 +163,7 @@ impl<D: Disk> Back<D> {
                 ends: Vec::new(alloc),
                 downs: Vec::new(alloc),
             },
-        }
+        })
     }
 
     /// What it has done.
@@ -172,9 +181,10 @@ impl<D: Disk> Back<D> {
         ensures log { backed result.log ≡ backed self.log }
     {
         let Back {
+            alloc: _,
             store,
             limit: _,
-            cache: _,
+            cache,
             identity,
             held: _,
             mode: _,
@@ -188,8 +198,10 @@ impl<D: Disk> Back<D> {
             late: _,
             unflushed: _,
             number: _,
+            closed: _,
             log,
         } = self;
+        drop(cache);
         BackParts {
             disk: store.into_disk(),
             identity,

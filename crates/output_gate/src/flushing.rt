@@ -27,7 +27,7 @@ impl<D: Disk> Back<D> {
         if self.before == self.durable {
             return Stepped::Nothing;
         }
-        match self.store.append() {
+        match self.store.append(&mut self.cache) {
             Ok(()) => self.land(),
             Err(fault) => self.stop(fault),
         }

@@ -13,7 +13,7 @@ pub(crate) enum HeldBody {
     Message(Message),
     /// The front is told of it once its batches are durable.
     Sync { number: u64 },
-    /// The incarnation ends by this cause once its batches are durable.
+    /// The incarnation ends by this cause once its batches are durable: a front's halt, or a read of the disk that failed.
     Halt(Cause),
 }
 

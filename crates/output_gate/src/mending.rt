@@ -1,10 +1,9 @@
 //! Mounting again.
 ghost use Rattle.std.specs.Prelude.{◌≡◌, ◌+◌, ◌≤◌, true, false, Ok, List, ℕ, IfOk, OnOk, OnErr, vec_len};
 ghost use Rattle.std.specs.Vec.{vec_capacity};
-ghost use Rattle.batch_journal.specs.Rest.{disk_in};
 ghost use Rattle.storage_map.specs.declared.op.Op.{Op};
 ghost use Rattle.timeline.specs.declared.notice.Notice.TheVariants as notice;
-ghost use Rattle.output_gate.specs.Mending.{IsFound, CountsFound, IsLimited, is_own_object, Begins, Misses, CanBegin, CanMend, Remounts, may_mend, MendRoom, IsIdleMend, Mends, LosesMend, IsRefusedFor, FallsByFault};
+ghost use Rattle.output_gate.specs.Mending.{IsFound, CountsFound, IsLimited, is_own_object, Begins, HasCache, Misses, CanBegin, CanMend, Remounts, may_mend, MendRoom, IsIdleMend, Mends, LosesMend, IsRefusedFor, FallsByFault};
 ghost use Rattle.output_gate.specs.Storing.{HasLimit, KeepsTelling};
 ghost use Rattle.output_gate.specs.Taking.{LogSame};
 ghost use Rattle.output_gate.specs.Written.{FindsEnd};
@@ -26,7 +25,11 @@ use timeline::{BackLog, End, Missed, Notice, Stepped};
 /// What a mounting gave.
 #[derive(Drop)]
 pub(crate) enum Found<D> {
-    Mounted(Mounted<D>),
+    Mounted {
+        journal: Journal<D>,
+        identity: Option<Identity>,
+        cache: Cache,
+    },
     /// The disk failed, or its file is no journal of one object.
     Refused(D),
     NoMemory(D),
@@ -106,11 +109,15 @@ impl<D: Disk> Back<D> {
         let disk = self.store.leave();
         let before = disk.faults();
         match mount_again(alloc, disk, self.limit) {
-            Found::Mounted(mounted) => {
-                if self.may_be(&mounted.identity) {
-                    Ok(self.begin(ending, mounted))
+            Found::Mounted {
+                journal,
+                identity,
+                cache,
+            } => {
+                if self.may_be(&identity) {
+                    Ok(self.begin(ending, journal, cache))
                 } else {
-                    Ok(self.miss(ending, bare(mounted), before))
+                    Ok(self.miss(ending, journal.into_disk(), before))
                 }
             }
             Found::Refused(disk) => Ok(self.miss(ending, disk, before)),
@@ -134,23 +141,17 @@ impl<D: Disk> Back<D> {
     }
 
     // The next incarnation begins with what was found.
-    fn begin(&mut self, ending: Ending, mounted: Mounted<D>) -> Notice
+    fn begin(&mut self, ending: Ending, journal: Journal<D>, cache: Cache) -> Notice
         requires away { self.old.store ≡ Store.Away }
         requires can { CanBegin self.old ending }
-        ensures begins { Begins self.old self.new ending mounted.journal mounted.map }
-        ensures notice { result ≡ notice.Fresh self.old.number mounted.map.alarm ending.cause }
+        ensures begins { Begins self.old self.new ending journal cache }
+        ensures notice { result ≡ notice.Fresh self.old.number cache.index.alarm ending.cause }
     {
-        let Mounted {
-            journal,
-            identity: _,
-            map,
-            index: _,
-        } = mounted;
-        let alarm = map.alarm();
+        let alarm = cache.alarm();
         let is_whole = journal.end() != ending.end;
         let kept = if is_whole { ending.whole } else { ending.flown };
         self.store.fill(Store::Journal(journal));
-        self.cache = Cache::new(map);
+        self.cache = cache;
         self.mode = Mode::Mounted;
         self.durable += kept - ending.flown;
         self.before = self.durable;
@@ -199,7 +200,7 @@ fn mount_again<D: Disk>(alloc: Global, disk: D, limit: u64) -> Found<D>
     ensures limited { IsLimited limit result }
 {
     match Journal::mount(alloc, disk, limit) {
-        Ok(mounted) => Found::Mounted(mounted),
+        Ok(mounted) => with_cache(alloc, mounted),
         Err(MountFault::DiskFailed(disk)) => Found::Refused(disk),
         Err(MountFault::Foreign { disk, .. }) => Found::Refused(disk),
         Err(MountFault::Damaged { disk, .. }) => Found::Refused(disk),
@@ -208,11 +209,23 @@ fn mount_again<D: Disk>(alloc: Global, disk: D, limit: u64) -> Found<D>
     }
 }
 
-// The disk of a journal.
-fn bare<D: Disk>(mounted: Mounted<D>) -> D
-    ensures { result ≡ disk_in mounted.journal }
+// What was mounted, with a cache of its index.
+fn with_cache<D: Disk>(alloc: Global, mounted: Mounted<D>) -> Found<D>
+    ensures { HasCache mounted result }
 {
-    mounted.journal.into_disk()
+    let Mounted {
+        journal,
+        identity,
+        index,
+    } = mounted;
+    match Cache::new(alloc, index) {
+        Ok(cache) => Found::Mounted {
+            journal,
+            identity,
+            cache,
+        },
+        Err(_) => Found::NoMemory(journal.into_disk()),
+    }
 }
 
 // Makes the room that a mounting needs.

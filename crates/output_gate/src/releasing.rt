@@ -1,5 +1,5 @@
 //! Letting go what is held.
-ghost use Rattle.std.specs.Prelude.{◌≡◌, ◌+◌, ◌≤◌, ◌++◌, [], ◌∷◌, true, false, Ok, List, IfOk, OnOk, OnErr, vec_len};
+ghost use Rattle.std.specs.Prelude.{◌≡◌, ◌+◌, ◌≤◌, ◌++◌, [], ◌∷◌, true, false, Ok, List, OnOk, OnErr, vec_len};
 ghost use Rattle.std.specs.Vec.{vec_capacity};
 ghost use Rattle.output_gate.specs.Taking.{LogSame};
 ghost use Rattle.timeline.specs.declared.notice.Stepped.TheVariants.{Did, Nothing};
@@ -15,13 +15,11 @@ use do_disk::Disk;
 use do_value::{Mem, NoMemory};
 use lane::Outlet;
 use std::collections::VecDeque;
-use storage_cache::Cache;
-use storage_map::{Alarm, Reading, StoreAsk};
 use timeline::{BackLog, Cause, End, Message, Notice, Release, Stepped, Stop};
 
 impl<D: Disk> Back<D> {
     /// Lets the first go of what is held, where all batches before it are durable: a message leaves, the front is told of a
-    /// sync, or the incarnation ends by a halt and the next one begins. After `NoMemory` the back is stopped: each further step
+    /// sync, or the incarnation ends by a halt or a read that failed and the next one begins. After `NoMemory` the back is stopped: each further step
     /// but `flush` answers `NoMemory` and does nothing.
     pub fn release<N: Outlet<Notice>, O: Outlet<Message>>(
         &mut self,
@@ -126,7 +124,7 @@ impl<D: Disk> Back<D> {
         Ok(())
     }
 
-    // The incarnation has ended by the halt that is the first of what is held, and the next one begins with all of its batches.
+    // The incarnation has ended by the halt, or the read that failed, that is the first of what is held, and the next one begins with all of its batches.
     fn restart<N: Outlet<Notice>>(&mut self, cause: Cause, notices: &mut N) -> Mem<()>
         requires { CanGo D.moment_of D.left_since D.told D.image D.faults_of self.old (held_body.Halt cause) }
         ensures went { OnOk result ((out : List Message)
@@ -136,7 +134,7 @@ impl<D: Disk> Back<D> {
         ensures outlet { (N.outlet notices.new ≡ N.outlet notices.old) × (N.left notices.new ≡ N.left notices.old) }
     {
         halt_room(&mut self.log)?;
-        let alarm = alarm_of(&self.cache)?;
+        let alarm = self.cache.alarm();
         let incarnation = self.number + 1;
         let fresh = Notice::Fresh {
             incarnation,
@@ -214,7 +212,7 @@ fn halt_room(log: &mut BackLog) -> Mem<()>
     Ok(())
 }
 
-// Logs the end of an incarnation by a halt, of which all batches are kept.
+// Logs the end of an incarnation by a halt or by a read that failed, of which all batches are kept.
 fn log_halt(log: &mut BackLog, cause: Cause, kept: u64)
     requires { HaltRoom log.old }
     ensures { LogHalts log.old log.new cause kept }
@@ -224,19 +222,10 @@ fn log_halt(log: &mut BackLog, cause: Cause, kept: u64)
         cause,
         flights,
         batches: kept,
-        read: false,
+        read: matches!(cause, Cause::Disk { .. }),
     };
     log.stops.push(stop).unwrap();
     log.ends.push(End { kept, cause }).unwrap();
-}
-
-fn alarm_of(cache: &Cache) -> Mem<Option<Alarm>>
-    ensures { IfOk result (λ alarm. alarm ≡ cache.now.alarm) }
-{
-    match cache.answer(&StoreAsk::Alarm)? {
-        Reading::Alarm(alarm) => Ok(alarm),
-        _ => unreachable!(),
-    }
 }
 
 // Sends an item.

@@ -2,16 +2,19 @@
 ghost use Rattle.std.specs.Prelude.{◌≡◌, ◌++◌, [], ◌∷◌, true, false, Ok, Some, None, option_to_list, IfOk, OnOk, OnErr, length};
 ghost use Rattle.lane.specs.Lanes.{StartsWith};
 ghost use Rattle.storage_map.specs.Ops.{batch_bytes, IsBatch};
+ghost use Rattle.storage_map.specs.Contents.{Contents};
 ghost use Rattle.storage_map.specs.Limits.{Object, IsObject};
+ghost use Rattle.storage_cache.specs.Cached.{IsCacheOf};
+ghost use Rattle.storage_cache.specs.Counted.{removed_last};
 ghost use Rattle.batch_journal.specs.Rest.{CanStage};
 ghost use Rattle.batch_journal.specs.declared.journal.Journal.{Journal};
 ghost use Rattle.timeline.specs.declared.notice.Stepped.TheVariants.{Did, Nothing};
-ghost use Rattle.output_gate.specs.Entering.{Enters, IsIdle, Takes, TakesUnread, LosesEntry, CanTake, TakesOwn, FailsOwn, CanTakeDown, TakesDown, FailsDown, TakesLate, notice_at};
+ghost use Rattle.output_gate.specs.Entering.{IsIdle, Takes, TakesEntry, LosesEntry, CanTake, TakesOwn, FailsOwn, CanTakeDown, TakesDown, FailsDown, TakesLate};
 ghost use Rattle.output_gate.specs.Entering as entering;
 ghost use Rattle.output_gate.specs.Serving.{CanServe, CanServeAs, KeepsBack, KeepsBackAs, StopsBy, is_stopped, IsAsBefore};
-ghost use Rattle.output_gate.specs.Storing.{Stages, KeepsDisk, ReadsDisk};
+ghost use Rattle.output_gate.specs.Storing.{Stages, StagesOps, ReadsDisk};
 ghost use Rattle.output_gate.specs.Taking as taking;
-ghost use Rattle.output_gate.specs.Taking.{LogRoom, LogTook, LogSame, notice_of};
+ghost use Rattle.output_gate.specs.Taking.{LogRoom, LogTook, LogSame};
 ghost use Rattle.output_gate.specs.declared.store.Store.TheVariants as store;
 
 use crate::back::{Back, Ending, MOST_UNFLUSHED_BYTES, Mode};
@@ -21,13 +24,15 @@ use crate::releasing::send;
 use do_disk::Disk;
 use do_value::{Mem, NoMemory};
 use lane::{Inlet, Outlet};
+use object_storage::AnswerFault;
 use storage_map::{Batch, Identity, StoreAsk};
 use timeline::{BackLog, Body, Cause, Entry, Failure, Message, Notice, Stepped};
 
 impl<D: Disk> Back<D> {
     /// Takes the next entry of the line. A batch is staged and its writes are seen from here on, an ask is answered, and
-    /// messages, syncs and halts are held. Where an ask's read of the disk fails the end of the incarnation by that is held, and nothing is told. After `NoMemory` the back is stopped: each further step but `flush` answers `NoMemory`
-    /// and does nothing.
+    /// messages, syncs and halts are held. A value that isn't in memory is read from the disk. Where a read fails the end of the
+    /// incarnation by that is held, the front is told nothing, and a later entry of the incarnation leaves the back stuck. After
+    /// `NoMemory` the back is stopped: each further step but `flush` answers `NoMemory` and does nothing.
     pub fn take<L: Inlet<Entry>, N: Outlet<Notice>>(
         &mut self,
         line: &mut L,
@@ -40,7 +45,7 @@ impl<D: Disk> Back<D> {
             → IsIdle self.old self.new (L.got line.old) (L.got line.new) (N.sent notices.old) (N.sent notices.new) result }
         ensures nothing { result ≡ Ok Nothing → IsIdle self.old self.new (L.got line.old) (L.got line.new) (N.sent notices.old) (N.sent notices.new) result }
         ensures empty { result ≡ Ok Nothing → taking.may_take self.old ≡ true → StartsWith (L.got line.old) (L.told line.old) }
-        ensures took { result ≡ Ok Did → Takes D.told self.old self.new (L.got line.old) (L.got line.new) (N.sent notices.old) (N.sent notices.new) }
+        ensures took { result ≡ Ok Did → Takes D.told D.image self.old self.new (L.got line.old) (L.got line.new) (N.sent notices.old) (N.sent notices.new) }
         ensures lost { is_stopped self.old ≡ false
             → OnErr result (LosesEntry self.old self.new (L.got line.old) (L.got line.new) (N.sent notices.old) (N.sent notices.new)) }
         ensures stops { StopsBy result self.new }
@@ -68,11 +73,11 @@ impl<D: Disk> Back<D> {
             → IsIdle self.old self.new (L.got line.old) (L.got line.new) (N.sent notices.old) (N.sent notices.new) result }
         ensures nothing { result ≡ Ok Nothing → IsIdle self.old self.new (L.got line.old) (L.got line.new) (N.sent notices.old) (N.sent notices.new) result }
         ensures empty { result ≡ Ok Nothing → taking.may_take self.old ≡ true → StartsWith (L.got line.old) (L.told line.old) }
-        ensures took { result ≡ Ok Did → TakesUnread self.old self.new (L.got line.old) (L.got line.new) (N.sent notices.old) (N.sent notices.new) }
+        ensures took { result ≡ Ok Did → Takes D.told D.image self.old self.new (L.got line.old) (L.got line.new) (N.sent notices.old) (N.sent notices.new) }
         ensures lost { OnErr result (LosesEntry self.old self.new (L.got line.old) (L.got line.new) (N.sent notices.old) (N.sent notices.new)) }
         ensures inlet { (L.inlet line.new ≡ L.inlet line.old) × (L.told line.new ≡ L.told line.old) }
         ensures outlet { (N.outlet notices.new ≡ N.outlet notices.old) × (N.left notices.new ≡ N.left notices.old) }
-        ensures disk { KeepsDisk self.old.store self.new.store }
+        ensures disk { ReadsDisk D.told self.old.store self.new.store }
         ensures back { OnOk result (KeepsBackAs D.moment_of D.left_since D.told D.image D.faults_of true true self.old self.new) }
         ensures stopped { OnErr result (KeepsBackAs D.moment_of D.left_since D.told D.image D.faults_of true false self.old self.new) }
     {
@@ -102,6 +107,7 @@ impl<D: Disk> Back<D> {
         ensures { result ≡ taking.fit_of self.now entry.now }
     {
         if !comes_behind(self.log.taken.as_slice().last(), entry)
+            || entry.incarnation <= self.closed
             || entry.incarnation > self.number
         {
             return Fit::Unfit;
@@ -128,10 +134,9 @@ impl<D: Disk> Back<D> {
     fn take_entry(&mut self, entry: Entry) -> Mem<Option<Notice>>
         requires back { CanServeAs D.moment_of D.left_since D.told D.image D.faults_of true self.old }
         requires may { taking.may_take self.old ≡ true }
-        ensures notice { IfOk result (λ notice. notice ≡ notice_at None self.old entry) }
-        ensures enters { OnOk result (Enters None self.old self.new entry) }
+        ensures took { IfOk result (λ notice. TakesEntry D.told D.image self.old self.new entry notice) }
         ensures kept { OnErr result (IsAsBefore self.old self.new) }
-        ensures disk { KeepsDisk self.old.store self.new.store }
+        ensures disk { ReadsDisk D.told self.old.store self.new.store }
         ensures back { OnOk result (KeepsBackAs D.moment_of D.left_since D.told D.image D.faults_of true true self.old self.new) }
         ensures stopped { OnErr result (KeepsBackAs D.moment_of D.left_since D.told D.image D.faults_of true false self.old self.new) }
     {
@@ -151,10 +156,9 @@ impl<D: Disk> Back<D> {
         requires back { CanServeAs D.moment_of D.left_since D.told D.image D.faults_of true self.old }
         requires may { taking.may_take self.old ≡ true }
         requires fit { taking.fit_of self.old entry ≡ Fit.Own }
-        ensures notice { IfOk result (λ notice. notice ≡ notice_at None self.old entry) }
-        ensures enters { OnOk result (Enters None self.old self.new entry) }
+        ensures took { IfOk result (λ notice. TakesEntry D.told D.image self.old self.new entry notice) }
         ensures kept { OnErr result (IsAsBefore self.old self.new) }
-        ensures disk { KeepsDisk self.old.store self.new.store }
+        ensures disk { ReadsDisk D.told self.old.store self.new.store }
         ensures back { OnOk result (KeepsBackAs D.moment_of D.left_since D.told D.image D.faults_of true true self.old self.new) }
         ensures stopped { OnErr result (KeepsBackAs D.moment_of D.left_since D.told D.image D.faults_of true false self.old self.new) }
     {
@@ -172,10 +176,9 @@ impl<D: Disk> Back<D> {
         requires back { CanServeAs D.moment_of D.left_since D.told D.image D.faults_of true self.old }
         requires may { taking.may_take self.old ≡ true }
         requires fit { taking.fit_of self.old entry ≡ Fit.Down }
-        ensures notice { IfOk result (λ notice. notice ≡ notice_at None self.old entry) }
-        ensures enters { OnOk result (Enters None self.old self.new entry) }
+        ensures took { IfOk result (λ notice. TakesEntry D.told D.image self.old self.new entry notice) }
         ensures kept { OnErr result (IsAsBefore self.old self.new) }
-        ensures disk { KeepsDisk self.old.store self.new.store }
+        ensures disk { ReadsDisk D.told self.old.store self.new.store }
         ensures back { OnOk result (KeepsBackAs D.moment_of D.left_since D.told D.image D.faults_of true true self.old self.new) }
         ensures stopped { OnErr result (KeepsBackAs D.moment_of D.left_since D.told D.image D.faults_of true false self.old self.new) }
     {
@@ -194,10 +197,9 @@ impl<D: Disk> Back<D> {
         requires back { CanServeAs D.moment_of D.left_since D.told D.image D.faults_of true self.old }
         requires may { taking.may_take self.old ≡ true }
         requires fit { taking.fit_of self.old entry ≡ Fit.Late }
-        ensures notice { IfOk result (λ notice. notice ≡ notice_at None self.old entry) }
-        ensures enters { OnOk result (Enters None self.old self.new entry) }
+        ensures took { IfOk result (λ notice. TakesEntry D.told D.image self.old self.new entry notice) }
         ensures kept { OnErr result (IsAsBefore self.old self.new) }
-        ensures disk { KeepsDisk self.old.store self.new.store }
+        ensures disk { ReadsDisk D.told self.old.store self.new.store }
         ensures back { OnOk result (KeepsBackAs D.moment_of D.left_since D.told D.image D.faults_of true true self.old self.new) }
         ensures stopped { OnErr result (KeepsBackAs D.moment_of D.left_since D.told D.image D.faults_of true false self.old self.new) }
     {
@@ -208,8 +210,7 @@ impl<D: Disk> Back<D> {
 
     fn take_own(&mut self, number: u64, body: Body) -> Mem<Option<Notice>>
         requires { CanTake D.moment_of D.left_since D.told D.image D.faults_of self.old number body }
-        ensures notice { IfOk result (λ notice. notice ≡ notice_of number self.old.cache body) }
-        ensures took { OnOk result (TakesOwn D.moment_of D.left_since D.told D.image D.faults_of self.old self.new number body) }
+        ensures took { IfOk result (λ notice. TakesOwn D.moment_of D.left_since D.told D.image D.faults_of self.old self.new number body notice) }
         ensures failed { OnErr result (FailsOwn D.moment_of D.left_since D.told D.image D.faults_of self.old self.new) }
     {
         match body {
@@ -222,10 +223,7 @@ impl<D: Disk> Back<D> {
                 tail,
                 confirmed,
             } => self.take_batch(number, batch, tail, confirmed),
-            Body::Ask { ask, free } => {
-                let notice = self.take_ask(number, ask, free)?;
-                Ok(Some(notice))
-            }
+            Body::Ask { ask, free } => self.take_ask(number, ask, free),
             Body::Message(message) => {
                 self.take_message(number, message)?;
                 Ok(None)
@@ -244,7 +242,7 @@ impl<D: Disk> Back<D> {
 
     fn take_sync(&mut self, number: u64) -> Mem<()>
         requires { CanTake D.moment_of D.left_since D.told D.image D.faults_of self.old number Body.Sync }
-        ensures took { OnOk result (TakesOwn D.moment_of D.left_since D.told D.image D.faults_of self.old self.new number Body.Sync) }
+        ensures took { OnOk result (TakesOwn D.moment_of D.left_since D.told D.image D.faults_of self.old self.new number Body.Sync None) }
         ensures failed { OnErr result (FailsOwn D.moment_of D.left_since D.told D.image D.faults_of self.old self.new) }
     {
         self.hold(HeldBody::Sync { number }, self.before, self.number)?;
@@ -254,7 +252,7 @@ impl<D: Disk> Back<D> {
 
     fn take_halt(&mut self, number: u64, cause: Cause) -> Mem<()>
         requires { CanTake D.moment_of D.left_since D.told D.image D.faults_of self.old number (Body.Halt cause) }
-        ensures took { OnOk result (TakesOwn D.moment_of D.left_since D.told D.image D.faults_of self.old self.new number (Body.Halt cause)) }
+        ensures took { OnOk result (TakesOwn D.moment_of D.left_since D.told D.image D.faults_of self.old self.new number (Body.Halt cause) None) }
         ensures failed { OnErr result (FailsOwn D.moment_of D.left_since D.told D.image D.faults_of self.old self.new) }
     {
         self.hold(HeldBody::Halt(cause), self.before, self.number)?;
@@ -264,7 +262,7 @@ impl<D: Disk> Back<D> {
 
     fn take_bind(&mut self, number: u64, identity: Identity) -> Mem<()>
         requires { CanTake D.moment_of D.left_since D.told D.image D.faults_of self.old number (Body.Bind identity) }
-        ensures took { OnOk result (TakesOwn D.moment_of D.left_since D.told D.image D.faults_of self.old self.new number (Body.Bind identity)) }
+        ensures took { OnOk result (TakesOwn D.moment_of D.left_since D.told D.image D.faults_of self.old self.new number (Body.Bind identity) None) }
         ensures failed { OnErr result (FailsOwn D.moment_of D.left_since D.told D.image D.faults_of self.old self.new) }
     {
         let copy = identity.copy()?;
@@ -281,13 +279,12 @@ impl<D: Disk> Back<D> {
         confirmed: bool,
     ) -> Mem<Option<Notice>>
         requires { CanTake D.moment_of D.left_since D.told D.image D.faults_of self.old number (Body.Batch batch tail confirmed) }
-        ensures notice { IfOk result (λ notice. notice ≡ notice_of number self.old.cache (Body.Batch batch tail confirmed)) }
-        ensures took { OnOk result (TakesOwn D.moment_of D.left_since D.told D.image D.faults_of self.old self.new number (Body.Batch batch tail confirmed)) }
+        ensures took { IfOk result (λ notice. TakesOwn D.moment_of D.left_since D.told D.image D.faults_of self.old self.new number
+            (Body.Batch batch tail confirmed) notice) }
         ensures failed { OnErr result (FailsOwn D.moment_of D.left_since D.told D.image D.faults_of self.old self.new) }
     {
-        let count = self.cache.take(&batch, tail.unwrap_or(0))?;
         let size = batch_size(&batch);
-        self.stage(&batch)?;
+        let count = self.stage(&batch, tail.unwrap_or(0))?;
         let body = Body::Batch {
             batch,
             tail,
@@ -313,20 +310,34 @@ impl<D: Disk> Back<D> {
         }
     }
 
-    fn take_ask(&mut self, number: u64, ask: StoreAsk, free: bool) -> Mem<Notice>
+    fn take_ask(&mut self, number: u64, ask: StoreAsk, free: bool) -> Mem<Option<Notice>>
         requires { CanTake D.moment_of D.left_since D.told D.image D.faults_of self.old number (Body.Ask ask free) }
-        ensures notice { IfOk result (λ notice. Some notice ≡ notice_of number self.old.cache (Body.Ask ask free)) }
-        ensures took { OnOk result (TakesOwn D.moment_of D.left_since D.told D.image D.faults_of self.old self.new number (Body.Ask ask free)) }
+        ensures took { IfOk result (λ notice. TakesOwn D.moment_of D.left_since D.told D.image D.faults_of self.old self.new number
+            (Body.Ask ask free) notice) }
         ensures failed { OnErr result (FailsOwn D.moment_of D.left_since D.told D.image D.faults_of self.old self.new) }
     {
-        let reading = self.cache.answer(&ask)?;
-        self.add(number, Body::Ask { ask, free });
-        Ok(Notice::Read { number, reading })
+        match self.store.answer(self.alloc, &mut self.cache, &ask) {
+            Ok(reading) => {
+                self.add(number, Body::Ask { ask, free });
+                Ok(Some(Notice::Read { number, reading }))
+            }
+            Err(AnswerFault::ReadFailed { before, after }) => {
+                self.hold(
+                    HeldBody::Halt(Cause::Disk { before, after }),
+                    self.before,
+                    self.number,
+                )?;
+                self.closed = self.number;
+                self.add(number, Body::Ask { ask, free });
+                Ok(None)
+            }
+            Err(AnswerFault::NoMemory) => Err(NoMemory),
+        }
     }
 
     fn take_message(&mut self, number: u64, message: Message) -> Mem<()>
         requires { CanTake D.moment_of D.left_since D.told D.image D.faults_of self.old number (Body.Message message) }
-        ensures took { OnOk result (TakesOwn D.moment_of D.left_since D.told D.image D.faults_of self.old self.new number (Body.Message message)) }
+        ensures took { OnOk result (TakesOwn D.moment_of D.left_since D.told D.image D.faults_of self.old self.new number (Body.Message message) None) }
         ensures failed { OnErr result (FailsOwn D.moment_of D.left_since D.told D.image D.faults_of self.old self.new) }
     {
         let copy = message.copy()?;
@@ -439,19 +450,22 @@ impl<D: Disk> Back<D> {
         Ok(())
     }
 
-    // Stages a batch.
-    fn stage(&mut self, batch: &Batch) -> Mem<()>
+    // Stages a batch, does its operations, and counts how many of its last `tail` ones deleted a key that was there.
+    fn stage(&mut self, batch: &Batch, tail: u32) -> Mem<u64>
         requires { (object : Object) × (journal : Journal D) × (self.old.identity ≡ Some object) × (self.old.store ≡ store.Journal journal)
             × (IsObject object → IsBatch batch.now → CanStage journal object batch.now) }
         ensures staged { (object : Object) (journal : Journal D) → self.old.identity ≡ Some object → self.old.store ≡ store.Journal journal
             → Stages D.told D.image journal self.new.store object batch.now result }
-        ensures same { self.new ≡ record self.old { store = self.new.store } }
+        ensures stored { (object : Object) (journal : Journal D) → self.old.identity ≡ Some object → self.old.store ≡ store.Journal journal
+            → StagesOps D.told D.image journal self.old.cache self.new.cache object batch.now result }
+        ensures counted { IfOk result (λ count. (m : Contents) → IsCacheOf self.old.cache m → count ≡ removed_last tail m batch.now) }
+        ensures same { self.new ≡ record self.old { store = self.new.store; cache = self.new.cache } }
     {
         match &self.identity {
             Some(identity) => {
                 let _ = identity.size();
                 let _ = batch.as_slice();
-                self.store.stage(batch, identity)
+                self.store.stage(&mut self.cache, batch, tail, identity)
             }
             None => unreachable!(),
         }

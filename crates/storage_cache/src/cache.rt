@@ -1,71 +1,95 @@
-//! The map of one object in memory.
-ghost use Rattle.std.specs.Prelude.{◌≡◌, OnOk, OnErr, IfOk};
-ghost use Rattle.std.specs.FinMap.{entries};
-ghost use Rattle.storage_map.specs.Contents.{apply, IsPartDone};
-ghost use Rattle.storage_map.specs.Readings.{reading, listed};
-ghost use Rattle.storage_cache.specs.Counted.{removed_last};
+//! The cache of an object whose values stay on the disk.
+ghost use Rattle.std.specs.Prelude.{◌≡◌, IfOk};
+ghost use Rattle.storage_cache.specs.Cached.{of_index, flush_all, KeepsOnly, KeepsSmall};
 
-use do_value::{Mem, Value};
+use do_value::{Mem, NoMemory, Value};
+use lru::LruCache;
+use std::alloc::Global;
 use std::marker::Model;
-use storage_map::{Batch, Map, Options, Range, Reading, StoreAsk};
+use std::num::NonZeroUsize;
+use storage_map::{Alarm, Index, Map, Place};
 
-/// The map with the batches taken so far. Contracts see it.
+/// How many values that were read are kept.
+pub const MOST_KEPT: usize = 32;
+
+/// A value whose encoding has more bytes isn't kept.
+pub const MOST_KEPT_BYTES: u64 = 16_384;
+
+/// The places of an object's values and its alarm, the values that aren't on the disk yet, and some values that were read.
+/// Contracts see these three.
 pub struct Cache {
-    map: Map,
+    pub(crate) alloc: Global,
+    pub(crate) index: Index,
+    // The values of the batches that were taken and aren't flushed, in place of a place. Its alarm isn't used.
+    pub(crate) unflushed: Map,
+    pub(crate) kept: LruCache<Place, Value>,
 }
 
 // Written out, as each crate above would prove a derived one again wherever it lets one go.
 impl Drop for Cache {
     fn drop(self) {
-        let Cache { map } = self;
-        drop(map);
+        let Cache {
+            alloc: _,
+            index,
+            unflushed,
+            kept,
+        } = self;
+        drop(index);
+        drop(unflushed);
+        drop(kept);
     }
 }
 
 impl Model for Cache {
-    ghost use Rattle.storage_map.specs.Contents.{Contents};
-    ghost use Rattle.storage_map.specs.ContentsCode.{contents_code};
+    ghost use Rattle.storage_cache.specs.Cached.{Cached};
+    ghost use Rattle.storage_cache.specs.CachedCode.{cached_code};
 
-    ghost Value = { Contents };
+    ghost Value = { Cached };
 
-    ghost coded = { contents_code };
+    ghost coded = { cached_code };
 
-    ghost view = { λ cache. cache.map };
+    ghost view = { λ cache. record { index = cache.index; unflushed = cache.unflushed.values; kept = cache.kept.entries } };
 }
 
 impl Cache {
-    /// The cache of this map.
-    pub fn new(map: Map) -> Cache
-        ensures { result ≡ map }
+    /// The cache of this index, with no value.
+    pub fn new(alloc: Global, index: Index) -> Mem<Cache>
+        ensures { IfOk result (λ cache. cache ≡ of_index index) }
     {
-        Cache { map }
+        let most = NonZeroUsize::new(MOST_KEPT).unwrap();
+        match LruCache::new(alloc, most) {
+            Ok(kept) => Ok(Cache {
+                alloc,
+                index,
+                unflushed: Map::new(alloc),
+                kept,
+            }),
+            Err(_) => Err(NoMemory),
+        }
     }
 
-    /// Does the operations of the batch, and counts how many of its last `tail` operations deleted a key that was there.
-    /// After `NoMemory` the first of them are done: use the cache no more.
-    pub fn take(&mut self, batch: &Batch, tail: u32) -> Mem<u64>
-        ensures taken { OnOk result (self.new ≡ apply self.old batch.now) }
-        ensures counted { IfOk result (λ count. count ≡ removed_last tail self.old batch.now) }
-        ensures part { OnErr result (IsPartDone self.old batch.now self.new) }
+    /// The alarm, where there is one.
+    pub fn alarm(&self) -> Option<Alarm>
+        ensures { result ≡ self.now.index.alarm }
     {
-        let ops = batch.as_slice();
-        let (first, last) = ops.split_at(ops.len().saturating_sub(tail as usize));
-        self.map.apply_ops(first)?;
-        self.map.apply_ops(last)
+        self.index.alarm()
     }
 
-    /// What the map answers to the ask.
-    pub fn answer(&self, ask: &StoreAsk) -> Mem<Reading>
-        ensures { IfOk result (λ answer. answer ≡ reading self.now ask.now) }
+    /// Says that all batches that were taken are on the disk, so that their values stand at their places.
+    pub fn flushed(&mut self)
+        ensures { self.new ≡ flush_all self.old }
     {
-        self.map.reading(ask)
+        self.unflushed = Map::new(self.alloc);
     }
 
-    /// The pairs that the options list, in order, lent one after the other. It takes no memory. No key before the first or
-    /// behind the last is passed over, but in reverse with a prefix: there all with the prefix are.
-    pub fn range<'a>(&'a self, options: &'a Options) -> Range<'a, Value>
-        ensures { result ≡ listed options.now (entries self.now.values) }
+    /// Keeps a value that was read at this place, or drops it. Values that were kept may be dropped for it.
+    pub fn keep(&mut self, place: Place, value: Value)
+        ensures kept { KeepsOnly self.old self.new place value }
+        ensures small { KeepsSmall self.old self.new }
     {
-        self.map.range(options)
+        if value.size() > MOST_KEPT_BYTES {
+            return;
+        }
+        let _ = self.kept.put(place, value);
     }
 }

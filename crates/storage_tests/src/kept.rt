@@ -4,12 +4,12 @@ ghost use Rattle.storage_map.specs.Ops.{IsOp};
 ghost use Rattle.storage_map.specs.Indexed.{values_put};
 
 use crate::stores::options_of;
-use crate::tell::tell_pair;
+use crate::tell::{tell_held, tell_lent};
 use do_value::Value;
 use serde_json::Value as Json;
 use std::alloc::Global;
 use std::test::Fail;
-use storage_cache::kept::{Cache, Held, HeldRef, Look};
+use storage_cache::{Cache, Look};
 use storage_map::{Batch, Key, Op, Options, Place, StoreAsk, laws};
 use test_rows::{Telling, count, tell_number, value, word};
 
@@ -69,14 +69,27 @@ fn places_of(alloc: Global, op: &Op, at: u64) -> Result<Vec<Place>, Fail>
     }
 }
 
-// The cache takes a batch of the operation alone, and counts whether it deleted a key.
-fn take(alloc: Global, cache: &mut Cache, op: Op, at: u64, line: &mut Telling) -> Result<(), Fail>
+/// The cache takes a batch of the operation alone, and counts whether it deleted a key, if its last operation counts. A value that it
+/// puts is to stand at this place.
+pub(crate) fn take_one(
+    alloc: Global,
+    cache: &mut Cache,
+    op: Op,
+    at: u64,
+    tail: u32,
+) -> Result<u64, Fail>
     requires { IsOp op }
 {
     laws::one_op_is_a_batch();
     let places = places_of(alloc, &op, at)?;
     let batch = Batch::new(vec![in alloc; op]?);
-    let deleted = cache.take(&batch, &places, 1)?;
+    Ok(cache.take(&batch, &places, tail)?)
+}
+
+fn take(alloc: Global, cache: &mut Cache, op: Op, at: u64, line: &mut Telling) -> Result<(), Fail>
+    requires { IsOp op }
+{
+    let deleted = take_one(alloc, cache, op, at, 1)?;
     line.tell(format!(in alloc; "{deleted} deleted"));
     Ok(())
 }
@@ -129,29 +142,16 @@ fn list(alloc: Global, cache: &mut Cache, row: &Json, line: &mut Telling) -> Res
     look(cache, &StoreAsk::List(options), line)
 }
 
-fn tell_range(cache: &Cache, options: &Options, line: &mut Telling) {
+/// The pairs that the cache lends.
+pub(crate) fn tell_range(cache: &Cache, options: &Options, line: &mut Telling) {
     line.say("range");
     let mut range = cache.range(options);
     for _ in 0..100 {
         let Some((key, held)) = range.next() else {
             break;
         };
-        match held {
-            HeldRef::Value(value) => tell_pair(line, key, value),
-            HeldRef::At(place) => tell_place(line, key, place),
-        }
+        tell_lent(line, key, held);
     }
-}
-
-fn tell_held(line: &mut Telling, key: &str, held: &Held) {
-    match held {
-        Held::Value(value) => tell_pair(line, key, value),
-        Held::At(place) => tell_place(line, key, *place),
-    }
-}
-
-fn tell_place(line: &mut Telling, key: &str, place: Place) {
-    line.tell(format!(in line.alloc(); " {key}: {} bytes at {}", place.size, place.at));
 }
 
 fn tell_alarm(cache: &Cache, line: &mut Telling) {

@@ -12,7 +12,7 @@ use do_value::Value;
 use serde_json::Value as Json;
 use std::alloc::Global;
 use std::test::Fail;
-use storage_cache::kept::Cache;
+use storage_cache::Cache;
 use storage_map::Index;
 use test_rows::{Telling, row_of, word};
 use write_batcher::Batcher;
@@ -96,7 +96,7 @@ fn main(rt: HostRuntime) -> Result<(), Fail> {
     let mut state = State {
         part: Part::Storage,
         values: Vec::new(alloc),
-        stores: stores::Stores::new(alloc),
+        stores: stores::Stores::new(alloc)?,
         cache: Cache::new(alloc, Index::new(alloc))?,
         batcher: Batcher::new(alloc),
     };

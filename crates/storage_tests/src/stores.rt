@@ -1,16 +1,19 @@
-//! A map, a cache over a copy of it, and a transaction with the same writes over an empty map. Each answers each ask.
+//! A map, a cache that took the same writes, and a transaction with them over an empty map. Each answers each ask.
 ghost use Rattle.std.specs.Prelude.{IfOk};
 ghost use Rattle.storage_map.specs.Ops.{IsOp};
 ghost use Rattle.storage_txn.specs.Writes.{IsOpen};
 
-use crate::tell::{tell_pair, tell_reading};
+use crate::kept::{take_one, tell_range};
+use crate::tell::{tell_look, tell_pair, tell_reading};
 use do_value::{Num, Text, Value};
 use serde_json::Value as Json;
 use std::alloc::Global;
 use std::mem;
 use std::test::Fail;
 use storage_cache::Cache;
-use storage_map::{Batch, Identity, Key, Keys, Map, Op, Options, Pairs, Reading, StoreAsk, laws};
+use storage_map::{
+    Batch, Identity, Index, Key, Keys, Map, Op, Options, Pairs, Reading, StoreAsk, laws,
+};
 use storage_txn::{Txn, TxnFault, laws as txn_laws};
 use test_rows::{Telling, count, tell_number, word};
 
@@ -31,12 +34,12 @@ impl Drop for Stores {
 }
 
 impl Stores {
-    pub(crate) fn new(alloc: Global) -> Stores {
-        Stores {
+    pub(crate) fn new(alloc: Global) -> Result<Stores, Fail> {
+        Ok(Stores {
             map: Map::new(alloc),
-            cache: Cache::new(Map::new(alloc)),
+            cache: Cache::new(alloc, Index::new(alloc))?,
             txn: Txn::new(alloc),
-        }
+        })
     }
 }
 
@@ -104,6 +107,19 @@ fn map_of(alloc: Global, row: &Json) -> Result<Map, Fail> {
     Ok(map)
 }
 
+// The cache that took the same writes, each at a place of its own. None is flushed.
+fn cache_of(alloc: Global, row: &Json) -> Result<Cache, Fail> {
+    let mut cache = Cache::new(alloc, Index::new(alloc))?;
+    for at in 2..100 {
+        let Some(key) = row.get(at).and_then(Json::as_str) else {
+            break;
+        };
+        let op = put(alloc, key, at as i64 - 1)?;
+        take_one(alloc, &mut cache, op, 100 * at as u64, 0)?;
+    }
+    Ok(cache)
+}
+
 fn add_write(alloc: Global, txn: &mut Txn, key: &str, number: i64) -> Result<(), Fail> {
     let number = Num::new(number)?;
     let key = Key::new(alloc, key)?;
@@ -125,13 +141,9 @@ fn txn_of(alloc: Global, row: &Json) -> Result<Txn, Fail> {
 
 fn numbered(alloc: Global, row: &Json) -> Result<Stores, Fail> {
     let map = map_of(alloc, row)?;
-    let below = map_of(alloc, row)?;
+    let cache = cache_of(alloc, row)?;
     let txn = txn_of(alloc, row)?;
-    Ok(Stores {
-        map,
-        cache: Cache::new(below),
-        txn,
-    })
+    Ok(Stores { map, cache, txn })
 }
 
 fn bound(alloc: Global, options: &Json, name: &str) -> Result<Option<Text>, Fail> {
@@ -176,37 +188,25 @@ fn seen(alloc: Global, txn: &Txn, ask: &StoreAsk) -> Result<Reading, Fail> {
     Ok(txn.view(ask, below)?)
 }
 
-fn ask(alloc: Global, stores: &Stores, ask: &StoreAsk, line: &mut Telling) -> Result<(), Fail> {
+fn ask(alloc: Global, stores: &mut Stores, ask: &StoreAsk, line: &mut Telling) -> Result<(), Fail> {
     let ask = ask.copy()?;
     line.say("map");
     tell_reading(line, &stores.map.reading(&ask)?);
     line.say("; cache");
-    tell_reading(line, &stores.cache.answer(&ask)?);
+    tell_look(line, &ask, &stores.cache.look(&ask)?);
     line.say("; overlay");
     tell_reading(line, &seen(alloc, &stores.txn, &ask)?);
     Ok(())
 }
 
-fn list(alloc: Global, stores: &Stores, row: &Json, line: &mut Telling) -> Result<(), Fail> {
+fn list(alloc: Global, stores: &mut Stores, row: &Json, line: &mut Telling) -> Result<(), Fail> {
     let Some(named) = row.get(2) else {
         return Err("no options")?;
     };
     let options = options_of(alloc, named)?;
-    line.say("range");
     tell_range(&stores.cache, &options, line);
     line.say("; ");
     ask(alloc, stores, &StoreAsk::List(options), line)
-}
-
-// The pairs that the cache lends.
-fn tell_range(cache: &Cache, options: &Options, line: &mut Telling) {
-    let mut range = cache.range(options);
-    for _ in 0..100 {
-        let Some((key, value)) = range.next() else {
-            break;
-        };
-        tell_pair(line, key, value);
-    }
 }
 
 // The pairs that the transaction lends over the map.
@@ -249,7 +249,7 @@ fn wipe(alloc: Global, map: &mut Map) -> Result<(), Fail> {
 fn delete(alloc: Global, cache: &mut Cache, row: &Json, line: &mut Telling) -> Result<(), Fail> {
     let key = Key::new(alloc, word(row, 2))?;
     let tail = if count(row, 3) == 0 { 0 } else { 1 };
-    let counted = cache.take(&one(alloc, Op::Delete { key })?, tail)?;
+    let counted = take_one(alloc, cache, Op::Delete { key }, 0, tail)?;
     line.tell(format!(in alloc; "{counted} of the last {tail}"));
     Ok(())
 }

@@ -3,6 +3,7 @@ use Rattle.std.proofs.Common.{◌≡◌, ◌≤◌, ◌∙◌, sym, ap, refl, su
 use Rattle.std.proofs.lemmas.List.{length-map}
 use Rattle.std.proofs.lemmas.Option.{slice_get-map}
 use Rattle.std.specs.Option.{option_map}
+use Rattle.do_disk.specs.Slots.{most_slots}
 use Rattle.do_tree.specs.Tree.{Script}
 use Rattle.lane.specs.Lanes.{Sending, Taking, nowhere}
 use Rattle.line_server.specs.Lines.{IsReading, source_of}
@@ -10,6 +11,7 @@ use Rattle.line_server.specs.declared.lines.Lines.{Lines}
 use Rattle.mailbox.specs.Posting.{at_slot}
 use Rattle.mailbox.specs.Runs.{out_of, state_of}
 use Rattle.mailbox.specs.declared.switch.Switch.{Switch}
+use Rattle.output_gate.specs.Serving.{alarm_of}
 use Rattle.object_core.specs.Limited.{Extent, extent_of}
 use Rattle.object_core.specs.One.{class_in}
 use Rattle.output_gate.specs.declared.back.Back.{Back}
@@ -51,13 +53,13 @@ module _ {A B : Type 0} where
 pub record BeginsWith {D R W : Type 0} (moment_of : D → ℕ) (left_since : D → ℕ → List ℕ → Type 0) (told : D → Option (List ℕ)) (image : D → List ℕ → Type 0)
     (faults_of : D → ℕ) (left : R → Option (List ℕ)) (read_faults : R → ℕ) (taken : W → Option (List ℕ)) (write_faults : W → ℕ)
     (script : Script) (run : Run) (all : List (Halves D)) (switch : Switch W) (lines : Lines R) : Type 0 where
-  pub few : length all ≤ 256
+  pub few : length all ≤ most_slots
   pub script_is : run.script ≡ script
   pub many : run.slots ≡ length all
   pub objects : (slot : ℕ) (halves : Halves D) → slice_get all slot ≡ Some halves
       → (run.objects slot ≡ halves.back.identity) × (run.classes slot ≡ class_in script halves.back.identity)
   pub backs : (slot : ℕ) (halves : Halves D) → slice_get all slot ≡ Some halves
-      → (run.alarms slot ≡ halves.back.cache.alarm) × (run.extents slot ≡ extent_of halves.back)
+      → (run.alarms slot ≡ alarm_of halves.back) × (run.extents slot ≡ extent_of halves.back)
   pub begun : (slot : ℕ) (halves : Halves D) → slice_get all slot ≡ Some halves → (start : List (List Op)) (opening : ℕ)
       → IsBack moment_of left_since told image faults_of start opening halves.back → run.begun slot start opening
   pub switch_is : run.switch ≡ state_of switch
@@ -119,10 +121,10 @@ module _ {D R W T : Type 0} (moment_of : D → ℕ) (left_since : D → ℕ → 
       ∙ ap (λ (b : Back D). b.identity) (made.each slot s at).same
 
   -- the alarm is that of its back
-  alarm_is : (slot : ℕ) (s : Row D T) → slice_get made.slots slot ≡ Some s → run.alarms slot ≡ s.0.back.cache.alarm
+  alarm_is : (slot : ℕ) (s : Row D T) → slice_get made.slots slot ≡ Some s → run.alarms slot ≡ alarm_of s.0.back
   alarm_is slot s at =
-      ap (λ (p : Option (Option (BackCell D T))). of_place None (λ (cell : BackCell D T). cell.back.cache.alarm) p) (back_at slot s at)
-      ∙ ap (λ (b : Back D). b.cache.alarm) (made.each slot s at).same
+      ap (λ (p : Option (Option (BackCell D T))). of_place None (λ (cell : BackCell D T). alarm_of cell.back) p) (back_at slot s at)
+      ∙ ap (λ (b : Back D). alarm_of b) (made.each slot s at).same
 
   -- so is the extent of its journal
   extent_is : (slot : ℕ) (s : Row D T) → slice_get made.slots slot ≡ Some s → run.extents slot ≡ extent_of s.0.back
@@ -243,14 +245,14 @@ module _ {D R W T : Type 0} (moment_of : D → ℕ) (left_since : D → ℕ → 
       omega (arith, fronts, backs)
 
   -- all cells are those of the run that they name
-  pub are_cells : length all ≤ 256 → script_of_switch sc ≡ script → AreFreshSlots moment_of left_since told image faults_of script all
+  pub are_cells : length all ≤ most_slots → script_of_switch sc ≡ script → AreFreshSlots moment_of left_since told image faults_of script all
       → sc.lines.lane ≡ lc.send.lane → sc.outs.items ≡ m.outs.items → sc.inboxes.items ≡ m.inboxes.items → IsSwitchCell (state_of sc.switch) sc
       → HasPrinted taken write_faults (taken (out_of sc.switch)) (write_faults (out_of sc.switch)) sc.switch
       → ((whole : List ℕ) → IsReading left whole [] lc.lines → IsLinesCell left whole lc)
       → HasCounted read_faults (read_faults (source_of lc.lines)) lc.lines → IsNumbered lc
       → AreCells run moment_of left_since told image faults_of left read_faults taken write_faults cells
   are_cells few same fresh lane outs inboxes switch printed lines counted numbered = record {
-    few = subst (λ (n : ℕ). n ≤ 256) (sym many_fronts) few;
+    few = subst (λ (n : ℕ). n ≤ most_slots) (sym many_fronts) few;
     each_front = refl;
     each_back = many_backs ∙ sym many_fronts;
     fronts = fronts_are same;
@@ -273,7 +275,7 @@ module _ {D R W T : Type 0} (moment_of : D → ℕ) (left_since : D → ℕ → 
   }
 
   -- that run begins with what was handed in
-  pub begins_with : (switch : Switch W) (lines : Lines R) → length all ≤ 256 → script_of_switch sc ≡ script → sc.switch ≡ switch → lc.lines ≡ lines
+  pub begins_with : (switch : Switch W) (lines : Lines R) → length all ≤ most_slots → script_of_switch sc ≡ script → sc.switch ≡ switch → lc.lines ≡ lines
       → BeginsWith moment_of left_since told image faults_of left read_faults taken write_faults script run all switch lines
   begins_with switch lines few same switch_is lines_are = record {
     few = few;
@@ -286,7 +288,7 @@ module _ {D R W T : Type 0} (moment_of : D → ℕ) (left_since : D → ℕ → 
         );
     backs = λ slot halves at.
         let found = of_map (λ (s : Row D T). s.0) made.slots slot halves (ap (λ (l : List (Halves D)). slice_get l slot) (sym made.halves) ∙ at) in (
-          alarm_is slot found.0 found.1 ∙ ap (λ (h : Halves D). h.back.cache.alarm) found.2,
+          alarm_is slot found.0 found.1 ∙ ap (λ (h : Halves D). alarm_of h.back) found.2,
           extent_is slot found.0 found.1 ∙ ap (λ (h : Halves D). extent_of h.back) found.2,
         );
     begun = λ slot halves at start opening known.

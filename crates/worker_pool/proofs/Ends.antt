@@ -11,6 +11,7 @@ use Rattle.mailbox.specs.Runs.{fault_of, log_of, state_of}
 use Rattle.mailbox.specs.Seen.{seen_line}
 use Rattle.mailbox.specs.declared.fault.SwitchFault.TheVariants.{WriteFailed}
 use Rattle.mailbox.specs.declared.switch.Switch.{Switch}
+use Rattle.output_gate.specs.Serving.{alarm_of}
 use Rattle.object_core.specs.One.{IsOne, class_in, mounted_at}
 use Rattle.object_core.specs.declared.object.Core.{Core}
 use Rattle.timeline.specs.declared.event.Event.{Event}
@@ -93,8 +94,8 @@ module _ {D R W T : Type 0} (moment_of : D → ℕ) (left_since : D → ℕ → 
           collected = of.collected ∙ sym (at_some got_of w.switch_cell.outs.items at slot.out a.out_at) ∙ is_switch.routed at;
           one = λ start opening stands.
               subst (λ (s : Script). IsOne moment_of left_since told image faults_of s (mounted_at start opening begun.back) core) k.script_is
-              (of.one (mounted_at start opening begun.back) begun.back.cache.alarm refl
-              (subst (λ (s : Script). IsFrontCell (class_in s begun.back.identity) begun.back.cache.alarm slot.front) (sym k.script_is) k.is_front)
+              (of.one (mounted_at start opening begun.back) (alarm_of begun.back) refl
+              (subst (λ (s : Script). IsFrontCell (class_in s begun.back.identity) (alarm_of begun.back) slot.front) (sym k.script_is) k.is_front)
               (k.is_back start opening stands));
         }
 

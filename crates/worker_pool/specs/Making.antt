@@ -2,6 +2,7 @@
 use Rattle.std.specs.Prelude.{◌≡◌, ◌≤◌, ◌+◌, ℕ, List, [], map, slice_get, Option, Some, vec_len}
 use Rattle.std.specs.Vec.{vec_capacity}
 use Rattle.do_tree.specs.Tree.{Script}
+use Rattle.output_gate.specs.Serving.{alarm_of}
 use Rattle.object_core.specs.Limited.{extent_of}
 use Rattle.object_core.specs.One.{AreFresh, class_in}
 use Rattle.output_gate.specs.Serving.{IsBack}
@@ -43,11 +44,11 @@ module _ {D : Type 0} (moment_of : D → ℕ) (left_since : D → ℕ → List �
   -- The cells of a slot's halves, and the switch's ends of its lanes: nothing went through them.
   pub record IsMade {T : Type 0} (halves : Halves D) (made : Slot D T) : Type 0 where
     pub script_is : script_of_front made.front ≡ script
-    pub front : IsFrontCell (class_in script halves.back.identity) halves.back.cache.alarm made.front
+    pub front : IsFrontCell (class_in script halves.back.identity) (alarm_of halves.back) made.front
     pub back : (start : List (List Op)) (opening : ℕ) → IsBack moment_of left_since told image faults_of start opening halves.back
         → IsBackCell moment_of left_since told image faults_of start opening made.back
     pub alone : (start : List (List Op)) (opening : ℕ) → IsBack moment_of left_since told image faults_of start opening halves.back
-        → IsCellAlone moment_of left_since told image faults_of start opening halves.back.identity (extent_of halves.back) halves.back.cache.alarm made.back
+        → IsCellAlone moment_of left_since told image faults_of start opening halves.back.identity (extent_of halves.back) (alarm_of halves.back) made.back
     pub same : made.back.back ≡ halves.back
     pub inbox : made.inbox.lane ≡ made.front.inbox.lane
     pub line : made.back.line.lane ≡ made.front.line.lane

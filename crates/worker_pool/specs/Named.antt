@@ -3,6 +3,7 @@ use Rattle.std.specs.Prelude.{ℕ, List, [], length, slice_get, Option, Some, No
 use Rattle.lane.specs.Lanes.{nowhere}
 use Rattle.line_server.specs.Lines.{IsReading, source_of}
 use Rattle.mailbox.specs.Runs.{out_of, state_of}
+use Rattle.output_gate.specs.Serving.{alarm_of}
 use Rattle.object_core.specs.Limited.{extent_of}
 use Rattle.object_core.specs.One.{class_in}
 use Rattle.output_gate.specs.Serving.{IsBack}
@@ -50,7 +51,7 @@ run_of {D} {R} {W} {T} moment_of left_since told image faults_of left read_fault
   outs = λ slot. of_place nowhere (λ (cell : BackCell D T). cell.out.lane) (slice_get cells.backs.items slot);
   classes = λ slot. of_place None (λ (cell : BackCell D T). class_in
       (of_some nobody.script (λ (cell : SwitchCell W T). script_of_switch cell) cells.switch) cell.back.identity) (slice_get cells.backs.items slot);
-  alarms = λ slot. of_place None (λ (cell : BackCell D T). cell.back.cache.alarm) (slice_get cells.backs.items slot);
+  alarms = λ slot. of_place None (λ (cell : BackCell D T). alarm_of cell.back) (slice_get cells.backs.items slot);
   begun = λ slot start opening. said_of_place
       (λ (cell : BackCell D T). IsBack moment_of left_since told image faults_of start opening cell.back) (slice_get cells.backs.items slot);
   objects = λ slot. of_place None (λ (cell : BackCell D T). cell.back.identity) (slice_get cells.backs.items slot);

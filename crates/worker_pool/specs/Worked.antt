@@ -1,11 +1,13 @@
 -- The cells of a run once all its workers have ended.
 use Rattle.std.specs.Prelude.{◌≡◌, ◌≤◌, ℕ, List, [], length, map, slice_get, Option, Some}
+use Rattle.do_disk.specs.Slots.{most_slots}
 use Rattle.do_tree.specs.Tree.{Script}
 use Rattle.lane.specs.Lanes.{Sending, Taking}
 use Rattle.line_server.specs.Lines.{IsReading, source_of}
 use Rattle.line_server.specs.declared.lines.Lines.{Lines}
 use Rattle.mailbox.specs.Runs.{out_of, state_of}
 use Rattle.mailbox.specs.declared.switch.Switch.{Switch}
+use Rattle.output_gate.specs.Serving.{alarm_of}
 use Rattle.object_core.specs.Limited.{extent_of}
 use Rattle.object_core.specs.One.{class_in}
 use Rattle.output_gate.specs.Serving.{IsBack}
@@ -28,9 +30,9 @@ module _ {D T : Type 0} (moment_of : D → ℕ) (left_since : D → ℕ → List
   -- The cells of a slot's halves, which began so, with the switch's ends of their lanes.
   pub record IsWorked (begun : Halves D) (front : FrontCell T) (back : BackCell D T) (posts : Sending Event) (messages : Taking Message) : Type 0 where
     pub script_is : script_of_front front ≡ script
-    pub is_front : IsFrontCell (class_in script begun.back.identity) begun.back.cache.alarm front
+    pub is_front : IsFrontCell (class_in script begun.back.identity) (alarm_of begun.back) front
     pub is_back : (start : List (List Op)) (opening : ℕ) → IsBack moment_of left_since told image faults_of start opening begun.back
-        → IsCellAlone moment_of left_since told image faults_of start opening begun.back.identity (extent_of begun.back) begun.back.cache.alarm back
+        → IsCellAlone moment_of left_since told image faults_of start opening begun.back.identity (extent_of begun.back) (alarm_of begun.back) back
     pub inbox : posts.lane ≡ front.inbox.lane
     pub line : front.line.lane ≡ back.line.lane
     pub notices : back.notices.lane ≡ front.notices.lane
@@ -63,4 +65,4 @@ module _ {D R W T : Type 0} (moment_of : D → ℕ) (left_since : D → ℕ → 
     pub reads : (whole : List ℕ) → IsReading left whole [] lines → IsLinesCell left whole lines_cell
     pub counted : HasCounted read_faults (read_faults (source_of lines)) lines_cell.lines
     pub numbered : IsNumbered lines_cell
-    pub few : length all ≤ 256
+    pub few : length all ≤ most_slots

@@ -2,6 +2,7 @@
 ghost use Rattle.std.specs.Prelude.{◌≡◌, ◌<◌, ◌≤◌, ℕ, [], length, IfOk};
 ghost use Rattle.std.specs.List.{All};
 ghost use Rattle.std.specs.Vec.{vec_capacity};
+ghost use Rattle.do_disk.specs.Slots.{most_slots};
 ghost use Rattle.do_tree.specs.Checked.{tree_of as script_in};
 ghost use Rattle.do_tree.specs.Tree.{Script};
 ghost use Rattle.host_workers.specs.Board.{AreCells, empty_places, places_of};
@@ -139,7 +140,7 @@ pub fn run_workers<
     workers: u32,
 ) -> Ran<D, R, W>
     requires workers { 1 ≤ workers }
-    requires few { length slots.items ≤ 256 }
+    requires few { length slots.items ≤ most_slots }
     requires slots { AreFreshSlots D.moment_of D.left_since D.told D.image D.faults_of (script_in checked.now) slots.items }
     requires switch { IsFreshSwitch (length slots.items) switch }
     requires lines { IsFreshReader lines }

@@ -55,16 +55,18 @@ pub(crate) fn empty_disks(alloc: Global, count: u32) -> Result<Vec<MemDisk>, Fai
 }
 
 // The halves of what was mounted and names no object.
-fn begin<D: Disk>(alloc: Global, checked: &Checked, mounted: Mounted<D>) -> Halves<D>
+fn begin<D: Disk + Drop>(alloc: Global, checked: &Checked, mounted: Mounted<D>) -> Result<Halves<D>, Fail>
     requires staged { (object : Object) → IsStaged mounted.journal object [] }
     requires none { mounted.identity ≡ None }
     requires mount { (disk : D) × IsMountOf D.told D.image D.moment_of D.left_since disk mounted }
-    ensures { IsFreshSlot D.moment_of D.left_since D.told D.image D.faults_of (script_in checked.now) result }
+    ensures { IfOk result (IsFreshSlot D.moment_of D.left_since D.told D.image D.faults_of (script_in checked.now)) }
 {
-    let front = Front::new(alloc, checked, None, mounted.map.alarm());
-    let back = Back::new(alloc, mounted);
+    let front = Front::new(alloc, checked, None, mounted.index.alarm());
+    let Ok(back) = Back::new(alloc, mounted) else {
+        return Err("no memory for a back")?;
+    };
     laws::halves_are_fresh(&back);
-    Halves { front, back }
+    Ok(Halves { front, back })
 }
 
 // The halves of a slot whose file is new.
@@ -77,7 +79,7 @@ fn new_slot<D: Disk + Drop>(alloc: Global, checked: &Checked, disk: D) -> Result
     if mounted.identity.is_some() {
         return Err("a new file has an object")?;
     }
-    Ok(begin(alloc, checked, mounted))
+    begin(alloc, checked, mounted)
 }
 
 // The halves of slots whose files are new.

@@ -2,15 +2,17 @@
 ghost use Rattle.output_gate.specs.Serving.{CanServe};
 
 use crate::backs::given::entry_of;
-use crate::backs::tell::{tell_log, tell_map, tell_message, tell_notice, tell_step};
+use crate::backs::tell::{tell_log, tell_message, tell_notice, tell_pairs, tell_step};
 use batch_journal::Journal;
 use do_disk::{Disk, Fails, MemDisk, Pick};
 use do_value::Mem;
 use lane::{Inlet, Outlet, Plain};
+use object_storage::Storage;
 use output_gate::Back;
 use serde_json::Value as Json;
 use std::alloc::Global;
 use std::test::Fail;
+use storage_map::{Options, Reading, StoreAsk};
 use test_rows::{Telling, count, word};
 use timeline::{Entry, Message, Notice, Stepped};
 
@@ -215,7 +217,9 @@ fn drive<D: Disk + Drop>(
     let Ok(mounted) = Journal::mount(alloc, disk, 4096) else {
         return Err("not mounted")?;
     };
-    let mut back = Back::new(alloc, mounted);
+    let Ok(mut back) = Back::new(alloc, mounted) else {
+        return Err("no memory for a back")?;
+    };
     let went = go_and_tell(alloc, &mut back, row, line);
     let disk = back.into_parts().disk;
     went?;
@@ -242,13 +246,24 @@ fn fails_of(alloc: Global, row: &Json) -> Result<Fails, Fail> {
     Ok(Fails::Listed(calls))
 }
 
-// What a crash leaves, as a mounting finds it.
+// All that the storage on this disk has, as a mounting finds it.
+fn all_in<D: Disk + Drop>(alloc: Global, disk: D) -> Result<Reading, Fail> {
+    let Ok(mounted) = Journal::mount(alloc, disk, 4096) else {
+        return Err("not mounted")?;
+    };
+    let Ok(mut storage) = Storage::new(alloc, mounted.journal, mounted.index) else {
+        return Err("no memory")?;
+    };
+    match storage.answer(&StoreAsk::List(Options::every())) {
+        Ok(reading) => Ok(reading),
+        Err(_) => Err("not read")?,
+    }
+}
+
+// What a crash leaves.
 fn tell_left(alloc: Global, disk: MemDisk, row: &Json, line: &mut Telling) -> Result<(), Fail> {
     let left = disk.crash(pick_of(row))?;
-    match Journal::mount(alloc, left, 4096) {
-        Ok(mounted) => tell_map(line, &mounted.map),
-        Err(_) => Err("not mounted")?,
-    }
+    tell_pairs(line, &all_in(alloc, left)?);
     Ok(())
 }
 

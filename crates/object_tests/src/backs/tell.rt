@@ -1,6 +1,6 @@
 //! What is printed of notices, messages and logs.
 use std::alloc::Global;
-use storage_map::{Map, Reading};
+use storage_map::Reading;
 use test_rows::{Telling, tell_value};
 use timeline::{BackLog, Caller, Message, Notice, Stepped};
 
@@ -101,12 +101,12 @@ pub(crate) fn tell_log(alloc: Global, line: &mut Telling, log: &BackLog) {
     tell_releases(alloc, line, log)
 }
 
-/// The values of x, y and z.
-pub(crate) fn tell_map(line: &mut Telling, map: &Map) {
-    for key in ["x", "y", "z"] {
-        if let Some(value) = map.get(key) {
+/// The pairs of a listing.
+pub(crate) fn tell_pairs(line: &mut Telling, reading: &Reading) {
+    if let Reading::Pairs(pairs) = reading {
+        for (key, value) in pairs.as_slice() {
             line.say(" ");
-            line.say(key);
+            line.say(key.as_str());
             line.say("=");
             tell_value(line, value);
         }

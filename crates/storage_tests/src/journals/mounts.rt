@@ -1,17 +1,23 @@
 //! Files that are mounted.
 use crate::journals::given::{bytes_at, tell_bytes};
+use crate::journals::places::{ReadAt, read_k, tell_read};
 use batch_journal::{Journal, MountFault, Mounted};
 use do_disk::{Disk, Fails, MemDisk};
 use serde_json::Value as Json;
 use std::alloc::Global;
 use std::test::Fail;
-use test_rows::{Telling, flag, tell_value};
+use test_rows::{Telling, flag};
 
 /// How many bytes each journal may have.
 pub(crate) const LIMIT: u64 = 4096;
 
-// The object and its value of k, the journal's end, and the file as it is then.
-fn tell_mounted(alloc: Global, mounted: Mounted<MemDisk>, row: &Json, line: &mut Telling) {
+// The object and its value of k, which was read, the journal's end, and the file as it is then.
+fn tell_mounted(
+    alloc: Global,
+    mounted: Mounted<MemDisk>,
+    read: Option<ReadAt>,
+    line: &mut Telling,
+) {
     match &mounted.identity {
         Some(object) => {
             line.say(object.class());
@@ -20,16 +26,13 @@ fn tell_mounted(alloc: Global, mounted: Mounted<MemDisk>, row: &Json, line: &mut
         }
         None => line.say("no object"),
     }
-    if let Some(value) = mounted.map.get("k") {
+    if let Some(read) = read {
         line.say(" k=");
-        tell_value(line, value);
+        tell_read(alloc, line, &read);
     }
     let (end, disk) = (mounted.journal.end(), mounted.journal.into_disk());
     line.tell(format!(in alloc; ", end {end}: "));
     tell_bytes(alloc, line, disk.content());
-    if flag(row, 3) {
-        line.tell(format!(in alloc; " by {} calls", disk.moment()));
-    }
 }
 
 fn tell_refused(alloc: Global, fault: &MountFault<MemDisk>, line: &mut Telling) {
@@ -61,7 +64,14 @@ pub(crate) fn answer(alloc: Global, row: &Json, line: &mut Telling) -> Result<()
     };
     let disk = MemDisk::new(bytes_at(alloc, row, 1)?, fails);
     match Journal::mount(alloc, disk, LIMIT) {
-        Ok(mounted) => tell_mounted(alloc, mounted, row, line),
+        Ok(mut mounted) => {
+            let calls = mounted.journal.disk().moment();
+            let read = read_k(&mut mounted);
+            tell_mounted(alloc, mounted, read, line);
+            if flag(row, 3) {
+                line.tell(format!(in alloc; " by {calls} calls"));
+            }
+        }
         Err(fault) => tell_refused(alloc, &fault, line),
     }
     Ok(())

@@ -5,11 +5,11 @@ use Rattle.do_host.proofs.Dumped.{ArePrinted}
 use Rattle.do_host.proofs.dump.dump_slots.Given as goal
 
 -- the slots so far were printed, and those to come are the others
-abbrev pub invariant-loop-map : goal.invariant-loop-map
-invariant-loop-map g l = record {
-  all : l.fn.maps.items ≡ l.yielded ++ l.map-iterator.rest.items;
+abbrev pub invariant-loop-stored : goal.invariant-loop-stored
+invariant-loop-stored g l = record {
+  all : l.fn.storages.items ≡ l.yielded ++ l.stored-iterator.rest.items;
   slot : l.slot ≡ length l.yielded;
-  printed : ArePrinted (g.W.Sink.taken l.initial.out) (g.W.Sink.taken l.out) l.slot (map (λ (row : SlotReport g.row.S.Denot). row.identity) l.rows) l.map-iterator.rest.items
-      (slots_text 0 (map (λ (row : SlotReport g.row.S.Denot). row.identity) l.rows) l.fn.maps.items);
+  printed : ArePrinted (g.W.Sink.taken l.initial.out) (g.W.Sink.taken l.out) l.slot (map (λ (row : SlotReport g.row.S.Denot). row.identity) l.rows) l.stored-iterator.rest.items
+      (slots_text 0 (map (λ (row : SlotReport g.row.S.Denot). row.identity) l.rows) l.fn.storages.items);
   steady : g.W.Sink.faults_of l.out ≡ g.W.Sink.faults_of l.initial.out;
 }

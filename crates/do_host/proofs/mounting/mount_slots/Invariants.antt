@@ -9,9 +9,9 @@ use Rattle.do_host.proofs.mounting.mount_slots.Given as goal
 abbrev pub invariant-loop-slot : goal.invariant-loop-slot
 invariant-loop-slot g l = record {
   rows : length l.report.slots.items ≡ l.slot;
-  mounted : AreMounted g.P.Store.Disk.left_since (g.P.Depot.slot_at l.fn.depot l.folder) l.directory l.report.slots.items l.maps.items;
+  mounted : AreMounted g.P.Store.Disk.told g.P.Store.Disk.left_since (g.P.Depot.slot_at l.fn.depot l.folder) l.directory l.report.slots.items l.storages.items;
   room : (more : ℕ) → l.slot + more ≡ l.slots → vec_len l.report.slots + more ≤ vec_capacity l.report.slots;
-  map_room : (more : ℕ) → l.slot + more ≡ l.slots → vec_len l.maps + more ≤ vec_capacity l.maps;
+  storage_room : (more : ℕ) → l.slot + more ≡ l.slots → vec_len l.storages + more ≤ vec_capacity l.storages;
   slots : length l.directory ≡ l.slots;
   one_each : IsOneEach l.directory;
   asked : g.P.Depot.asked l.depot ≡ g.P.Depot.asked l.fn.depot ++ slot_asks l.folder l.slot;

@@ -10,5 +10,5 @@ returns-in-Err g c =
 pub returns-in-Ok : goal.returns-in-Ok
 returns-in-Ok g c =
     dump_runs _ c.args.folder.now c.args.slots _ _ c.dump_slots-printed.new.out _ c.requires.some c.requires.empty c.end_served.ensures.input c.end_served.ensures.tells
-    (rw c.dump_end.ensures (dump_printed _ c.args.folder.now c.args.slots _ _ c.in-Ok.maps.items c.dump_slots-printed.result c.end_served.ensures.input c.mount_slots.ensures.same c.in-Ok.ensures.mounted
+    (rw c.dump_end.ensures (dump_printed _ c.args.folder.now c.args.slots _ _ c.in-Ok.storages.items c.dump_slots-printed.result c.end_served.ensures.input c.mount_slots.ensures.same c.in-Ok.ensures.mounted
     (rw c.as_slice.ensures.value at c.dump_slots-printed.ensures.writes) c.dump_slots-printed.ensures.stop c.dump_slots-printed.ensures.failed c.dump_slots-printed.ensures.steady c.in-Ok.ensures.none_unopened c.in-Ok.ensures.all_asked))

@@ -14,14 +14,14 @@ loop-event-preserved g c =
       one = λ origin one. c.step.ensures.one origin (i.one origin one);
       tells = λ tells. i.tells (told_by g.D.Disk.moment_of g.D.Disk.left_since g.D.Disk.told g.D.Disk.image g.D.Disk.faults_of (tree_of c.args.checked.now) c.loop-event.core c.step.new.self
           i.can c.step.ensures.tells tells);
-      gave = gave_more g.D.Disk.moment_of g.D.Disk.told g.D.Disk.faults_of (tree_of c.args.checked.now) c.args.core.now c.loop-event.core c.step.new.self c.args.inbox.now c.loop-event.inbox
+      gave = gave_more g.D.Disk.moment_of g.D.Disk.told g.D.Disk.image g.D.Disk.faults_of (tree_of c.args.checked.now) c.args.core.now c.loop-event.core c.step.new.self c.args.inbox.now c.loop-event.inbox
           c.take.new.self c.in-Some.event c.step.result c.in_ok-step.field-0 c.in_ok-step.was i.gave
           (record { first = c.in-Some.ensures.some.0; got = c.in-Some.ensures.some.1 }) c.step.ensures.steps;
     }
 
 pub returns-in_err-step-clause-gives : goal.returns-in_err-step-clause-gives
 returns-in_err-step-clause-gives g c =
-    gives_stop g.D.Disk.moment_of g.D.Disk.told g.D.Disk.faults_of (tree_of c.args.checked.now) c.args.core.now c.loop-event.core c.step.new.self c.args.inbox.now c.loop-event.inbox
+    gives_stop g.D.Disk.moment_of g.D.Disk.told g.D.Disk.image g.D.Disk.faults_of (tree_of c.args.checked.now) c.args.core.now c.loop-event.core c.step.new.self c.args.inbox.now c.loop-event.inbox
     c.take.new.self c.in-Some.event c.step.result c.in_err-step.field-0.0 c.in_err-step.was c.loop-event.invariant.gave
     (record { first = c.in-Some.ensures.some.0; got = c.in-Some.ensures.some.1 }) c.step.ensures.steps c.from_residual.result c.from_residual.ensures.0
 

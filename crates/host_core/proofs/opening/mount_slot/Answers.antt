@@ -1,6 +1,6 @@
 use Rattle.std.proofs.Common.{◌∙◌}
 use Rattle.std.proofs.lemmas.Result.{err_from_is_err_and}
-use Rattle.host_core.proofs.Opened.{stopped_adopting, was_mounted}
+use Rattle.host_core.proofs.Opened.{stopped_adopting, was_handed, was_mounted}
 use Rattle.host_core.proofs.opening.mount_slot.Goals as goal
 
 pub returns-in_err-mounted-clause-stop : goal.returns-in_err-mounted-clause-stop
@@ -19,3 +19,8 @@ returns-clause-stop g c =
     stopped_adopting g.P.Store.Disk.told g.P.Store.Disk.image g.P.Store.Disk.moment_of g.P.Store.Disk.left_since g.P.Store.Disk.faults_of
     c.in-Ok.disk c.in_ok-mounted.mounted c.adopt.result _ c.args.slot c.args.directory.now c.adopt.new.directory c.adopt.new.unopened (g.P.Depot.faults_of c.args.depot.now) (g.P.Depot.faults_of c.slot.new.self)
     c.in-Ok.ensures.fresh.0 c.in-Ok.ensures.content c.in_ok-mounted.ensures.mounted c.in_ok-mounted.ensures.left c.adopt.ensures.kept c.adopt.ensures.same_slots c.adopt.ensures.why
+
+pub returns-clause-handed : goal.returns-clause-handed
+returns-clause-handed g c =
+    was_handed g.P.Store.Disk.told g.P.Store.Disk.image g.P.Store.Disk.moment_of g.P.Store.Disk.left_since c.in-Ok.disk c.in_ok-mounted.mounted c.adopt.result _
+    c.in-Ok.ensures.fresh.0 c.in-Ok.ensures.content c.adopt.ensures.same c.in_ok-mounted.ensures.left

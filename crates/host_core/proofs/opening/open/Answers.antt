@@ -5,7 +5,7 @@ use Rattle.do_disk.specs.Asks.{Ask, for_slot}
 use Rattle.do_tree.specs.Checked.{tree_of}
 use Rattle.placement.specs.Slots.{object_at}
 use Rattle.host_core.specs.Begun.{AreBegun, HasBegun}
-use Rattle.host_core.proofs.Opened.{asks_more, asks_on, begun_more}
+use Rattle.host_core.proofs.Opened.{asks_more, asks_on, begun_below, begun_more}
 use Rattle.host_core.proofs.opening.open.Goals as goal
 
 pub returns-in_err-halves-clause-asked : goal.returns-in_err-halves-clause-asked
@@ -41,3 +41,9 @@ loop-slot-preserved g c =
       steady = c.in_ok-halves.ensures.steady ∙ i.steady;
       none_left = c.in_ok-halves.ensures.none_left;
     }
+
+pub returns-in_err-halves-clause-begun : goal.returns-in_err-halves-clause-begun
+returns-in_err-halves-clause-begun g c =
+    let i = c.loop-slot.invariant in
+    begun_below g.P.Store.Disk.moment_of g.P.Store.Disk.left_since g.P.Store.Disk.told g.P.Store.Disk.image g.P.Store.Disk.faults_of c.args.settings.now.journal (tree_of c.args.checked.now)
+    (g.P.Depot.slot_at c.args.depot.now (string_bytes c.args.settings.now.folder)) c.loop-slot.directory c.open_slot.new.directory c.loop-slot.slots.items c.loop-slot.slot i.many c.open_slot.ensures.only i.begun

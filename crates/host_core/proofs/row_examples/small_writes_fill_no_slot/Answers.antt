@@ -6,8 +6,9 @@ use Rattle.storage_map.specs.Limits.{Object}
 use Rattle.timeline.specs.History.{history}
 use Rattle.timeline.specs.Logs.{Backed, fronted, backed}
 use Rattle.output_gate.proofs.Unfilled.{fills_nothing}
-use Rattle.output_gate.specs.Examples.{full_early, some_object}
-use Rattle.output_gate.specs.Written.{AreFilled, MayBe}
+use Rattle.output_gate.specs.Examples.{some_object}
+use Rattle.output_gate.specs.Kept.{MayBe}
+use Rattle.output_gate.specs.Written.{AreFilled}
 use Rattle.host_core.proofs.row_examples.small_writes_fill_no_slot.Goals as goal
 
 -- no frame names nobody

@@ -4,5 +4,5 @@ use Rattle.object_history.proofs.GateStepping as gate
 use Rattle.object_history.proofs.laws.flush_steps.Goals as goal
 
 pub returns : goal.returns
-returns g c = λ start opening later known differ flushes.
-    gate.flush_steps g.D.Disk.moment_of g.D.Disk.left_since g.D.Disk.told g.D.Disk.image g.D.Disk.faults_of start opening (not (is_stopped c.args.back.now)) c.args.back.now later known differ flushes
+returns g c = λ start opening later m n known differ flushes.
+    gate.flush_steps g.D.Disk.moment_of g.D.Disk.left_since g.D.Disk.told g.D.Disk.image g.D.Disk.faults_of start opening (not (is_stopped c.args.back.now)) c.args.back.now later m n known differ flushes

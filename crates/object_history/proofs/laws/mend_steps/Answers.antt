@@ -4,5 +4,5 @@ use Rattle.object_history.proofs.GateStepping as gate
 use Rattle.object_history.proofs.laws.mend_steps.Goals as goal
 
 pub returns : goal.returns
-returns g c = λ start opening later sent_before sent known mends.
-    gate.mend_steps g.D.Disk.moment_of g.D.Disk.left_since g.D.Disk.told g.D.Disk.image g.D.Disk.faults_of start opening (not (is_stopped c.args.back.now)) c.args.back.now later sent_before sent known mends
+returns g c = λ start opening later m n sent_before sent known mends.
+    gate.mend_steps g.D.Disk.moment_of g.D.Disk.left_since g.D.Disk.told g.D.Disk.image g.D.Disk.faults_of start opening (not (is_stopped c.args.back.now)) c.args.back.now later m n known sent_before sent mends

@@ -13,10 +13,10 @@ returns g c =
     let script = tree_of c.args.checked.now in
     let front = c.new-front.result.half in
     let class : None ≡ class_in script c.args.mounted.identity = ap (λ (o : Option Object). class_in script o) (sym c.requires.none) in
-    let stands : IsHalf seen script front (fresh (class_in script c.args.mounted.identity) c.args.mounted.map.alarm) =
+    let stands : IsHalf seen script front (fresh (class_in script c.args.mounted.identity) c.args.mounted.index.alarm) =
     subst (λ (x : Option ℕ × Option (ℤ × ℕ)). IsHalf seen script front (fresh x.0 x.1)) (λ i. (class i, c.alarm.ensures i)) c.new-front.ensures.stands in
     let mount = c.requires.mount in
     record {
-      fresh = c.halves_are_fresh.ensures script c.args.mounted front c.new-back.ensures.fresh stands c.new-front.ensures.log;
-      some = (batches_in mount.1.frames, next_count (g.D.Disk.moment_of mount.0), c.new-back.ensures.back mount.0 mount.1);
+      fresh = c.halves_are_fresh.ensures script c.args.mounted front c.in-Ok.ensures.fresh stands c.new-front.ensures.log;
+      some = (batches_in mount.1.frames, next_count (g.D.Disk.moment_of mount.0), c.in-Ok.ensures.back mount.0 mount.1);
     }

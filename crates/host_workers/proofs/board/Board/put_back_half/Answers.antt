@@ -1,4 +1,4 @@
-use Rattle.std.proofs.Common.{◌≡◌, ◌<◌, ◌∙◌, Some, None, length, slice_get, set, refl, ap, sym, subst}
+use Rattle.std.proofs.Common.{◌<◌, ◌∙◌, Some, length, refl, ap, sym, subst}
 use Rattle.std.proofs.lemmas.Option.{slice_get_read}
 use Rattle.host_workers.proofs.Places.{back_comes, set_again}
 use Rattle.host_workers.proofs.board.Board.put_back_half.Goals as goal

@@ -1,4 +1,4 @@
-use Rattle.std.proofs.Common.{◌∙◌, Some, refl, sym}
+use Rattle.std.proofs.Common.{◌∙◌, refl, sym}
 use Rattle.host_workers.proofs.Places.{switch_comes}
 use Rattle.host_workers.proofs.board.Board.put_switch.Goals as goal
 

@@ -1,4 +1,4 @@
-use Rattle.std.proofs.Common.{◌≡◌, ◌<◌, ◌∙◌, Some, true, is_some, length, map, slice_get, set, refl, ap, sym, subst}
+use Rattle.std.proofs.Common.{◌≡◌, ◌<◌, ◌∙◌, Some, true, is_some, map, slice_get, set, refl, ap, sym, subst}
 use Rattle.std.proofs.lemmas.Option.{slice_get_read}
 use Rattle.host_workers.specs.Board.{Places}
 use Rattle.host_workers.proofs.Places.{back_leaves, within}

@@ -15,7 +15,7 @@ returns-clause-steps g c script =
     let e = c.flush-stepped.ensures in
     let by : FlushesBy g.D.Disk.moment_of g.D.Disk.left_since g.D.Disk.told g.D.Disk.image g.D.Disk.faults_of c.args.self.now.back c.flush-stepped.new.self c.flush-stepped.result =
     record { nothing = e.nothing; flushed = e.flushed; stopped = e.stopped; tells = e.tells; limit = e.limit; back = e.back } in
-    subst (λ (r : Result Bool NoMemory). Steps g.D.Disk.moment_of g.D.Disk.told g.D.Disk.faults_of script c.args.self.now (record c.args.self.now { back = c.flush-stepped.new.self }) Flush r)
+    subst (λ (r : Result Bool NoMemory). Steps g.D.Disk.moment_of g.D.Disk.told g.D.Disk.image g.D.Disk.faults_of script c.args.self.now (record c.args.self.now { back = c.flush-stepped.new.self }) Flush r)
     (sym c.stepped_so.ensures)
     (flush_steps g.D.Disk.moment_of g.D.Disk.left_since g.D.Disk.told g.D.Disk.image g.D.Disk.faults_of script c.args.self.now c.flush-stepped.new.self c.flush-stepped.result by)
 

@@ -10,9 +10,9 @@ use Rattle.object_core.proofs.object.Core.give.Goals as goal
 
 pub returns-clause-steps : goal.returns-clause-steps
 returns-clause-steps g c script =
-    subst (λ (r : Result Bool NoMemory). Steps g.D.Disk.moment_of g.D.Disk.told g.D.Disk.faults_of script c.args.self.now (record c.args.self.now { inbox = c.put-sent.new.inbox }) (Give c.args.event) r)
+    subst (λ (r : Result Bool NoMemory). Steps g.D.Disk.moment_of g.D.Disk.told g.D.Disk.image g.D.Disk.faults_of script c.args.self.now (record c.args.self.now { inbox = c.put-sent.new.inbox }) (Give c.args.event) r)
     (sym c.given_so.ensures)
-    (give_by g.D.Disk.moment_of g.D.Disk.told g.D.Disk.faults_of script c.args.self.now c.put-sent.new.inbox c.args.event c.put-sent.result c.put-sent.ensures.got c.put-sent.ensures.sent c.put-sent.ensures.same)
+    (give_by g.D.Disk.moment_of g.D.Disk.told g.D.Disk.image g.D.Disk.faults_of script c.args.self.now c.put-sent.new.inbox c.args.event c.put-sent.result c.put-sent.ensures.got c.put-sent.ensures.sent c.put-sent.ensures.same)
 
 pub returns-clause-one : goal.returns-clause-one
 returns-clause-one g c script origin one =

@@ -15,7 +15,7 @@ returns-clause-steps g c script =
     let e = c.mend-stepped.ensures in
     let by : MendsBy g.D.Disk.moment_of g.D.Disk.left_since g.D.Disk.told g.D.Disk.image g.D.Disk.faults_of c.args.self.now.back c.mend-stepped.new.self c.args.self.now.notices c.mend-stepped.new.notices c.mend-stepped.result =
     record { stopped = e.stopped; barred = e.barred; nothing = e.nothing; mended = e.mended; lost = e.lost; stops = e.stops; outlet = e.outlet.1; finds = e.finds; tells = e.tells; limit = e.limit; back = e.back } in
-    subst (λ (r : Result Bool NoMemory). Steps g.D.Disk.moment_of g.D.Disk.told g.D.Disk.faults_of script c.args.self.now (record c.args.self.now { back = c.mend-stepped.new.self; notices = c.mend-stepped.new.notices }) Mend r)
+    subst (λ (r : Result Bool NoMemory). Steps g.D.Disk.moment_of g.D.Disk.told g.D.Disk.image g.D.Disk.faults_of script c.args.self.now (record c.args.self.now { back = c.mend-stepped.new.self; notices = c.mend-stepped.new.notices }) Mend r)
     (sym c.stepped_so.ensures)
     (mend_steps g.D.Disk.moment_of g.D.Disk.left_since g.D.Disk.told g.D.Disk.image g.D.Disk.faults_of script c.args.self.now c.mend-stepped.new.self c.mend-stepped.new.notices c.mend-stepped.result by)
 

@@ -16,7 +16,7 @@ returns-clause-steps g c script =
     let e = c.release-stepped.ensures in
     let by : ReleasesBy g.D.Disk.moment_of g.D.Disk.left_since g.D.Disk.told g.D.Disk.image g.D.Disk.faults_of c.args.self.now.back c.release-stepped.new.self c.args.self.now.notices c.release-stepped.new.notices c.args.self.now.out c.release-stepped.new.out c.release-stepped.result =
     record { stopped = e.stopped; barred = e.barred; nothing = e.nothing; released = e.released; stays = e.stays; stops = e.stops; outlet = e.outlet.1; left = e.out.1; disk = e.disk; back = e.back } in
-    subst (λ (r : Result Bool NoMemory). Steps g.D.Disk.moment_of g.D.Disk.told g.D.Disk.faults_of script c.args.self.now (record c.args.self.now { back = c.release-stepped.new.self; notices = c.release-stepped.new.notices; out = c.release-stepped.new.out }) Release r)
+    subst (λ (r : Result Bool NoMemory). Steps g.D.Disk.moment_of g.D.Disk.told g.D.Disk.image g.D.Disk.faults_of script c.args.self.now (record c.args.self.now { back = c.release-stepped.new.self; notices = c.release-stepped.new.notices; out = c.release-stepped.new.out }) Release r)
     (sym c.stepped_so.ensures)
     (release_steps g.D.Disk.moment_of g.D.Disk.left_since g.D.Disk.told g.D.Disk.image g.D.Disk.faults_of script c.args.self.now c.release-stepped.new.self c.release-stepped.new.notices c.release-stepped.new.out c.release-stepped.result by)
 

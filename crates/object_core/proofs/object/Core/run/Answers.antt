@@ -26,8 +26,8 @@ step-requires g c = c.loop-choice.invariant.1
 pub loop-choice-preserved : goal.loop-choice-preserved
 loop-choice-preserved g c =
     let i = c.loop-choice.invariant in (
-      runs_more g.D.Disk.moment_of g.D.Disk.told g.D.Disk.faults_of (tree_of c.args.checked.now) c.args.self.now c.loop-choice.self c.step.new.self c.loop-choice.yielded c.in-Some.choice c.in_ok-step.field-0 i.0
-          (subst (λ (r : Result Bool NoMemory). Steps g.D.Disk.moment_of g.D.Disk.told g.D.Disk.faults_of (tree_of c.args.checked.now) c.loop-choice.self c.step.new.self c.in-Some.choice r) c.in_ok-step.was c.step.ensures.steps),
+      runs_more g.D.Disk.moment_of g.D.Disk.told g.D.Disk.image g.D.Disk.faults_of (tree_of c.args.checked.now) c.args.self.now c.loop-choice.self c.step.new.self c.loop-choice.yielded c.in-Some.choice c.in_ok-step.field-0 i.0
+          (subst (λ (r : Result Bool NoMemory). Steps g.D.Disk.moment_of g.D.Disk.told g.D.Disk.image g.D.Disk.faults_of (tree_of c.args.checked.now) c.loop-choice.self c.step.new.self c.in-Some.choice r) c.in_ok-step.was c.step.ensures.steps),
       c.step.ensures.again,
       λ origin one. c.step.ensures.one origin (i.2 origin one),
       told_on g.D.Disk.moment_of g.D.Disk.left_since g.D.Disk.told g.D.Disk.image g.D.Disk.faults_of (tree_of c.args.checked.now) c.args.self.now c.loop-choice.self c.step.new.self i.1 i.3
@@ -41,11 +41,11 @@ returns-in_err-step-clause-runs g c =
     let i = c.loop-choice.invariant in
     let all : c.args.choices.items ≡ c.loop-choice.yielded ++ c.in-Some.choice ∷ c.next.new.self.rest.items =
     i.4 ∙ ap (λ (xs : List Choice). c.loop-choice.yielded ++ xs) c.in-Some.ensures.steps.0 in
-    subst (λ (cs : List Choice). Runs g.D.Disk.moment_of g.D.Disk.told g.D.Disk.faults_of (tree_of c.args.checked.now) c.args.self.now c.step.new.self cs c.from_residual.result) (sym all)
-    (runs_stop g.D.Disk.moment_of g.D.Disk.told g.D.Disk.faults_of (tree_of c.args.checked.now) c.args.self.now c.step.new.self (c.loop-choice.yielded ++ c.in-Some.choice ∷ c.next.new.self.rest.items) c.in_err-step.field-0.0
+    subst (λ (cs : List Choice). Runs g.D.Disk.moment_of g.D.Disk.told g.D.Disk.image g.D.Disk.faults_of (tree_of c.args.checked.now) c.args.self.now c.step.new.self cs c.from_residual.result) (sym all)
+    (runs_stop g.D.Disk.moment_of g.D.Disk.told g.D.Disk.image g.D.Disk.faults_of (tree_of c.args.checked.now) c.args.self.now c.step.new.self (c.loop-choice.yielded ++ c.in-Some.choice ∷ c.next.new.self.rest.items) c.in_err-step.field-0.0
     c.from_residual.result c.from_residual.ensures.0
-    (runs_out g.D.Disk.moment_of g.D.Disk.told g.D.Disk.faults_of (tree_of c.args.checked.now) c.args.self.now c.loop-choice.self c.step.new.self c.loop-choice.yielded c.in-Some.choice c.next.new.self.rest.items c.in_err-step.field-0.0 i.0
-    (subst (λ (r : Result Bool NoMemory). Steps g.D.Disk.moment_of g.D.Disk.told g.D.Disk.faults_of (tree_of c.args.checked.now) c.loop-choice.self c.step.new.self c.in-Some.choice r) c.in_err-step.was c.step.ensures.steps)))
+    (runs_out g.D.Disk.moment_of g.D.Disk.told g.D.Disk.image g.D.Disk.faults_of (tree_of c.args.checked.now) c.args.self.now c.loop-choice.self c.step.new.self c.loop-choice.yielded c.in-Some.choice c.next.new.self.rest.items c.in_err-step.field-0.0 i.0
+    (subst (λ (r : Result Bool NoMemory). Steps g.D.Disk.moment_of g.D.Disk.told g.D.Disk.image g.D.Disk.faults_of (tree_of c.args.checked.now) c.loop-choice.self c.step.new.self c.in-Some.choice r) c.in_err-step.was c.step.ensures.steps)))
 
 pub returns-in_err-step-clause-one : goal.returns-in_err-step-clause-one
 returns-in_err-step-clause-one g c origin one = c.step.ensures.one origin (c.loop-choice.invariant.2 origin one)
@@ -62,7 +62,7 @@ returns-clause-runs g c =
     let rest = c.loop-choice.choice-iterator.rest in
     let none : rest.items ≡ [] = nil_from_length rest.items (sym rest.ok.0 ∙ c.in-None.ensures.steps.0) in
     let all : c.args.choices.items ≡ c.loop-choice.yielded = i.4 ∙ ap (λ (xs : List Choice). c.loop-choice.yielded ++ xs) none ∙ append-nil c.loop-choice.yielded in
-    subst (λ (cs : List Choice). Runs g.D.Disk.moment_of g.D.Disk.told g.D.Disk.faults_of (tree_of c.args.checked.now) c.args.self.now c.loop-choice.self cs (Ok tt)) (sym all) i.0
+    subst (λ (cs : List Choice). Runs g.D.Disk.moment_of g.D.Disk.told g.D.Disk.image g.D.Disk.faults_of (tree_of c.args.checked.now) c.args.self.now c.loop-choice.self cs (Ok tt)) (sym all) i.0
 
 pub returns-clause-again : goal.returns-clause-again
 returns-clause-again g c = c.loop-choice.invariant.1

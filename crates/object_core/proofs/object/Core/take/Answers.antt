@@ -15,7 +15,7 @@ returns-clause-steps g c script =
     let e = c.take-stepped.ensures in
     let by : TakesBy g.D.Disk.moment_of g.D.Disk.left_since g.D.Disk.told g.D.Disk.image g.D.Disk.faults_of c.args.self.now.back c.take-stepped.new.self c.args.self.now.line c.take-stepped.new.line c.args.self.now.notices c.take-stepped.new.notices c.take-stepped.result =
     record { stopped = e.stopped; barred = e.barred; nothing = e.nothing; empty = e.empty; took = e.took; lost = e.lost; stops = e.stops; inlet = e.inlet.1; outlet = e.outlet.1; disk = e.disk; back = e.back } in
-    subst (λ (r : Result Bool NoMemory). Steps g.D.Disk.moment_of g.D.Disk.told g.D.Disk.faults_of script c.args.self.now (record c.args.self.now { back = c.take-stepped.new.self; line = c.take-stepped.new.line; notices = c.take-stepped.new.notices }) Take r)
+    subst (λ (r : Result Bool NoMemory). Steps g.D.Disk.moment_of g.D.Disk.told g.D.Disk.image g.D.Disk.faults_of script c.args.self.now (record c.args.self.now { back = c.take-stepped.new.self; line = c.take-stepped.new.line; notices = c.take-stepped.new.notices }) Take r)
     (sym c.stepped_so.ensures)
     (take_steps g.D.Disk.moment_of g.D.Disk.left_since g.D.Disk.told g.D.Disk.image g.D.Disk.faults_of script c.args.self.now c.take-stepped.new.self c.take-stepped.new.line c.take-stepped.new.notices c.take-stepped.result by)
 

@@ -20,9 +20,9 @@ returns-clause-steps g c =
     let r = c.requires in
     let by : TurnsBy (tree_of c.args.checked.now) c.args.self.now.front.half c.turn-turned.new.self.half c.args.self.now.inbox c.turn-turned.new.inbox c.args.self.now.line c.turn-turned.new.line c.args.self.now.notices c.turn-turned.new.notices c.turn-turned.result =
     record { stopped = e.stopped; stuck = e.stuck; still = e.still; idle = e.idle; ran = e.ran; lost = e.lost; too = e.too; events = e.inbox.1; told = e.notices.1; said = e.line.1 } in
-    subst (λ (x : Result Bool NoMemory). Steps g.D.Disk.moment_of g.D.Disk.told g.D.Disk.faults_of (tree_of c.args.checked.now) c.args.self.now (record c.args.self.now { front = c.turn-turned.new.self; inbox = c.turn-turned.new.inbox; line = c.turn-turned.new.line; notices = c.turn-turned.new.notices }) Turn x)
+    subst (λ (x : Result Bool NoMemory). Steps g.D.Disk.moment_of g.D.Disk.told g.D.Disk.image g.D.Disk.faults_of (tree_of c.args.checked.now) c.args.self.now (record c.args.self.now { front = c.turn-turned.new.self; inbox = c.turn-turned.new.inbox; line = c.turn-turned.new.line; notices = c.turn-turned.new.notices }) Turn x)
     (sym c.turned_so.ensures)
-    (turn_steps g.D.Disk.moment_of g.D.Disk.told g.D.Disk.faults_of (tree_of c.args.checked.now) c.args.self.now c.turn-turned.new.self c.turn-turned.new.inbox c.turn-turned.new.line c.turn-turned.new.notices
+    (turn_steps g.D.Disk.moment_of g.D.Disk.told g.D.Disk.image g.D.Disk.faults_of (tree_of c.args.checked.now) c.args.self.now c.turn-turned.new.self c.turn-turned.new.inbox c.turn-turned.new.line c.turn-turned.new.notices
     (λ on. (r.1.st, r.1.front_stands on)) c.turn-turned.result by)
 
 pub returns-clause-one : goal.returns-clause-one

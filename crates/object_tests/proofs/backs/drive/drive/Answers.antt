@@ -5,4 +5,4 @@ use Rattle.object_tests.proofs.backs.drive.drive.Goals as goal
 pub go_and_tell-went-requires : goal.go_and_tell-went-requires
 go_and_tell-went-requires g c =
     let m = c.in-Ok.ensures.mounted in
-    (batches_in m.frames, next_count (g.D.Disk.moment_of c.args.disk), c.new-back.ensures.back c.args.disk m)
+    (batches_in m.frames, next_count (g.D.Disk.moment_of c.args.disk), c.in-Ok-new.ensures.back c.args.disk m)

@@ -1,13 +1,13 @@
-use Rattle.std.proofs.Common.{ap, sym, List, ℕ, true, false}
+use Rattle.std.proofs.Common.{ap, refl, List, ℕ, true, false}
 use Rattle.storage_map.specs.declared.op.Op.{Op}
 use Rattle.output_gate.specs.Entering.{notice_as}
 use Rattle.output_gate.specs.Serving.{IsBackAs}
 use Rattle.output_gate.specs.declared.back.Back.{Back}
 use Rattle.output_gate.specs.declared.fit.Fit.{Fit}
-use Rattle.output_gate.proofs.Enter.{room_only, late_enters, late_back}
+use Rattle.output_gate.proofs.Enter.{entered_unread, room_only, late_enters, late_back}
 use Rattle.output_gate.proofs.Entered.{on_err, as_before}
 use Rattle.output_gate.proofs.Gone.{back_room, back_stopped, back_held}
-use Rattle.output_gate.proofs.Stored.{still_disk}
+use Rattle.output_gate.proofs.Stored.{reads_of, still_disk}
 use Rattle.output_gate.proofs.back.Back.enter_late.Goals as goal
 
 pub returns-in_err-make_room-clause-stopped : goal.returns-in_err-make_room-clause-stopped
@@ -16,12 +16,11 @@ returns-in_err-make_room-clause-stopped g c =
     λ start opening b. back_stopped g.D.Disk.moment_of g.D.Disk.left_since g.D.Disk.told g.D.Disk.image g.D.Disk.faults_of start opening (record c.args.self.now { log = c.make_room.new.log }) (back_room g.D.Disk.moment_of g.D.Disk.left_since g.D.Disk.told g.D.Disk.image g.D.Disk.faults_of start opening c.args.self.now c.make_room.new.log c.make_room.ensures.same b) in
     on_err _ _ f
 
-pub returns-clause-notice : goal.returns-clause-notice
-returns-clause-notice g c = ap (λ (x : Fit). notice_as x c.args.entry c.args.self.now.cache) (sym c.requires.fit)
-
-pub returns-clause-enters : goal.returns-clause-enters
-returns-clause-enters g c =
-    late_enters g.D.Disk.moment_of g.D.Disk.left_since g.D.Disk.told g.D.Disk.image g.D.Disk.faults_of c.args.self.now c.take_late.new.self c.make_room.new.log c.args.entry c.make_room.ensures.same c.requires.may c.requires.fit c.in_ok-take_late.ensures.took
+pub returns-clause-took : goal.returns-clause-took
+returns-clause-took g c =
+    entered_unread g.D.Disk.told g.D.Disk.image c.args.self.now c.take_late.new.self c.args.entry
+    (late_enters g.D.Disk.moment_of g.D.Disk.left_since g.D.Disk.told g.D.Disk.image g.D.Disk.faults_of c.args.self.now c.take_late.new.self c.make_room.new.log c.args.entry c.make_room.ensures.same c.requires.may c.requires.fit c.in_ok-take_late.ensures.took)
+    (λ m. ap (λ (x : Fit). notice_as x c.args.entry m) c.requires.fit)
 
 pub returns-in_err-take_late-clause-stopped : goal.returns-in_err-take_late-clause-stopped
 returns-in_err-take_late-clause-stopped g c =
@@ -44,7 +43,11 @@ returns-in_err-take_late-clause-kept g c =
 
 pub returns-in_err-take_late-clause-disk : goal.returns-in_err-take_late-clause-disk
 returns-in_err-take_late-clause-disk g c =
-    still_disk c.args.self.now.store c.take_late.new.self.store (ap (λ (b : Back g.row.D.Denot). b.store) c.in_err-take_late.ensures.kept.1)
+    reads_of g.D.Disk.told c.args.self.now.store c.take_late.new.self.store (still_disk c.args.self.now.store c.take_late.new.self.store (ap (λ (b : Back g.row.D.Denot). b.store) c.in_err-take_late.ensures.kept.1))
 
 pub returns-clause-disk : goal.returns-clause-disk
-returns-clause-disk g c = still_disk c.args.self.now.store c.take_late.new.self.store (ap (λ (b : Back g.row.D.Denot). b.store) c.in_ok-take_late.ensures.took.same)
+returns-clause-disk g c =
+    reads_of g.D.Disk.told c.args.self.now.store c.take_late.new.self.store (still_disk c.args.self.now.store c.take_late.new.self.store (ap (λ (b : Back g.row.D.Denot). b.store) c.in_ok-take_late.ensures.took.same))
+
+pub returns-in_err-make_room-clause-disk : goal.returns-in_err-make_room-clause-disk
+returns-in_err-make_room-clause-disk g c = let same = c.args.self.now.store in reads_of g.D.Disk.told same same (still_disk same same refl)

@@ -1,12 +1,11 @@
-use Rattle.std.proofs.Common.{◌∙◌, ap, sym, inl, List, ℕ, true, false}
-use Rattle.std.proofs.lemmas.Result.{IfOk-weaker, on_ok_weaker}
+use Rattle.std.proofs.Common.{refl, inl, List, ℕ, true, false}
+use Rattle.std.proofs.lemmas.Result.{IfOk-weaker}
 use Rattle.storage_map.specs.declared.op.Op.{Op}
-use Rattle.output_gate.specs.Entering.{notice_as}
 use Rattle.output_gate.specs.Serving.{IsBackAs}
-use Rattle.output_gate.specs.declared.fit.Fit.{Fit}
 use Rattle.output_gate.proofs.Enter.{err_weaker, before_room, room_only, own_mounted, own_can, own_enters, own_disk}
-use Rattle.output_gate.proofs.Entered.{on_err}
+use Rattle.output_gate.proofs.Entered.{if_on_ok, on_err}
 use Rattle.output_gate.proofs.Gone.{back_room, back_stopped}
+use Rattle.output_gate.proofs.Stored.{reads_of, still_disk}
 use Rattle.output_gate.proofs.back.Back.enter_own.Goals as goal
 
 pub take_own-requires : goal.take_own-requires
@@ -20,18 +19,14 @@ returns-in_err-make_room-clause-stopped g c =
     λ start opening b. back_stopped g.D.Disk.moment_of g.D.Disk.left_since g.D.Disk.told g.D.Disk.image g.D.Disk.faults_of start opening (record c.args.self.now { log = c.make_room.new.log }) (back_room g.D.Disk.moment_of g.D.Disk.left_since g.D.Disk.told g.D.Disk.image g.D.Disk.faults_of start opening c.args.self.now c.make_room.new.log c.make_room.ensures.same b) in
     on_err _ _ f
 
-pub returns-clause-notice : goal.returns-clause-notice
-returns-clause-notice g c =
-    IfOk-weaker c.take_own.result _ _ (λ notice h. h ∙ ap (λ (x : Fit). notice_as x c.args.entry c.args.self.now.cache) (sym c.requires.fit)) c.take_own.ensures.notice
-
-pub returns-clause-enters : goal.returns-clause-enters
-returns-clause-enters g c =
-    on_ok_weaker c.take_own.result (λ t. own_enters g.D.Disk.moment_of g.D.Disk.left_since g.D.Disk.told g.D.Disk.image g.D.Disk.faults_of c.args.self.now c.take_own.new.self c.make_room.new.log c.args.entry c.make_room.ensures.same c.requires.may c.requires.fit t)
-    c.take_own.ensures.took
+pub returns-clause-took : goal.returns-clause-took
+returns-clause-took g c =
+    IfOk-weaker c.take_own.result _ _ (λ notice t. own_enters g.D.Disk.moment_of g.D.Disk.left_since g.D.Disk.told g.D.Disk.image g.D.Disk.faults_of c.args.self.now c.take_own.new.self c.make_room.new.log c.args.entry notice
+    c.make_room.ensures.same c.requires.may c.requires.fit t) c.take_own.ensures.took
 
 pub returns-clause-back : goal.returns-clause-back
 returns-clause-back g c =
-    on_ok_weaker c.take_own.result (λ t start opening b. inl (t.back start opening
+    if_on_ok c.take_own.result (λ notice t start opening b. inl (t.back start opening
     (own_mounted g.D.Disk.moment_of g.D.Disk.left_since g.D.Disk.told g.D.Disk.image g.D.Disk.faults_of start opening c.args.self.now c.make_room.new.log c.args.entry c.make_room.ensures.same c.requires.fit b))) c.take_own.ensures.took
 
 pub returns-clause-stopped : goal.returns-clause-stopped
@@ -49,3 +44,6 @@ returns-clause-kept g c =
 pub returns-clause-disk : goal.returns-clause-disk
 returns-clause-disk g c =
     own_disk g.D.Disk.moment_of g.D.Disk.left_since g.D.Disk.told g.D.Disk.image g.D.Disk.faults_of c.take_own.result (record c.args.self.now { log = c.make_room.new.log }) c.take_own.new.self c.args.entry c.take_own.ensures.took c.take_own.ensures.failed
+
+pub returns-in_err-make_room-clause-disk : goal.returns-in_err-make_room-clause-disk
+returns-in_err-make_room-clause-disk g c = let same = c.args.self.now.store in reads_of g.D.Disk.told same same (still_disk same same refl)

@@ -13,19 +13,19 @@ pub append-requires : goal.append-requires
 append-requires g c =
     let r = c.requires in
     let m = flushed_back g.D.Disk.moment_of g.D.Disk.left_since g.D.Disk.told g.D.Disk.image g.D.Disk.faults_of r.0 r.1 (not (is_stopped c.args.self.now)) c.args.self.now c.if-self.false r.2 in
-    (m.journal, m.safe.store, can_append g.D.Disk.told g.D.Disk.image m.journal c.args.self.now m.safe c.if-self.false)
+    (m.journal, m.safe.store, can_append g.D.Disk.told g.D.Disk.image (not (is_stopped c.args.self.now)) m.journal c.args.self.now m.safe c.if-self.false)
 
 pub land-requires : goal.land-requires
 land-requires g c =
     let r = c.requires in
     let m = flushed_back g.D.Disk.moment_of g.D.Disk.left_since g.D.Disk.told g.D.Disk.image g.D.Disk.faults_of r.0 r.1 (not (is_stopped c.args.self.now)) c.args.self.now c.if-self.false r.2 in
-    can_land g.D.Disk.told g.D.Disk.image m.journal c.args.self.now c.append.new.self m.safe c.if-self.false
+    can_land g.D.Disk.told g.D.Disk.image (not (is_stopped c.args.self.now)) m.journal c.args.self.now c.append.new.self c.append.new.cache m.safe c.if-self.false
 
 pub stop-requires : goal.stop-requires
 stop-requires g c =
     let r = c.requires in
     let m = flushed_back g.D.Disk.moment_of g.D.Disk.left_since g.D.Disk.told g.D.Disk.image g.D.Disk.faults_of r.0 r.1 (not (is_stopped c.args.self.now)) c.args.self.now c.if-self.false r.2 in
-    can_stop g.D.Disk.told g.D.Disk.image m.journal c.args.self.now c.append.new.self m.safe c.if-self.false
+    can_stop g.D.Disk.told g.D.Disk.image (not (is_stopped c.args.self.now)) m.journal c.args.self.now c.append.new.self c.append.new.cache m.safe c.if-self.false
 
 pub returns-in-Ok : goal.returns-in-Ok
 returns-in-Ok g c = record {
@@ -42,39 +42,39 @@ returns-in-Ok g c = record {
       limit = ap (λ (b : Back g.row.D.Denot). b.limit) c.land.ensures.same;
       identity = ap (λ (b : Back g.row.D.Denot). b.identity) c.land.ensures.same;
       stuck = ap (λ (b : Back g.row.D.Denot). b.stuck) c.land.ensures.same;
-      cache = ap (λ (b : Back g.row.D.Denot). b.cache) c.land.ensures.same;
+      closed = ap (λ (b : Back g.row.D.Denot). b.closed) c.land.ensures.same;
       end =
           let r = c.requires in
           let m = flushed_back g.D.Disk.moment_of g.D.Disk.left_since g.D.Disk.told g.D.Disk.image g.D.Disk.faults_of r.0 r.1 (not (is_stopped c.args.self.now)) c.args.self.now c.if-self.false r.2 in
-          let a = c.in-Ok.ensures m.journal m.safe.store in
-          gets_frame g.D.Disk.told g.D.Disk.image c.args.self.now c.land.new.self m.journal a.new m.safe (ap (λ (b : Back g.row.D.Denot). b.store) c.land.ensures.same ∙ a.is) a.appended;
+          let a = c.in-Ok.ensures.appends m.journal m.safe.store in
+          gets_frame g.D.Disk.told g.D.Disk.image (not (is_stopped c.args.self.now)) c.args.self.now c.land.new.self m.journal a.new m.safe (ap (λ (b : Back g.row.D.Denot). b.store) c.land.ensures.same ∙ a.is) a.appended;
     }),
   );
   tells =
       let r = c.requires in
       let m = flushed_back g.D.Disk.moment_of g.D.Disk.left_since g.D.Disk.told g.D.Disk.image g.D.Disk.faults_of r.0 r.1 (not (is_stopped c.args.self.now)) c.args.self.now c.if-self.false r.2 in
-      let a = c.in-Ok.ensures m.journal m.safe.store in
+      let a = c.in-Ok.ensures.appends m.journal m.safe.store in
       tells_in g.D.Disk.told c.args.self.now.store c.land.new.self.store (disk_in m.journal) a.new (in_it c.args.self.now.store m.journal m.safe.store)
       (ap (λ (b : Back g.row.D.Denot). b.store) c.land.ensures.same ∙ a.is) a.telling;
   limit =
       let r = c.requires in
       let m = flushed_back g.D.Disk.moment_of g.D.Disk.left_since g.D.Disk.told g.D.Disk.image g.D.Disk.faults_of r.0 r.1 (not (is_stopped c.args.self.now)) c.args.self.now c.if-self.false r.2 in
-      let a = c.in-Ok.ensures m.journal m.safe.store in
+      let a = c.in-Ok.ensures.appends m.journal m.safe.store in
       keeps_limit c.args.self.now.store c.land.new.self.store m.journal a.new m.safe.store (ap (λ (b : Back g.row.D.Denot). b.store) c.land.ensures.same ∙ a.is) a.limit;
   stopped = ap is_stopped c.land.ensures.same;
   back = λ start opening b.
       let was = not (is_stopped c.args.self.now) in
       let m = flushed_back g.D.Disk.moment_of g.D.Disk.left_since g.D.Disk.told g.D.Disk.image g.D.Disk.faults_of start opening was c.args.self.now c.if-self.false b in
       keeps_note g.D.Disk.moment_of g.D.Disk.left_since g.D.Disk.told g.D.Disk.image g.D.Disk.faults_of start opening c.args.self.now c.land.new.self (ap is_stopped c.land.ensures.same)
-      (inl (mounted_lands g.D.Disk.moment_of g.D.Disk.left_since g.D.Disk.told g.D.Disk.image g.D.Disk.faults_of g.met.D.Disk.counts_now start opening was c.args.self.now c.land.new.self c.append.new.self m
-      c.if-self.false (c.in-Ok.ensures m.journal m.safe.store) c.land.ensures));
+      (inl (mounted_lands g.D.Disk.moment_of g.D.Disk.left_since g.D.Disk.told g.D.Disk.image g.D.Disk.faults_of g.met.D.Disk.counts_now start opening was c.args.self.now c.land.new.self c.append.new.self c.append.new.cache m
+      c.if-self.false (c.in-Ok.ensures.appends m.journal m.safe.store) (c.in-Ok.ensures.stores m.journal m.safe.store) c.land.ensures));
 }
 
 pub returns-in-Err : goal.returns-in-Err
 returns-in-Err g c =
     let r = c.requires in
     let m = flushed_back g.D.Disk.moment_of g.D.Disk.left_since g.D.Disk.told g.D.Disk.image g.D.Disk.faults_of r.0 r.1 (not (is_stopped c.args.self.now)) c.args.self.now c.if-self.false r.2 in
-    let a = c.in-Err.ensures m.journal m.safe.store in
+    let a = c.in-Err.ensures.appends m.journal m.safe.store in
     record {
       nothing = λ even. absurd (c.if-self.false even);
       flushed = λ other. (
@@ -97,6 +97,7 @@ returns-in-Err g c =
           limit = ap (λ (b : Back g.row.D.Denot). b.limit) c.stop.ensures.same;
           identity = ap (λ (b : Back g.row.D.Denot). b.identity) c.stop.ensures.same;
           stuck = ap (λ (b : Back g.row.D.Denot). b.stuck) c.stop.ensures.same;
+          closed = ap (λ (b : Back g.row.D.Denot). b.closed) c.stop.ensures.same;
         }),
       );
       tells = tells_in g.D.Disk.told c.args.self.now.store c.stop.new.self.store (disk_in m.journal) a.new (in_it c.args.self.now.store m.journal m.safe.store)
@@ -107,8 +108,8 @@ returns-in-Err g c =
           let was = not (is_stopped c.args.self.now) in
           let n = flushed_back g.D.Disk.moment_of g.D.Disk.left_since g.D.Disk.told g.D.Disk.image g.D.Disk.faults_of start opening was c.args.self.now c.if-self.false b in
           keeps_note g.D.Disk.moment_of g.D.Disk.left_since g.D.Disk.told g.D.Disk.image g.D.Disk.faults_of start opening c.args.self.now c.stop.new.self (ap is_stopped c.stop.ensures.same)
-          (inr (mounted_ends g.D.Disk.moment_of g.D.Disk.left_since g.D.Disk.told g.D.Disk.image g.D.Disk.faults_of g.met.D.Disk.counts_now start opening was c.args.self.now c.stop.new.self c.append.new.self
-          c.in-Err.fault n c.if-self.false (c.in-Err.ensures n.journal n.safe.store) c.stop.ensures));
+          (inr (mounted_ends g.D.Disk.moment_of g.D.Disk.left_since g.D.Disk.told g.D.Disk.image g.D.Disk.faults_of g.met.D.Disk.counts_now start opening was c.args.self.now c.stop.new.self c.append.new.self c.append.new.cache
+          c.in-Err.fault n c.if-self.false (c.in-Err.ensures.appends n.journal n.safe.store) c.stop.ensures));
     }
 
 pub returns-then-self-clause-tells : goal.returns-then-self-clause-tells

@@ -1,7 +1,7 @@
 use Rattle.std.proofs.Common.{◌∙◌, sym, subst}
 use Rattle.batch_journal.specs.Rest.{CanStage}
 use Rattle.storage_map.specs.Limits.{Object, IsObject}
-use Rattle.output_gate.specs.Storing.{Stages}
+use Rattle.output_gate.specs.Storing.{Stages, StagesOps}
 use Rattle.output_gate.proofs.Takings.{same_object}
 use Rattle.output_gate.proofs.back.Back.stage.Goals as goal
 
@@ -14,4 +14,9 @@ stage-requires g c =
 pub returns-clause-staged : goal.returns-clause-staged
 returns-clause-staged g c object journal named at =
     subst (λ (o : Object). Stages g.D.Disk.told g.D.Disk.image journal c.stage.new.self o c.args.batch.now c.stage.result)
-    (same_object c.in-Some.identity object (sym c.in-Some.is ∙ named)) (c.stage.ensures journal at)
+    (same_object c.in-Some.identity object (sym c.in-Some.is ∙ named)) (c.stage.ensures.staged journal at)
+
+pub returns-clause-stored : goal.returns-clause-stored
+returns-clause-stored g c object journal named at =
+    subst (λ (o : Object). StagesOps g.D.Disk.told g.D.Disk.image journal c.args.self.now.cache c.stage.new.cache o c.args.batch.now c.stage.result)
+    (same_object c.in-Some.identity object (sym c.in-Some.is ∙ named)) (c.stage.ensures.stored journal at)

@@ -15,11 +15,8 @@ returns-clause-back g c =
 
 pub returns-clause-took : goal.returns-clause-took
 returns-clause-took g c did =
-    takes_noted g.D.Disk.told c.args.self.now c.take_next-stepped.new.self (g.L.Inlet.got c.args.line.now) (g.L.Inlet.got c.take_next-stepped.new.line) (g.N.Outlet.sent c.args.notices.now)
+    takes_noted g.D.Disk.told g.D.Disk.image c.args.self.now c.take_next-stepped.new.self (g.L.Inlet.got c.args.line.now) (g.L.Inlet.got c.take_next-stepped.new.line) (g.N.Outlet.sent c.args.notices.now)
     (g.N.Outlet.sent c.take_next-stepped.new.notices) c.is_err-self.result (c.take_next-stepped.ensures.took did)
-
-pub returns-clause-disk : goal.returns-clause-disk
-returns-clause-disk g c = reads_of g.D.Disk.told c.args.self.now.store c.take_next-stepped.new.self.store c.take_next-stepped.ensures.disk
 
 pub returns-then-self-clause-disk : goal.returns-then-self-clause-disk
 returns-then-self-clause-disk g c = let same = c.args.self.now.store in reads_of g.D.Disk.told same same (still_disk same same refl)

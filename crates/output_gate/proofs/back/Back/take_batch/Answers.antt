@@ -1,7 +1,9 @@
-use Rattle.std.proofs.Common.{◌∙◌, ap, arith}
+use Rattle.std.proofs.Common.{◌∙◌, ap, arith, ℕ}
+use Rattle.storage_cache.specs.Counted.{removed_last}
+use Rattle.output_gate.proofs.Takings.{may_some, some_object}
 use Rattle.output_gate.specs.declared.back.Back.{Back}
 use Rattle.output_gate.proofs.Batches.{fits_frame}
-use Rattle.output_gate.proofs.Entered.{on_err, somebody, failed_cache, failed_stage, follows_so, took_batch}
+use Rattle.output_gate.proofs.Entered.{count_told, none_told, on_err, somebody, failed_stage, follows_so, took_batch}
 use Rattle.output_gate.proofs.back.Back.take_batch.Goals as goal
 
 pub stage-requires : goal.stage-requires
@@ -24,30 +26,30 @@ overflow_add-self-3 g c =
 
 pub returns-in_err-count-clause-failed : goal.returns-in_err-count-clause-failed
 returns-in_err-count-clause-failed g c =
-    on_err c.from_residual.result _ (failed_cache g.D.Disk.moment_of g.D.Disk.left_since g.D.Disk.told g.D.Disk.image g.D.Disk.faults_of c.args.self.now c.take.new.self)
-
-pub returns-in_err-stage-clause-failed : goal.returns-in_err-stage-clause-failed
-returns-in_err-stage-clause-failed g c =
     let o = somebody g.D.Disk.moment_of g.D.Disk.left_since g.D.Disk.told g.D.Disk.image g.D.Disk.faults_of c.args.self.now.identity c.requires.fits in
-    on_err c.from_residual-in_err-stage.result _ (failed_stage g.D.Disk.moment_of g.D.Disk.left_since g.D.Disk.told g.D.Disk.image g.D.Disk.faults_of c.args.self.now c.stage.new.self c.take.new.self o.0 c.args.batch _ c.requires.back.journal c.requires.back.safe.store
-    (λ journal at. c.in_err-stage.ensures.staged o.0 journal o.1 at) c.stage.ensures.same)
+    on_err c.from_residual.result _ (failed_stage g.D.Disk.moment_of g.D.Disk.left_since g.D.Disk.told g.D.Disk.image g.D.Disk.faults_of c.args.self.now c.stage.new.self o.0 c.args.batch _ c.requires.back.journal c.requires.back.safe.store
+    (λ journal at. c.in_err-count.ensures.staged o.0 journal o.1 at) c.stage.ensures.same)
 
 pub returns-in-Some-clause-took : goal.returns-in-Some-clause-took
 returns-in-Some-clause-took g c =
     let o = somebody g.D.Disk.moment_of g.D.Disk.left_since g.D.Disk.told g.D.Disk.image g.D.Disk.faults_of c.args.self.now.identity c.requires.fits in
-    took_batch g.D.Disk.moment_of g.D.Disk.left_since g.D.Disk.told g.D.Disk.image g.D.Disk.faults_of c.args.self.now c.stage.new.self c.add.new.self c.args.number c.args.batch c.args.tail c.args.confirmed c.take.new.self c.batch_size-size.result _ o.0 o.1
-    c.requires.back.journal c.requires.back.safe.store c.requires.comes c.in_ok-count.ensures.taken c.batch_size-size.ensures.size
+    took_batch g.D.Disk.moment_of g.D.Disk.left_since g.D.Disk.told g.D.Disk.image g.D.Disk.faults_of c.args.self.now c.stage.new.self c.add.new.self c.args.number c.args.batch c.args.tail c.args.confirmed c.batch_size-size.result _ o.0
+    c.in_ok-count.count _ o.1 c.requires.back.journal c.requires.back.safe.store c.requires.comes c.requires.goes_on
+    (λ disk at tells m has.
+    let any = some_object c.args.self.now.identity in
+    count_told c.args.number m c.args.batch c.args.tail c.args.confirmed c.in-Some.field-0 c.in_ok-count.count c.in-Some.is
+    (c.in_ok-count.ensures.counted m (has.stored any (may_some c.args.self.now.identity)).cache_of ∙ ap (λ (n : ℕ). removed_last n m c.args.batch) c.unwrap_or.ensures)) c.batch_size-size.ensures.size
     (follows_so g.D.Disk.moment_of g.D.Disk.left_since g.D.Disk.told g.D.Disk.image g.D.Disk.faults_of c.args.self.now c.add.new.self c.args.confirmed
     (ap (λ (b : Back g.row.D.Denot). b.before) c.add.ensures.same ∙ ap (λ (b : Back g.row.D.Denot). b.before) c.stage.ensures.same)
     (ap (λ (b : Back g.row.D.Denot). b.needs) c.add.ensures.same ∙ ap (λ (b : Back g.row.D.Denot). b.needs) c.stage.ensures.same))
-    (λ journal at. c.in_ok-stage.ensures.staged o.0 journal o.1 at) c.stage.ensures.same c.add.ensures.log c.add.ensures.same c.follow.new.self c.follow.ensures
+    (λ journal at. c.in_ok-count.ensures.staged o.0 journal o.1 at) (λ journal at. c.in_ok-count.ensures.stored o.0 journal o.1 at) c.stage.ensures.same c.add.ensures.log c.add.ensures.same c.follow.new.self c.follow.ensures
 
 pub returns-in-None-clause-took : goal.returns-in-None-clause-took
 returns-in-None-clause-took g c =
     let o = somebody g.D.Disk.moment_of g.D.Disk.left_since g.D.Disk.told g.D.Disk.image g.D.Disk.faults_of c.args.self.now.identity c.requires.fits in
-    took_batch g.D.Disk.moment_of g.D.Disk.left_since g.D.Disk.told g.D.Disk.image g.D.Disk.faults_of c.args.self.now c.stage.new.self c.add.new.self c.args.number c.args.batch c.args.tail c.args.confirmed c.take.new.self c.batch_size-size.result _ o.0 o.1
-    c.requires.back.journal c.requires.back.safe.store c.requires.comes c.in_ok-count.ensures.taken c.batch_size-size.ensures.size
+    took_batch g.D.Disk.moment_of g.D.Disk.left_since g.D.Disk.told g.D.Disk.image g.D.Disk.faults_of c.args.self.now c.stage.new.self c.add.new.self c.args.number c.args.batch c.args.tail c.args.confirmed c.batch_size-size.result _ o.0
+    c.in_ok-count.count _ o.1 c.requires.back.journal c.requires.back.safe.store c.requires.comes c.requires.goes_on (λ disk at tells m has. none_told c.args.number m c.args.batch c.args.tail c.args.confirmed c.in-None.is) c.batch_size-size.ensures.size
     (follows_so g.D.Disk.moment_of g.D.Disk.left_since g.D.Disk.told g.D.Disk.image g.D.Disk.faults_of c.args.self.now c.add.new.self c.args.confirmed
     (ap (λ (b : Back g.row.D.Denot). b.before) c.add.ensures.same ∙ ap (λ (b : Back g.row.D.Denot). b.before) c.stage.ensures.same)
     (ap (λ (b : Back g.row.D.Denot). b.needs) c.add.ensures.same ∙ ap (λ (b : Back g.row.D.Denot). b.needs) c.stage.ensures.same))
-    (λ journal at. c.in_ok-stage.ensures.staged o.0 journal o.1 at) c.stage.ensures.same c.add.ensures.log c.add.ensures.same c.follow.new.self c.follow.ensures
+    (λ journal at. c.in_ok-count.ensures.staged o.0 journal o.1 at) (λ journal at. c.in_ok-count.ensures.stored o.0 journal o.1 at) c.stage.ensures.same c.add.ensures.log c.add.ensures.same c.follow.new.self c.follow.ensures

@@ -8,4 +8,4 @@ returns-in_err-copy-clause-failed g c =
 pub returns-clause-took : goal.returns-clause-took
 returns-clause-took g c =
     took_bind g.D.Disk.moment_of g.D.Disk.left_since g.D.Disk.told g.D.Disk.image g.D.Disk.faults_of c.args.self.now c.add.new.self c.args.number c.args.identity _
-    c.in_ok-copy.ensures c.requires.comes c.requires.fits c.add.ensures.log c.add.ensures.same
+    c.in_ok-copy.ensures c.requires.comes c.requires.goes_on c.requires.fits c.add.ensures.log c.add.ensures.same

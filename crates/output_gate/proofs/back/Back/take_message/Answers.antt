@@ -12,4 +12,4 @@ returns-in_err-hold-clause-failed g c =
 pub returns-clause-took : goal.returns-clause-took
 returns-clause-took g c =
     took_message g.D.Disk.moment_of g.D.Disk.left_since g.D.Disk.told g.D.Disk.image g.D.Disk.faults_of c.args.self.now c.hold.new.self c.add.new.self c.args.number c.args.message _
-    c.in_ok-copy.ensures c.requires.comes c.in_ok-hold.ensures.held c.hold.ensures.same c.add.ensures.log c.add.ensures.same
+    c.in_ok-copy.ensures c.requires.comes c.requires.goes_on c.in_ok-hold.ensures.held c.hold.ensures.same c.add.ensures.log c.add.ensures.same

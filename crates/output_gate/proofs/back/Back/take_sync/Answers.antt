@@ -11,4 +11,4 @@ returns-in_err-hold-clause-failed g c =
 pub returns-clause-took : goal.returns-clause-took
 returns-clause-took g c =
     took_silent g.D.Disk.moment_of g.D.Disk.left_since g.D.Disk.told g.D.Disk.image g.D.Disk.faults_of c.args.self.now c.hold.new.self c.add.new.self c.args.number body.Sync
-    (held_body.Sync c.args.number) c.requires.comes refl (λ n k. refl) refl (λ n s. refl) (λ yes. refl) refl c.in_ok-hold.ensures.held c.hold.ensures.same c.add.ensures.log c.add.ensures.same refl refl refl
+    (held_body.Sync c.args.number) c.requires.comes c.requires.goes_on (λ disk at tells m has. refl) refl refl (λ n k. refl) refl (λ n s. refl) (λ yes. refl) refl c.in_ok-hold.ensures.held c.hold.ensures.same c.add.ensures.log c.add.ensures.same refl refl refl

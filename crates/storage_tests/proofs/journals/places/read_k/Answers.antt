@@ -11,8 +11,8 @@ stands_at S p None value is at = cc
 stands_at S p (Some q) None is at = absurd is
 stands_at S p (Some q) (Some v) is at = let same : q ≡ p = cc in (v, subst (λ (r : Place). S r v) same is)
 
-pub read_value-read-requires : goal.read_value-read-requires
-read_value-read-requires g c =
+pub read_value-value-requires : goal.read_value-value-requires
+read_value-value-requires g c =
     let mounted = c.requires.mounted.1 in
     let found = stands_at (IsPlaceIn mounted.frames) c.in_ok-place.place _ _ (mounted.index.each _) (sym c.get.ensures ∙ c.in_ok-place.was) in
     (mounted.frames, found.0, mounted.at_rest, found.1)
