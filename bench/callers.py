@@ -89,10 +89,12 @@ class Host(Caller):
                     return int(line.split()[1]) * 1024
 
     def processor(self):
-        """The processor's seconds that it has taken so far."""
-        with open(f"/proc/{self.ran.pid}/stat") as it:
-            fields = it.read().rpartition(")")[2].split()
-        return (int(fields[11]) + int(fields[12])) / os.sysconf("SC_CLK_TCK")
+        """The processor's seconds that its threads have taken so far."""
+        spent = 0
+        for thread in os.listdir(f"/proc/{self.ran.pid}/task"):
+            with open(f"/proc/{self.ran.pid}/task/{thread}/schedstat") as it:
+                spent += int(it.read().split()[0])
+        return spent / 1e9
 
 
 def named(count):

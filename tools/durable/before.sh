@@ -30,6 +30,10 @@ warn_of_slots() {
     local file last
     file=$(journals_of "$1" 16 | tail -n 1)
     [ -n "$file" ] && [ "$(number_of "$file")" -ge "$2" ] || return 0
+    if [ "$command" = gen ]; then
+        say "WARNING: $file has an object, and gen serves and adds up the first $2 slots alone. Give gen another folder."
+        return
+    fi
     last=$(journals_of "$1" | tail -n 1)
     say "WARNING: $file has an object, and --slots $2 ends before it. Give --slots $(($(number_of "$last") + 1)), as the folder has journals to there."
     if [ "$command" = serve ]; then

@@ -14,14 +14,15 @@ read_words() {
         serve) places='script folder' options='slots workers journal-bytes' ;;
         check) places=script ;;
         dump) places=folder options=slots ;;
+        gen) places='seed count folder' ;;
         '') fault='no command is given'; return ;;
         --build) if [ "$aim" = run ]; then fault='--build stands alone'; fi; return ;;
-        -*) fault="$command stands before the command: serve, check or dump comes first"; return ;;
+        -*) fault="$command stands before the command: serve, check, dump or gen comes first"; return ;;
         *) fault="there is no command $command"; return ;;
     esac
     shift
     read_rest "$@"
-    if [ -z "$fault" ] && [ -n "$places" ]; then fault="$command wants a ${places/ / and a } yet"; fi
+    if [ -z "$fault" ] && [ -n "$places" ]; then fault="$command wants a ${places// / and a } yet"; fi
 }
 
 # whether the words ask something of this script
@@ -61,6 +62,8 @@ read_place() {
     local path=$1
     if [[ $path == -* ]]; then path=./$path; fi
     case "${places%% *}" in
+        seed) read_made SEED "$1" 18446744073709551615 ;;
+        count) read_made COUNT "$1" 1000000 ;;
         script) script=$path ;;
         folder) folder=$path ;;
         *) if [ -z "$fault" ]; then fault="'$1' is one word too many for $command"; fi ;;
@@ -91,6 +94,13 @@ read_number() {
     fi
 }
 
+# a number of `gen`, which may be longer than a number of bash
+read_made() {
+    if ! [[ $2 =~ ^(0|[1-9][0-9]{0,19})$ ]] || [[ ${#2} -gt ${#3} ]] || { [[ ${#2} -eq ${#3} ]] && [[ $2 > $3 ]]; }; then
+        fault="$1 is a whole number from 0 to $3, in digits alone, and not '$2'"
+    fi
+}
+
 # what the words are to be
 tell_words() {
     say "${fault:-these words are no command}"
@@ -98,6 +108,7 @@ tell_words() {
         serve) say "usage: ./durable serve SCRIPT FOLDER [--slots N] [--workers N] [--journal-bytes N]" ;;
         check) say "usage: ./durable check SCRIPT" ;;
         dump) say "usage: ./durable dump FOLDER [--slots N]" ;;
-        *) say "usage: ./durable serve SCRIPT FOLDER, check SCRIPT, or dump FOLDER; ./durable --help tells more" ;;
+        gen) say "usage: ./durable gen SEED COUNT FOLDER" ;;
+        *) say "usage: ./durable serve SCRIPT FOLDER, check SCRIPT, dump FOLDER, or gen SEED COUNT FOLDER; ./durable --help tells more" ;;
     esac
 }

@@ -1,5 +1,5 @@
 -- From what `clap` says of a parse to what the words ask for.
-use Rattle.std.proofs.Common.{◌≡◌, ◌≢◌, ◌∙◌, inl, inr, true, ap, subst, List, [], ◌∷◌, map, Result, Ok, Err, IfOk, String, string_bytes}
+use Rattle.std.proofs.Common.{◌≡◌, ◌≢◌, ◌∙◌, inl, inr, true, ap, ap₂, subst, List, [], ◌∷◌, map, Option, Some, None, option_map, Result, Ok, Err, IfOk, String, string_bytes}
 use Rattle.std.proofs.lemmas.Result.{IfOk-weaker}
 use Rattle.clap.specs.Words.{App, HasKind, HasMatchesOf, IsAmong, Kinds, fault_of, is_simple, is_simple_and_free, kind_of, subcommand_of, subcommand_rows_of}
 use Rattle.clap.specs.declared.error.Error.{Error}
@@ -24,6 +24,16 @@ fails_among k (x ∷ xs) h = tt
 when_failed : (faults : Kinds) (matched wanted : Asked) → Answers faults matched wanted → Fails faults → usage ≡ wanted
 when_failed faults matched wanted (inl a) f = absurd (subst Fails a.0 f)
 when_failed faults matched wanted (inr a) f = a.1
+
+-- a pair by its parts, where there is one
+pub some_pair : {A X Y : Type 0} (f : A → X) (g : A → Y) (o : Option A) (x : X) (y : Y) → Some x ≡ option_map f o → Some y ≡ option_map (λ (p : X × Y). p.1) (option_map {U = X × Y} (λ a. (f a, g a)) o)
+    → option_map {U = X × Y} (λ a. (f a, g a)) o ≡ Some (x, y)
+some_pair f g None x y first second = cc
+some_pair {A} {X} {Y} f g (Some a) x y first second =
+    let one : f a ≡ x = cc in
+    let two : g a ≡ y = cc in
+    let pair : ◌≡◌ {A = X × Y} (f a, g a) (x, y) = ap₂ (λ (l : X) (r : Y). (l, r)) one two in
+    ap Some pair
 
 pub of_matches : {Z C E : Type 0} (words : List (String Z)) (app : App) (m : ArgMatches) (seen : C → Asked) (r : Result C E) → app ≡ described
     → (is_simple_and_free app ≡ true → fault_of app (map string_bytes words) ≡ []) → HasMatchesOf app (map string_bytes words) m

@@ -9,7 +9,7 @@ use Rattle.clap.specs.Faults.{bundle_fault, check_fault, defaults_fault, entered
 use Rattle.std.proofs.lemmas.Str.{IsUtf8-string_bytes}
 use Rattle.clap.proofs.WalkLemmas.{walk_stopped}
 use Rattle.command_words.specs.Words.{Text, Named, is_once, told, under}
-use Rattle.command_words.specs.Asked.{Asked, usage, asked, asked_by, asked_once, serve_by, check_by, dump_by, options_of, places_of}
+use Rattle.command_words.specs.Asked.{Asked, usage, asked, asked_by, asked_once, serve_by, check_by, dump_by, gen_by, options_of, places_of}
 use Rattle.command_words.specs.Matched.{asked_at}
 use Rattle.command_words.specs.Described.{described}
 use Rattle.command_words.proofs.Kept.{same_text}
@@ -18,7 +18,7 @@ use Rattle.command_words.proofs.Rules.{Fails, cond_same, fails_left, fails_right
 use Rattle.command_words.proofs.Steps.{AreTexts, bundle_fails}
 use Rattle.command_words.proofs.Levels.{Answers, IsOf, answered, known_long, level_ends, option_id, options_then, unknown_long}
 
--- ---- the three commands
+-- ---- the commands
 
 abbrev serve_places : List Rule
 serve_places = place_rule (codes "script") 1 ∷ place_rule (codes "folder") 2 ∷ []
@@ -34,6 +34,9 @@ dump_places = place_rule (codes "folder") 1 ∷ []
 
 abbrev dump_rules : List Rule
 dump_rules = options_then (options_of (codes "dump")) dump_places
+
+abbrev gen_rules : List Rule
+gen_rules = place_rule (codes "seed") 1 ∷ place_rule (codes "count") 2 ∷ place_rule (codes "folder") 3 ∷ []
 
 serve_is : IsOf serve_rules (options_of (codes "serve")) (places_of (codes "serve"))
 serve_is = record {
@@ -71,6 +74,19 @@ dump_is = record {
   };
   stand = (refl, refl, refl);
   plain = (refl, (refl, tt));
+  free = λ rows. refl;
+}
+
+gen_is : IsOf gen_rules (options_of (codes "gen")) (places_of (codes "gen"))
+gen_is = record {
+  has = record {
+    known = known_long [] gen_rules;
+    unknown = λ name. unknown_long [] gen_rules name refl;
+    by_id = option_id [] gen_rules;
+    no_short = λ x. refl;
+  };
+  stand = (refl, refl, (refl, refl, (refl, refl, refl)));
+  plain = (refl, (refl, (refl, tt)));
   free = λ rows. refl;
 }
 
@@ -129,9 +145,9 @@ entering name c none met found words = (faults, stop)
 
 -- ---- a first word that is no command
 
-abbrev command_met : Bool → Bool → Bool → Option Text
-command_met s k d =
-    option_map (λ (n : Text × List Text). n.0) (cond (s || false) (Some (codes "serve", [])) (cond (k || false) (Some (codes "check", [])) (cond (d || false) (Some (codes "dump", [])) None)))
+abbrev command_met : Bool → Bool → Bool → Bool → Option Text
+command_met s k d g =
+    option_map (λ (n : Text × List Text). n.0) (cond (s || false) (Some (codes "serve", [])) (cond (k || false) (Some (codes "check", [])) (cond (d || false) (Some (codes "dump", [])) (cond (g || false) (Some (codes "gen", [])) None))))
 
 abbrev first_turn : Text → Option Text → Kinds
 first_turn word met =
@@ -152,25 +168,28 @@ short_by word so =
     or_else (option_map_or (λ flags. bundle_fault [] false flags nothing_held) so [])
     (step_fault program.top 1 (short_or_plain [] idle word so nothing_held).0 (short_or_plain [] idle word so nothing_held).1)
 
+-- a word that is no command asks for none
+pub no_command : (word : Text) (look : Text → Option Text) → bytes_eq (codes "serve") word ≡ false → bytes_eq (codes "check") word ≡ false → bytes_eq (codes "dump") word ≡ false
+    → bytes_eq (codes "gen") word ≡ false → asked_by word look ≡ usage
+no_command word look s k d g = λ j. if s j then serve_by look else (if k j then check_by look else (if d j then dump_by look else (if g j then gen_by look else usage)))
+
 -- what the words ask for where the first is no command
 unknown_asked : (word : Text) (words : List Text) → bytes_eq (codes "serve") word ≡ false → bytes_eq (codes "check") word ≡ false → bytes_eq (codes "dump") word ≡ false
-    → asked (word ∷ words) ≡ usage
-unknown_asked word words s k d = go (told (options_of word) words (places_of word) None)
+    → bytes_eq (codes "gen") word ≡ false → asked (word ∷ words) ≡ usage
+unknown_asked word words s k d g = go (told (options_of word) words (places_of word) None)
   where
-    by_none : (look : Text → Option Text) → asked_by word look ≡ usage
-    by_none look = λ j. if s j then serve_by look else (if k j then check_by look else (if d j then dump_by look else usage))
-
     go : (r : Option Named) → asked_once word r ≡ usage
     go None = refl
-    go (Some named) = ap (λ (a : Asked). if is_once named then a else usage) (by_none (λ name. under name named)) ∙ cond_same (is_once named) usage
+    go (Some named) = ap (λ (a : Asked). if is_once named then a else usage) (no_command word (λ name. under name named) s k d g) ∙ cond_same (is_once named) usage
 
-module _ (word : Text) (s : bytes_eq (codes "serve") word ≡ false) (k : bytes_eq (codes "check") word ≡ false) (d : bytes_eq (codes "dump") word ≡ false) where
+module _ (word : Text) (s : bytes_eq (codes "serve") word ≡ false) (k : bytes_eq (codes "check") word ≡ false) (d : bytes_eq (codes "dump") word ≡ false)
+    (g : bytes_eq (codes "gen") word ≡ false) where
   turn_is : turn_fault program.top (names_of program) start word ≡ first_turn word None
-  turn_is = λ j. first_turn word (command_met (s j) (k j) (d j))
+  turn_is = λ j. first_turn word (command_met (s j) (k j) (d j) (g j))
 
   walk_is : step start word ≡ first_walk word None
   unfolding walked
-  walk_is = λ j. first_walk word (command_met (s j) (k j) (d j))
+  walk_is = λ j. first_walk word (command_met (s j) (k j) (d j) (g j))
 
   turn_fails : (words : List Text) → Fails (turn_fault program.top (names_of program) start word) → Fails (fault_of described (word ∷ words))
   unfolding walk_fault
@@ -227,6 +246,10 @@ dump_answers : (words : List Text) → AreTexts words → AnswersAt (codes "dump
 unfolding walked
 dump_answers = command_answers (codes "dump") dump_rules dump_is refl refl refl
 
+gen_answers : (words : List Text) → AreTexts words → AnswersAt (codes "gen" ∷ words)
+unfolding walked
+gen_answers = command_answers (codes "gen") gen_rules gen_is refl refl refl
+
 no_words : AnswersAt []
 unfolding walk_fault defaults_fault
 no_words = inl (refl, refl)
@@ -238,10 +261,15 @@ whole (word ∷ words) u = first (bytes_eq (codes "serve") word) refl
     named : (name : Text) → bytes_eq name word ≡ true → AnswersAt (name ∷ words) → AnswersAt (word ∷ words)
     named name e h = subst (λ (w : Text). AnswersAt (w ∷ words)) (same_text name word e) h
 
+    fourth : (b : Bool) → bytes_eq (codes "gen") word ≡ b → bytes_eq (codes "serve") word ≡ false → bytes_eq (codes "check") word ≡ false → bytes_eq (codes "dump") word ≡ false
+        → AnswersAt (word ∷ words)
+    fourth true g s k d = named (codes "gen") g (gen_answers words u.1)
+    fourth false g s k d =
+        subst (Answers (fault_of described (word ∷ words)) (asked_at (subcommand_of described (word ∷ words)))) (sym (unknown_asked word words s k d g)) (unknown_answers word s k d g words u.0)
+
     third : (b : Bool) → bytes_eq (codes "dump") word ≡ b → bytes_eq (codes "serve") word ≡ false → bytes_eq (codes "check") word ≡ false → AnswersAt (word ∷ words)
     third true d s k = named (codes "dump") d (dump_answers words u.1)
-    third false d s k =
-        subst (Answers (fault_of described (word ∷ words)) (asked_at (subcommand_of described (word ∷ words)))) (sym (unknown_asked word words s k d)) (unknown_answers word s k d words u.0)
+    third false d s k = fourth (bytes_eq (codes "gen") word) refl s k d
 
     second : (b : Bool) → bytes_eq (codes "check") word ≡ b → bytes_eq (codes "serve") word ≡ false → AnswersAt (word ∷ words)
     second true k s = named (codes "check") k (check_answers words u.1)

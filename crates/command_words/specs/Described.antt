@@ -16,10 +16,14 @@ check_described = with_rule (new_app (codes "check")) (new_rule (codes "script")
 abbrev pub dump_described : App
 dump_described = with_rule (with_rule (new_app (codes "dump")) (option_described (codes "slots"))) (new_rule (codes "folder"))
 
+abbrev pub gen_described : App
+gen_described = with_rule (with_rule (with_rule (new_app (codes "gen")) (new_rule (codes "seed"))) (new_rule (codes "count"))) (new_rule (codes "folder"))
+
 -- the program takes no name of its own among the words, and has no help
 abbrev pub bare : App
 bare = let app = new_app (codes "durable") in
     record app { top = record app.top { no_binary_name = true; disable_help_flag = true; disable_help_subcommand = true } }
 
 abbrev pub described : App
-described = with_subcommand (with_subcommand (with_subcommand bare serve_described.top) check_described.top) dump_described.top
+described = with_subcommand (with_subcommand (with_subcommand (with_subcommand bare serve_described.top) check_described.top) dump_described.top)
+    gen_described.top

@@ -23,6 +23,11 @@ number_within least most text =
     let n = digits_value 10 text in
     if is_decimal text && (nat_le least n && nat_le n most) then Some n else None
 
+-- the same of a word that has to be there, from 0 to the most
+abbrev pub number_in : ℕ → Option (List ℕ) → Option ℕ
+number_in most None = None
+number_in most (Some text) = number_within 0 most text
+
 -- the same of an option that may be given
 abbrev pub number_or : ℕ → ℕ → ℕ → Option (List ℕ) → Option ℕ
 number_or otherwise least most None = Some otherwise

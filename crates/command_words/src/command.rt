@@ -32,6 +32,15 @@ pub enum Command {
         /// As of [`ServeWords`].
         slots: u32,
     },
+    /// Serves the lines that a seed makes, and prints what they come to.
+    Gen {
+        /// What the lines are made of.
+        seed: u64,
+        /// How many lines, 0 to 1,000,000.
+        count: u64,
+        /// The folder of the slots.
+        folder: String,
+    },
     /// The words are no command.
     Usage,
 }

@@ -2,7 +2,7 @@
 ghost use Rattle.std.specs.Prelude.{◌≡◌, false, IfOk};
 ghost use Rattle.clap.specs.Words.{app_of, rule_of};
 ghost use Rattle.clap.specs.declared.builder.command.Command.TheViews.{out-Command as fields_of};
-ghost use Rattle.command_words.specs.Described.{described, serve_described, check_described, dump_described, option_described, bare};
+ghost use Rattle.command_words.specs.Described.{described, serve_described, check_described, dump_described, gen_described, option_described, bare};
 
 use clap::{Arg, Command};
 use std::alloc::{AllocError, Global};
@@ -13,8 +13,10 @@ pub(crate) fn described<'a>(alloc: Global) -> Result<Command<'a>, AllocError>
 {
     let program = bare(alloc)
         .subcommand(serve_described(alloc)?)?
-        .subcommand(check_described(alloc)?)?;
-    program.subcommand(dump_described(alloc)?)
+        .subcommand(check_described(alloc)?)?
+        .subcommand(dump_described(alloc)?)?
+        .subcommand(gen_described(alloc)?)?;
+    Ok(program)
 }
 
 // The program alone: no name of its own among the words, and no help.
@@ -55,6 +57,17 @@ fn dump_described<'a>(alloc: Global) -> Result<Command<'a>, AllocError>
 {
     let command = Command::new(alloc, "dump")
         .arg(option_described(alloc, "slots"))?
+        .arg(Arg::new(alloc, "folder"))?;
+    Ok(command)
+}
+
+fn gen_described<'a>(alloc: Global) -> Result<Command<'a>, AllocError>
+    ensures app { IfOk result (λ r. app_of r ≡ gen_described) }
+    ensures local { IfOk result (λ r. (fields_of r).has_globals ≡ false) }
+{
+    let command = Command::new(alloc, "gen")
+        .arg(Arg::new(alloc, "seed"))?
+        .arg(Arg::new(alloc, "count"))?
         .arg(Arg::new(alloc, "folder"))?;
     Ok(command)
 }

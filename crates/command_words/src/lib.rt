@@ -1,4 +1,5 @@
-//! The words of a run of `durable`, as `clap` reads them: `serve SCRIPT FOLDER`, `check SCRIPT`, `dump FOLDER`, and their options.
+//! The words of a run of `durable`, as `clap` reads them: `serve SCRIPT FOLDER`, `check SCRIPT`, `dump FOLDER`, `gen SEED COUNT FOLDER`, and
+//! their options.
 #![tactic(auto)]
 
 mod command;

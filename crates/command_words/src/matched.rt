@@ -1,13 +1,13 @@
 //! The command that a parse's matches are.
 ghost use Rattle.std.specs.Prelude.{◌≡◌, IfOk, string_bytes};
 ghost use Rattle.clap.specs.Words.{rows_of, found_of, first_of, subcommand_rows_of};
-ghost use Rattle.command_words.specs.Asked.{asked_by, serve_by, check_by, dump_by};
+ghost use Rattle.command_words.specs.Asked.{asked_by, serve_by, check_by, dump_by, gen_by};
 ghost use Rattle.command_words.specs.Matched.{asked_at};
 ghost use Rattle.command_words.specs.Numbers.{text_of};
 ghost use Rattle.command_words.specs.Seen.{asked_of, IsInRanges};
 
 use crate::command::{Command, ServeWords};
-use crate::number::{Range, number_or};
+use crate::number::{Range, number_in, number_or};
 use clap::ArgMatches;
 use do_disk::MOST_SLOTS;
 use do_value::{Mem, NoMemory};
@@ -31,6 +31,9 @@ const JOURNAL: Range = Range {
     otherwise: 1_073_741_824,
 };
 
+// The most lines that `gen` makes.
+const MOST_MADE: u64 = 1_000_000;
+
 // The command of these matches.
 pub(crate) fn matched(alloc: Global, matches: &ArgMatches<'_>) -> Mem<Command>
     ensures asked { IfOk result (λ command. asked_of command ≡ asked_at (subcommand_rows_of matches.now)) }
@@ -52,6 +55,8 @@ fn commanded(alloc: Global, name: &str, inner: &ArgMatches<'_>) -> Mem<Command>
         check_of(alloc, inner)
     } else if name == "dump" {
         dump_of(alloc, inner)
+    } else if name == "gen" {
+        gen_of(alloc, inner)
     } else {
         Ok(Command::Usage)
     }
@@ -110,6 +115,26 @@ fn dump_of(alloc: Global, inner: &ArgMatches<'_>) -> Mem<Command>
     Ok(Command::Dump {
         folder: owned(alloc, folder)?,
         slots: slots as u32,
+    })
+}
+
+fn gen_of(alloc: Global, inner: &ArgMatches<'_>) -> Mem<Command>
+    ensures asked { IfOk result (λ command. asked_of command ≡ gen_by (λ id. first_of id (rows_of (found_of inner.now)))) }
+    ensures ranges { IfOk result IsInRanges }
+{
+    let Some(seed) = number_in(word_of(inner, "seed"), u64::MAX) else {
+        return Ok(Command::Usage);
+    };
+    let Some(count) = number_in(word_of(inner, "count"), MOST_MADE) else {
+        return Ok(Command::Usage);
+    };
+    let Some(folder) = word_of(inner, "folder") else {
+        return Ok(Command::Usage);
+    };
+    Ok(Command::Gen {
+        seed,
+        count,
+        folder: owned(alloc, folder)?,
     })
 }
 

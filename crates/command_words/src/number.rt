@@ -1,6 +1,6 @@
 //! The numbers of options.
 ghost use Rattle.std.specs.Prelude.{◌≡◌, IfSome, ◌&&◌, ◌||◌, ◌==◌, not, length, slice_index, nat_le, if◌then◌else◌, Some, None};
-ghost use Rattle.command_words.specs.Numbers.{number_within, number_or, text_of};
+ghost use Rattle.command_words.specs.Numbers.{number_within, number_in, number_or, text_of};
 ghost use Rattle.command_words.specs.Seen.{IsWithin};
 
 /// The numbers that an option takes, and the one that stands where it isn't given.
@@ -20,6 +20,17 @@ pub(crate) fn number_or(text: Option<&str>, range: Range) -> Option<u64>
     match text {
         Some(text) => number_within(text, range.least, range.most),
         None => Some(range.otherwise),
+    }
+}
+
+// The number of a word that has to be there, from 0 to the most.
+pub(crate) fn number_in(text: Option<&str>, most: u64) -> Option<u64>
+    ensures number { result ≡ number_in most (text_of text.entry) }
+    ensures within { IfSome result (IsWithin 0 most) }
+{
+    match text {
+        Some(text) => number_within(text, 0, most),
+        None => None,
     }
 }
 

@@ -12,12 +12,12 @@ use clap::error::ErrorKind;
 use do_value::{Mem, NoMemory};
 use std::alloc::Global;
 
-/// The command that the words are: `serve SCRIPT FOLDER [--slots N] [--workers N] [--journal-bytes N]`, `check SCRIPT` or
-/// `dump FOLDER [--slots N]`, and [`Command::Usage`] where they are none of these.
+/// The command that the words are: `serve SCRIPT FOLDER [--slots N] [--workers N] [--journal-bytes N]`, `check SCRIPT`,
+/// `dump FOLDER [--slots N]` or `gen SEED COUNT FOLDER`, and [`Command::Usage`] where they are none of these.
 ///
 /// Options stand before, between or after the positional words, each at most once, and `--` ends them. The value of an option
-/// is the next word, or follows `=` in the same word: decimal digits, without a zero before others. There is no help:
-/// `help` and `--help` are no command.
+/// is the next word, or follows `=` in the same word. A number is decimal digits, without a zero before others. There is no
+/// help: `help` and `--help` are no command.
 pub fn command_of(alloc: Global, words: &[String]) -> Mem<Command>
     ensures asked { IfOk result (λ command. asked_of command ≡ asked (map string_bytes words.now)) }
     ensures ranges { IfOk result IsInRanges }

@@ -46,7 +46,7 @@ stopped_bad opening.Failed bad is = let no : ends.OpenFailed ≡ ends.BadSlot ba
 stopped_bad (opening.BadSlot other) bad is = let same : ends.BadSlot other ≡ ends.BadSlot bad = is in cc
 stopped_bad opening.NoMemory bad is = let no : ends.NoMemory ≡ ends.BadSlot bad = is in cc
 
-stopped_unread : (end : OpenEnd) → opening_end end ≢ ends.ReadFailed
+pub stopped_unread : (end : OpenEnd) → opening_end end ≢ ends.ReadFailed
 stopped_unread opening.Failed is = let no : ends.OpenFailed ≡ ends.ReadFailed = is in cc
 stopped_unread (opening.BadSlot bad) is = let no : ends.BadSlot bad ≡ ends.ReadFailed = is in cc
 stopped_unread opening.NoMemory is = let no : ends.NoMemory ≡ ends.ReadFailed = is in cc
@@ -115,7 +115,7 @@ row_objects {S} left_since contents named rows many idle =
         (slice_get-map (λ (r : SlotReport S). r.identity) rows slot ∙ ap (option_map (λ (r : SlotReport S). r.identity)) at) ∙ (idle slot row at).object
 
 -- how printing the slots ends
-print_kind : (result : Result (Unit {0}) RunEnd) → OnErr result ((result ≡ Err WriteFailed) ⊎ (result ≡ Err NoMemory)) → (result ≡ Ok tt) ⊎ (result ≡ Err WriteFailed) ⊎ (result ≡ Err NoMemory)
+pub print_kind : (result : Result (Unit {0}) RunEnd) → OnErr result ((result ≡ Err WriteFailed) ⊎ (result ≡ Err NoMemory)) → (result ≡ Ok tt) ⊎ (result ≡ Err WriteFailed) ⊎ (result ≡ Err NoMemory)
 print_kind (Ok tt) stop = inl refl
 print_kind (Err end) stop = inr stop
 
@@ -217,9 +217,7 @@ module _ {S R W : Type 0} (outside : Outside S R W) (folder : List ℕ) (slots :
   any_dump : AtAnyEnd outside given left
   any_dump = record {
     statuses = status_known outside.sink.faults_of outside.sink.taken dumped left.out left.status end shown;
-    bad_slot_kept = λ seven. let bad = ends_seven outside.sink.faults_of outside.sink.taken dumped left.out left.status end shown seven in printed.opened.kept bad.0 bad.1;
     line_limit = lines_unread given.report left.report empty printed.reads_nothing.2;
-    accepted = accepts_unread given.report left.report empty (outside.source.left given.input) (outside.source.left left.input) (ap outside.source.left unread) printed.reads_nothing.1 printed.reads_nothing.2;
     unread = λ none. (unread, printed.reads_nothing.1, printed.reads_nothing.2 ∙ empty.lines);
     silent = λ none silent. ap outside.sink.taken
         (ends_silent outside.sink.faults_of outside.sink.taken dumped left.out left.status end shown silent ∙ (printed.opened.unread (omega (arith, some, ap length none))).1);
@@ -228,6 +226,11 @@ module _ {S R W : Type 0} (outside : Outside S R W) (folder : List ℕ) (slots :
   pub dump_runs : Runs (dumps folder slots) outside given left
   dump_runs = record {
     any = any_dump;
+    input = record {
+      bad_slot_kept = λ seven. let bad = ends_seven outside.sink.faults_of outside.sink.taken dumped left.out left.status end shown seven in printed.opened.kept bad.0 bad.1;
+      accepted = accepts_unread given.report left.report empty (outside.source.left given.input) (outside.source.left left.input) (ap outside.source.left unread) printed.reads_nothing.1
+          printed.reads_nothing.2;
+    };
     status_one = λ one. absurd (not_usage outside.sink.faults_of outside.sink.taken dumped left.out left.status end shown one);
     as_asked = record {
       statuses = dump_known outside.sink.faults_of outside.sink.taken dumped left.out left.status end printed.reads_nothing.0 shown;

@@ -8,7 +8,7 @@ use Rattle.host_core.specs.Report.{IsEmpty}
 use Rattle.do_host.specs.EarlyEnds.{IsRefusedBy, IsStoppedBy, IsScriptEnd}
 use Rattle.do_host.specs.Endings.{EndsAs, TellsLine}
 use Rattle.do_host.specs.Outside.{Given, Left, LeavesInputAndReport, Outside}
-use Rattle.do_host.specs.Runs.{AtAnyEnd, Runs}
+use Rattle.do_host.specs.Runs.{AtAnyEnd, Runs, TakesInput}
 use Rattle.do_host.specs.ScriptRuns.{TellsAll, TellsFirst}
 use Rattle.do_host.specs.ScriptLines.{IsRefusalLine, IsScriptLine, IsCheckLine}
 use Rattle.do_host.specs.Status.{IsStatus, IsEarlyStatus, IsCheckStatus, IsSilentStatus, stop_status}
@@ -23,10 +23,10 @@ use Rattle.do_host.proofs.Unread.{accepts_unread, lines_unread}
 abbrev pub early : {T : Type 0} → EarlyEnd → Result T EarlyEnd
 early {T} end = Err end
 
-stop_is_no_line : {T : Type 0} (stop : RunEnd) (bytes : Vec ℕ Global) → early {T = T} (Stopped stop) ≡ early {T = T} (Refused bytes) → ⊥
+pub stop_is_no_line : {T : Type 0} (stop : RunEnd) (bytes : Vec ℕ Global) → early {T = T} (Stopped stop) ≡ early {T = T} (Refused bytes) → ⊥
 stop_is_no_line {T} stop bytes same = cc
 
-same_stop : {T : Type 0} (stop other : RunEnd) → early {T = T} (Stopped stop) ≡ early {T = T} (Stopped other) → stop ≡ other
+pub same_stop : {T : Type 0} (stop other : RunEnd) → early {T = T} (Stopped stop) ≡ early {T = T} (Stopped other) → stop ≡ other
 same_stop {T} stop other same = cc
 
 -- What an end of reading the script shows: its line, whole or in part; or the depot failed; or memory was wanting.
@@ -150,12 +150,19 @@ any_unread outside given left empty same is silent =
     let lines = ap (λ r. r.lines) same.report in
     record {
       statuses = is.0;
-      bad_slot_kept = λ seven. absurd (is.2 seven);
       line_limit = lines_unread given.report left.report empty lines;
-      accepted = accepts_unread given.report left.report empty (outside.source.left given.input) (outside.source.left left.input) (ap outside.source.left same.input) switch lines;
       unread = λ none. (same.input, switch, lines ∙ empty.lines);
       silent = λ none. silent;
     }
+
+-- so does what holds of the input
+pub takes_unread : {S R W : Type 0} (outside : Outside S R W) (given : Given S R W) (left : Left S R W) → IsEmpty given.report → LeavesInputAndReport given left → IsUnreadStatus left.status
+    → TakesInput outside given left
+takes_unread outside given left empty same is = record {
+  bad_slot_kept = λ seven. absurd (is.2 seven);
+  accepted = accepts_unread given.report left.report empty (outside.source.left given.input) (outside.source.left left.input) (ap outside.source.left same.input)
+      (ap (λ r. r.switch) same.report) (ap (λ r. r.lines) same.report);
+}
 
 -- no early status is that of a script that is accepted, or of words that aren't taken
 early_no_zero : (status : ℕ) → IsEarlyStatus status → status ≢ 0
@@ -165,7 +172,7 @@ early_no_zero status (suc (suc zero), within, is) nil = omega (arith, is, nil)
 early_no_zero status (suc (suc (suc zero)), within, is) nil = omega (arith, is, nil)
 early_no_zero status (suc (suc (suc (suc n))), within, is) nil = omega (arith, within)
 
-early_no_one : (status : ℕ) → IsEarlyStatus status → status ≢ 1
+pub early_no_one : (status : ℕ) → IsEarlyStatus status → status ≢ 1
 early_no_one status (zero, within, is) one = omega (arith, is, one)
 early_no_one status (suc zero, within, is) one = omega (arith, is, one)
 early_no_one status (suc (suc zero), within, is) one = omega (arith, is, one)
@@ -201,9 +208,13 @@ module _ {T S R W : Type 0} (outside : Outside S R W) (script : List ℕ) (given
   early_any : IsEmpty given.report → AtAnyEnd outside given left
   early_any empty = any_unread outside given left empty same (check_unread left.status (early_check left.status early_known)) early_silent
 
+  early_takes : IsEmpty given.report → TakesInput outside given left
+  early_takes empty = takes_unread outside given left empty same (check_unread left.status (early_check left.status early_known))
+
   pub early_serve : (own : List ℕ) → script ≡ own → (folder : List ℕ) (slots workers journal : ℕ) → IsEmpty given.report → Runs (serves own folder slots workers journal) outside given left
   early_serve own is folder slots workers journal empty = subst (λ (path : List ℕ). Runs (serves path folder slots workers journal) outside given left) is (record {
     any = early_any empty;
+    input = early_takes empty;
     status_one = λ one. absurd (early_no_one left.status early_known one);
     as_asked = inl (record {
       statuses = early_known;
@@ -222,6 +233,7 @@ module _ {T S R W : Type 0} (outside : Outside S R W) (script : List ℕ) (given
   pub early_checked : IsEmpty given.report → Runs (checks script) outside given left
   early_checked empty = record {
     any = early_any empty;
+    input = early_takes empty;
     status_one = λ one. absurd (early_no_one left.status early_known one);
     as_asked = record {
       statuses = early_check left.status early_known;
@@ -255,6 +267,7 @@ pub told_runs : {S R W : Type 0} (outside : Outside S R W) (script : List ℕ) (
     → left.depot.asked ≡ given.depot.asked ++ for_text script ∷ [] → Asks given.depot.asked left.depot.asked (for_text script ∷ []) → Runs (checks script) outside given left
 told_runs outside script given left bytes line empty same_rest same told is all some_of rose asked_whole asked = record {
   any = any_unread outside given left empty same_rest (check_unread left.status (told_status left.status is)) (λ silent. absurd (told_silent left.status is silent));
+  input = takes_unread outside given left empty same_rest (check_unread left.status (told_status left.status is));
   status_one = λ one. absurd (zero_or_six left.status 1 is (λ e. omega (arith, e)) (λ e. omega (arith, e)) one);
   as_asked = record {
     statuses = told_status left.status is;

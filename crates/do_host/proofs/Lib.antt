@@ -8,5 +8,8 @@ pub mod Values
 pub mod Dumping
 pub mod Mounts
 pub mod Dumped
+pub mod Made
+pub mod Sums
 pub mod Dumps
+pub mod Generated
 pub mod Words

@@ -116,9 +116,7 @@ module _ {S R W : Type 0} (outside : Outside S R W) (serving : Serving) (given :
       let opened = run.serves.opened in
       record {
         statuses = status_known outside.sink.faults_of outside.sink.taken run.serves.served left.out left.status run.serves.end shown;
-        bad_slot_kept = λ seven. let bad = ends_seven outside.sink.faults_of outside.sink.taken run.serves.served left.out left.status run.serves.end shown seven in opened.kept bad.0 bad.1;
         line_limit = run.serves.lines.limit;
-        accepted = run.serves.lines.accepted;
         unread = λ none. let same = opened.unread (omega (arith, some, ap length none)) in (same.0, same.2, same.3);
         silent = λ none silent. ap outside.sink.taken
             (ends_silent outside.sink.faults_of outside.sink.taken run.serves.served left.out left.status run.serves.end shown silent ∙ (opened.unread (omega (arith, some, ap length none))).1);
@@ -127,6 +125,12 @@ module _ {S R W : Type 0} (outside : Outside S R W) (serving : Serving) (given :
   pub serve_runs : (workers : ℕ) → Runs (serves serving.script serving.folder serving.slots workers serving.journal) outside given left
   serve_runs workers = record {
     any = any_slots;
+    input = record {
+      bad_slot_kept = λ seven.
+          let bad = ends_seven outside.sink.faults_of outside.sink.taken run.serves.served left.out left.status run.serves.end shown seven in
+          run.serves.opened.kept bad.0 bad.1;
+      accepted = run.serves.lines.accepted;
+    };
     status_one = λ one. absurd (not_usage outside.sink.faults_of outside.sink.taken run.serves.served left.out left.status run.serves.end shown one);
     as_asked = inr run;
   }

@@ -3,7 +3,7 @@ use Rattle.std.proofs.Common.{◌≡◌, ◌≢◌, ◌<◌, ◌⊎◌, ⊎_elim
 use Rattle.std.specs.Prelude.{IfSome}
 use Rattle.std.proofs.lemmas.List.{append-nil, length-replicate}
 use Rattle.std.proofs.lemmas.Option.{slice_get_within}
-use Rattle.command_words.specs.Asked.{Asked, checks, dumps, serves, usage}
+use Rattle.command_words.specs.Asked.{Asked, checks, dumps, gens, serves, usage}
 use Rattle.do_disk.specs.Asks.{Ask, for_text}
 use Rattle.do_disk.specs.Disk.{Rose}
 use Rattle.host_core.specs.Opening.{Asks, LeavesHanded, slot_asks}
@@ -13,16 +13,24 @@ use Rattle.host_core.specs.declared.settings.ServeEnd.TheVariants as ends
 use Rattle.do_host.specs.Dump.{AreIdleRows, IsDumpOf, slots_text}
 use Rattle.do_host.specs.DumpRuns.{DumpsSlots}
 use Rattle.do_host.specs.Outside.{Given, Left, LeavesInputAndReport, Outside, left_of}
-use Rattle.do_host.specs.Runs.{Runs, RunsAs, usage_line}
+use Rattle.do_host.specs.Runs.{IfNotMade, Runs, RunsAs, usage_line}
 use Rattle.do_host.specs.ScriptRuns.{TellsOfScript}
 use Rattle.do_host.specs.Written.{WritesAll, WritesFirstOf}
 use Rattle.do_host.proofs.Dumping.{front_none}
-use Rattle.do_host.proofs.Early.{any_unread, usage_unread}
+use Rattle.do_host.proofs.Early.{any_unread, takes_unread, usage_unread}
 use Rattle.do_host.proofs.Mounts.{no_object, none_each}
 
 -- nothing of these questions was asked
 none_asked : (questions asks : List Ask) → Asks questions questions asks
 none_asked questions asks = record { asked = []; added = sym (append-nil questions); first = (asks, refl) }
+
+-- what holds of every command holds of each but `gen`
+if_not_made : {P : Type 0} (command : Asked) → P → IfNotMade command P
+if_not_made (serves script folder slots workers journal) p = p
+if_not_made (checks script) p = p
+if_not_made (dumps folder slots) p = p
+if_not_made (gens seed count folder) p = tt
+if_not_made usage p = p
 
 -- memory was wanting for the words
 module _ {S R W : Type 0} (outside : Outside S R W) (given : Given S R W) (empty : IsEmpty given.report) where
@@ -102,6 +110,15 @@ module _ {S R W : Type 0} (outside : Outside S R W) (given : Given S R W) (empty
     tells = (refl, refl);
     dumps = of_slots folder slots;
   }
+  as_asked (gens seed count folder) = inl (record {
+    statuses = inr (inl refl);
+    alone = untouched;
+    asked = refl;
+    refused = λ two. absurd (omega (arith, two));
+    in_part = λ six. absurd (omega (arith, six));
+    silent = λ four. refl;
+    write_failed = λ six. absurd (omega (arith, six));
+  })
   as_asked usage = record {
     statuses = inr (inr refl);
     alone = untouched;
@@ -115,6 +132,7 @@ module _ {S R W : Type 0} (outside : Outside S R W) (given : Given S R W) (empty
   pub wanting_runs : (command : Asked) → Runs command outside given wanting
   wanting_runs command = record {
     any = any_unread outside given wanting empty untouched (usage_unread 4 (inr (inr refl))) (λ silent. refl);
+    input = if_not_made command (takes_unread outside given wanting empty untouched (usage_unread 4 (inr (inr refl))));
     status_one = λ one. absurd (omega (arith, one));
     as_asked = as_asked command;
   }
@@ -128,6 +146,7 @@ usage_runs outside given left line empty same asked own is whole written rose =
     let statuses = ⊎_elim (λ one. inl one) (λ six. inr (inl six)) is in
     record {
       any = any_unread outside given left empty same (usage_unread left.status statuses) (λ silent. absurd (⊎_elim (λ one. silent.1 one) (λ six. silent.3 six) is));
+      input = takes_unread outside given left empty same (usage_unread left.status statuses);
       status_one = λ one. refl;
       as_asked = record {
         statuses = statuses;

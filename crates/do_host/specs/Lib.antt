@@ -12,5 +12,8 @@ pub mod Mounted
 pub mod Outside
 pub mod ScriptRuns
 pub mod ServeRuns
+pub mod Generator
+pub mod Sums
+pub mod GenRuns
 pub mod DumpRuns
 pub mod Runs

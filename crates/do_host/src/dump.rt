@@ -96,7 +96,7 @@ fn dump_alarm<W: Sink>(
 }
 
 // Writes a line, where there was memory for it.
-fn put_line<W: Sink>(line: Mem<Vec<u8>>, out: &mut W) -> Result<(), RunEnd>
+pub(crate) fn put_line<W: Sink>(line: Mem<Vec<u8>>, out: &mut W) -> Result<(), RunEnd>
     ensures writes { (text : List ℕ) → IfOk line (λ bytes. bytes.items ≡ text) → Writes (W.taken out.old) (W.taken out.new) text result }
     ensures stop { OnErr result ((result ≡ Err RunEnd.WriteFailed) ⊎ (result ≡ Err RunEnd.NoMemory)) }
     ensures failed { IsErrOf result RunEnd.WriteFailed → Rose (W.faults_of out.old) (W.faults_of out.new) }

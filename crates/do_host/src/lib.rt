@@ -6,6 +6,10 @@ mod bad_slot;
 mod dump;
 mod early_end;
 mod ending;
+mod generating;
+pub mod laws;
+mod made_lines;
+mod made_source;
 mod mounting;
 mod program;
 mod run_end;
@@ -13,6 +17,7 @@ mod script;
 mod script_lines;
 mod slot_lines;
 mod stored;
+mod summing;
 
 pub use host_core::{Report, SlotReport};
 pub use mailbox::SwitchLog;

@@ -21,7 +21,7 @@ use storage_map::Identity;
 use timeline::{BackLog, FrontLog};
 
 // How many bytes a journal may have to which nothing is added.
-const ANY: u64 = 0xffff_ffff_ffff_ffff;
+pub(crate) const ANY: u64 = 0xffff_ffff_ffff_ffff;
 
 // Mounts the slots of the folder from slot 0 on, makes a row of each, and hands out what the storage of each contains. At a stop the
 // rows of those before it stand, and the disk of the slot at which it stops, where it was handed out, is kept.
@@ -93,7 +93,7 @@ fn read_slot<D: Disk + Drop>(
 }
 
 // Why opening stops at a slot of which a value isn't read.
-fn reading_end(slot: u32, fault: ReadFault) -> OpenEnd
+pub(crate) fn reading_end(slot: u32, fault: ReadFault) -> OpenEnd
     ensures { result ≡ reading_end slot fault }
 {
     match fault {

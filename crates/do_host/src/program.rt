@@ -13,6 +13,7 @@ ghost use Rattle.do_host.specs.Status as spec;
 
 use crate::dump::dump_slots;
 use crate::ending::{end_at, end_early, end_served, end_with};
+use crate::generating::{GenWords, run_gen};
 use crate::mounting::mount_slots;
 use crate::run_end::RunEnd;
 use crate::script::{read_script, told_script};
@@ -37,14 +38,15 @@ pub struct Ran<R, W> {
 }
 
 /// Runs the program: `serve SCRIPT FOLDER` serves the lines of the input over the slots of the folder, `check SCRIPT` tells of the
-/// script alone, and `dump FOLDER` prints what the slots of the folder have. [`command_of`] reads the words, with the options.
+/// script alone, `dump FOLDER` prints what the slots of the folder have, and `gen SEED COUNT FOLDER` serves so many lines that the seed makes,
+/// over 16 slots of the folder, and prints what they come to. [`command_of`] reads the words, with the options.
 ///
 /// | status | comes |
 /// |---|---|
-/// | 0 | `serve`: the input was read to its end, or through line [`MOST_LINES`](line_server::MOST_LINES), and nothing is under way; `check`: the script is accepted; prints `["script",[names]]`, the classes in the order of the text; `dump`: prints for each slot with an object `["object",slot,class,name]`, a `["pair",slot,key,value]` for each pair, ascending by key, and `["alarm",slot,time,retry]` if there is one |
+/// | 0 | `serve`: the input was read to its end, or through line [`MOST_LINES`](line_server::MOST_LINES), and nothing is under way; `check`: the script is accepted; prints `["script",[names]]`, the classes in the order of the text; `dump`: prints for each slot with an object `["object",slot,class,name]`, a `["pair",slot,key,value]` for each pair, ascending by key, and `["alarm",slot,time,retry]` if there is one; `gen`: all lines were served, and `["summary",COUNT,replies,total]` is printed: how many lines there were, how many replies, and the sum of what the slots have under `n` |
 /// | 1 | exactly where the words are none of the commands; prints `["usage"]` |
 /// | 2 | where the script is refused; prints `["script-refused",place,kind]`, its first fault |
-/// | 3 | only where the count of faults of the depot or of a slot's disk rose while the slots were opened |
+/// | 3 | only where the count of faults of the depot or of a slot's disk rose while the slots were opened, or read by `dump`, or mounted again by `gen` |
 /// | 4 | want of memory |
 /// | 5 | only where the source's count of faults rose |
 /// | 6 | only where the sink's count of faults rose |
@@ -81,6 +83,20 @@ pub fn run<
         Ok(Command::Check { script }) => check_script(alloc, script.as_str(), depot, input, out),
         Ok(Command::Dump { folder, slots }) => {
             run_dump(alloc, folder.as_str(), slots, depot, input, out, report)
+        }
+        Ok(
+            Command::Gen {
+                seed,
+                count,
+                folder,
+            },
+        ) => {
+            let told = GenWords {
+                seed,
+                count,
+                folder,
+            };
+            run_gen(rt, alloc, told, depot, input, out, gate, report)
         }
         Ok(Command::Usage) => end_with(USAGE.as_bytes(), 1, input, out),
         Err(NoMemory) => end_at(4, input, out),
@@ -219,8 +235,8 @@ fn run_dump<P: Depot, R: Source, W: Sink>(
     }
 }
 
-// The end of a run whose slots were printed, or in part.
-fn dump_end(dumped: Result<(), RunEnd>) -> ServeEnd
+// The end of a run that printed what it had to, or a part of it.
+pub(crate) fn dump_end(dumped: Result<(), RunEnd>) -> ServeEnd
     ensures { result ≡ spec.dump_end dumped }
 {
     match dumped {

@@ -3,7 +3,7 @@ use std::alloc::Global;
 use std::test::*;
 
 // Words, a `|` between two, and what they ask for; expected by the rules of the words.
-const CASES: [(&str, &str); 32] = [
+const CASES: [(&str, &str); 42] = [
     ("serve|a.do|data", "serve a.do data 16 4 1073741824"),
     ("check|a.do", "check a.do"),
     ("dump|data", "dump data 16"),
@@ -47,6 +47,19 @@ const CASES: [(&str, &str); 32] = [
     ("serve|a.do", "usage"),
     ("serve|a.do|data|more", "usage"),
     ("dump|data|--workers|2", "usage"),
+    ("gen|7|2000|data", "gen 7 2000 data"),
+    (
+        "gen|18446744073709551615|1000000|data",
+        "gen 18446744073709551615 1000000 data",
+    ),
+    ("gen|0|0|--|--data", "gen 0 0 --data"),
+    ("gen|18446744073709551616|1|data", "usage"),
+    ("gen|0|1000001|data", "usage"),
+    ("gen|00|1|data", "usage"),
+    ("gen|0|-1|data", "usage"),
+    ("gen|1|data", "usage"),
+    ("gen|0|1|data|more", "usage"),
+    ("gen|0|1|data|--slots|16", "usage"),
     ("help", "usage"),
     ("--help", "usage"),
     ("serve|--help", "usage"),
@@ -68,6 +81,11 @@ fn shown(alloc: Global, command: &Command) -> Result<String, Fail> {
         }
         Command::Check { script } => format!(in alloc; "check {script}")?,
         Command::Dump { folder, slots } => format!(in alloc; "dump {folder} {slots}")?,
+        Command::Gen {
+            seed,
+            count,
+            folder,
+        } => format!(in alloc; "gen {seed} {count} {folder}")?,
         Command::Usage => String::from_str(alloc, "usage")?,
     };
     Ok(text)

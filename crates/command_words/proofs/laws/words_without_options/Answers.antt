@@ -13,3 +13,6 @@ returns-clause-check c script s = plain_asked (codes "check") (script ∷ []) (s
 
 pub returns-clause-dump : goal.returns-clause-dump
 returns-clause-dump c folder f = plain_asked (codes "dump") (folder ∷ []) (f, tt)
+
+pub returns-clause-made : goal.returns-clause-made
+returns-clause-made c seed count folder s n f = plain_asked (codes "gen") (seed ∷ count ∷ folder ∷ []) (s, (n, (f, tt)))

@@ -2,8 +2,8 @@ use Rattle.std.proofs.Common.{◌∙◌, Some, ap}
 use Rattle.do_host.proofs.Mounts.{row_read, stops_reading}
 use Rattle.do_host.proofs.mounting.read_slot.Goals as goal
 
-pub returns-clause-stops : goal.returns-clause-stops
-returns-clause-stops g c = λ limit content named is.
+pub returns-in-Err-clause-stops : goal.returns-in-Err-clause-stops
+returns-in-Err-clause-stops g c = λ limit content named is.
     let d = g.D.Disk in
     stops_reading d.moment_of d.left_since d.told d.image limit content named c.args.mounted is g.met.D.Disk.counts_now d.faults_of c.args.slot c.read_stored.new.journal c.read_stored.result c.in-Err.fault
     (Some c.into_disk-in-Err.result) c.reading_end.result c.read_stored.ensures.reads c.in-Err.is (ap Some c.into_disk-in-Err.ensures) c.reading_end.ensures

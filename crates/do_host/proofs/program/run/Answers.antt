@@ -15,6 +15,9 @@ pub returns-in-Ok-Dump : goal.returns-in-Ok-Dump
 returns-in-Ok-Dump g c =
     runs_as _ _ _ _ _ (ap (λ folder. dumps folder c.in-Ok-Dump.slots) c.as_str-in-Ok-Dump.ensures.value ∙ ap asked_of (sym c.in-Ok-Dump.field-0-is) ∙ c.in-Ok-Dump.ensures.asked) c.run_dump.ensures
 
+pub returns-in-Ok-Gen : goal.returns-in-Ok-Gen
+returns-in-Ok-Gen g c = runs_as _ _ _ _ _ (ap asked_of (sym c.in-Ok-Gen.field-0-is) ∙ c.in-Ok-Gen.ensures.asked) c.run_gen.ensures
+
 pub returns-in-Ok-Usage : goal.returns-in-Ok-Usage
 returns-in-Ok-Usage g c =
     let e = c.end_with.ensures in
