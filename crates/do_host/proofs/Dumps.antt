@@ -84,7 +84,7 @@ dump_stopped {S} outside folder slots given left end empty same_input same_out s
   };
   unopened =
       ⊎_elim (λ opened. inl (record { handed = opened.handed; untouched = λ bad is refused. opened.untouched bad (stopped_bad end bad is) refused }))
-      (λ unread. inr (record { disk = unread.disk; kept = unread.kept; unread = unread.unread; no_value = λ bad is. unread.bad bad (stopped_bad end bad is) })) stops.stops;
+      (λ unread. inr (record { disk = unread.disk; kept = unread.kept; unread = unread.unread; telling = unread.telling; no_value = λ bad is. unread.bad bad (stopped_bad end bad is) })) stops.stops;
   causes = record {
     open_failed = λ is.
         ⊎_elim (λ opened. opened.failed (stopped_failed end is))

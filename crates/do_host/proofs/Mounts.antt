@@ -6,7 +6,7 @@ use Rattle.std.proofs.lemmas.List.{get_or-replicate, length-append, length-repli
 use Rattle.std.proofs.Math.ListN.{get_or-eq_default}
 use Rattle.std.proofs.lemmas.Option.{slice_get_within}
 use Rattle.batch_journal.specs.Frames.{Frame}
-use Rattle.batch_journal.specs.Moments.{OnlyReads}
+use Rattle.batch_journal.specs.Moments.{OnlyReads, TellsAsBefore}
 use Rattle.batch_journal.specs.Places.{Indexes}
 use Rattle.batch_journal.specs.Reading.{IsObjectOf}
 use Rattle.batch_journal.specs.Recovery.{Recovers}
@@ -63,7 +63,7 @@ record IsRowOf {S : Type 0} (told : S → Option (List ℕ)) (image : S → List
   contents : (frames : List Frame) → IsAtRest told image mounted.journal frames → Indexes frames mounted.index → IsReadOf (told row.store) frames storage
 
 module _ {S : Type 0} (moment_of : S → ℕ) (left_since : S → ℕ → List ℕ → Type 0) (told : S → Option (List ℕ)) (image : S → List ℕ → Type 0) (limit : ℕ) (content : Option (List ℕ)) (named : Option Object)
-    (mounted : Mounted S) (is : IsMountedAt moment_of left_since told image limit content named mounted)
+    (mounted : Mounted S) (is : IsMountedAt moment_of left_since told image limit content named mounted) (telling : TellsAsBefore content (told (disk_in mounted.journal)))
     (now_counts : (disk : S) (t : ℕ) (c : List ℕ) → t ≤ moment_of disk → image disk c → left_since disk t c) where
   -- after reads a crash leaves what one might have left before
   image_since : (disk : S) → OnlyReads told image moment_of left_since (disk_in mounted.journal) disk → (c : List ℕ) → left_since disk (next_count 0) c → left_since (disk_in mounted.journal) (next_count 0) c
@@ -86,6 +86,9 @@ module _ {S : Type 0} (moment_of : S → ℕ) (left_since : S → ℕ → List �
     images = since_mounted disk reads;
   }
 
+  tells_still : (disk : S) → OnlyReads told image moment_of left_since (disk_in mounted.journal) disk → TellsAsBefore content (told disk)
+  tells_still disk reads = subst (λ (t : Option (List ℕ)). TellsAsBefore content t) (sym reads.same) telling
+
   module _ (row : SlotReport S) (storage : Storage) (made : IsRowOf told image moment_of left_since mounted row storage) where
     row_idle : IsIdleRow left_since content named row
     row_idle = record {
@@ -103,6 +106,7 @@ module _ {S : Type 0} (moment_of : S → ℕ) (left_since : S → ℕ → List �
       frames = is.mount.frames;
       recovered = λ file told_is. is.mount.recovers file (is.content_is ∙ told_is);
       names = named_is;
+      telling = tells_still row.store made.reads;
       read = made.contents is.mount.frames is.mount.at_rest is.mount.index;
     }
 
@@ -135,6 +139,7 @@ module _ {S : Type 0} (moment_of : S → ℕ) (left_since : S → ℕ → List �
       disk = disk_in journal;
       kept = refl;
       unread = disk_unread (disk_in journal) reads.reads;
+      telling = tells_still (disk_in journal) reads.reads;
       failed = λ is. rose_on 0 (faults_of (disk_in mounted.journal)) (faults_of (disk_in journal)) (omega arith) (reads.failed refl);
       bad = λ bad is. absurd (let no : opening.Failed ≡ opening.BadSlot bad = is in cc);
     }
@@ -142,6 +147,7 @@ module _ {S : Type 0} (moment_of : S → ℕ) (left_since : S → ℕ → List �
       disk = disk_in journal;
       kept = refl;
       unread = disk_unread (disk_in journal) reads.reads;
+      telling = tells_still (disk_in journal) reads.reads;
       failed = λ is. absurd (let no : opening.BadSlot (Damaged slot place) ≡ opening.Failed = is in cc);
       bad = λ bad is. let same : opening.BadSlot (Damaged slot place) ≡ opening.BadSlot bad = is in
           let own : Damaged slot place ≡ bad = cc in
@@ -151,6 +157,7 @@ module _ {S : Type 0} (moment_of : S → ℕ) (left_since : S → ℕ → List �
       disk = disk_in journal;
       kept = refl;
       unread = disk_unread (disk_in journal) reads.reads;
+      telling = tells_still (disk_in journal) reads.reads;
       failed = λ is. absurd (let no : opening.NoMemory ≡ opening.Failed = is in cc);
       bad = λ bad is. absurd (let no : opening.NoMemory ≡ opening.BadSlot bad = is in cc);
     }

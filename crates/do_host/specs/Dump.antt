@@ -2,6 +2,7 @@
 use Rattle.std.specs.Prelude.{◌≡◌, ◌++◌, ◌∷◌, ◌+◌, ℕ, ℤ, List, [], length, slice_get, Option, Some, None}
 use Rattle.std.specs.List.{flat_map}
 use Rattle.batch_journal.specs.Frames.{Frame}
+use Rattle.batch_journal.specs.Moments.{TellsAsBefore}
 use Rattle.batch_journal.specs.Reading.{IsObjectOf}
 use Rattle.batch_journal.specs.Recovery.{Recovers}
 use Rattle.do_disk.specs.Disk.{IfTold, next_count}
@@ -37,11 +38,12 @@ slots_text slot (object ∷ objects) [] = []
 slots_text slot (object ∷ objects) (storage ∷ storages) = dump_text slot object storage ++ slots_text (slot + 1) objects storages
 
 -- What the storage of a slot contains: what the frames leave to which its file, of this content, recovers, and which name this object. It was
--- read of a disk that tells this.
+-- read of a disk that tells this, where it told that.
 pub record Contains (content told : Option (List ℕ)) (named : Option Object) (storage : Storage) : Type 0 where
   pub frames : List Frame
   pub recovered : IfTold content (λ c. Recovers c frames)
   pub names : IsObjectOf named frames
+  pub telling : TellsAsBefore content told
   pub read : IsReadOf told frames storage
 
 -- What the storages of the slots of these rows contain.

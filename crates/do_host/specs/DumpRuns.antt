@@ -1,5 +1,6 @@
 -- What `dump` does. This project's profile. A fact of what an output or a file holds speaks of those that are told.
 use Rattle.std.specs.Prelude.{◌≡◌, ◌≢◌, ◌≤◌, ◌⊎◌, ℕ, List, length, Option, Some, IfSome}
+use Rattle.batch_journal.specs.Moments.{TellsAsBefore}
 use Rattle.host_core.specs.Opening.{IsBad}
 use Rattle.host_core.specs.Report.{AsksSlots, HasCause, IsOpened, LeavesUnopened}
 use Rattle.host_core.specs.declared.report.Report.{Report}
@@ -30,6 +31,7 @@ pub record LeavesUnread {S : Type 0} (disks : Disks S) (contents : ℕ → Optio
   pub disk : S
   pub kept : report.unopened ≡ Some disk
   pub unread : IsUnread disks.left_since (contents (length report.slots.items)) (object_at named (length report.slots.items)) disk
+  pub telling : TellsAsBefore (contents (length report.slots.items)) (disks.told disk)
   pub no_value : (bad : Bad) → end ≡ ends.BadSlot bad → HasNoValue disks.told (length report.slots.items) bad disk
 
 -- a text of the slots of these rows was written so: all of it, or its first bytes

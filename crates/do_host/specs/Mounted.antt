@@ -1,5 +1,6 @@
 -- The slots of a folder that were mounted and aren't served.
 use Rattle.std.specs.Prelude.{◌≡◌, ◌<◌, ◌⊎◌, ℕ, List, length, Option, Some}
+use Rattle.batch_journal.specs.Moments.{TellsAsBefore}
 use Rattle.batch_journal.specs.declared.read_stored.ReadFault.{ReadFault}
 use Rattle.batch_journal.specs.declared.read_stored.ReadFault.TheVariants as fault
 use Rattle.do_disk.specs.Disk.{Rose}
@@ -40,6 +41,7 @@ pub record StopsReading {S : Type 0} (told : S → Option (List ℕ)) (left_sinc
   pub disk : S
   pub kept : unopened ≡ Some disk
   pub unread : IsUnread left_since content named disk
+  pub telling : TellsAsBefore content (told disk)
   pub failed : end ≡ Failed → Rose 0 (faults_of disk)
   pub bad : (bad : Bad) → end ≡ BadSlot bad → HasNoValue told slot bad disk
 

@@ -2,8 +2,9 @@
 ghost use Rattle.std.specs.Prelude.{◌≡◌, ◌≤◌, ◌+◌, ◌++◌, ◌∷◌, [], ℕ, List, Option, IfOk, IfErr, OnOk, None, length, vec_len};
 ghost use Rattle.std.specs.Vec.{vec_capacity};
 ghost use Rattle.batch_journal.specs.Frames.{Frame};
+ghost use Rattle.batch_journal.specs.Moments.{TellsAsBefore};
 ghost use Rattle.batch_journal.specs.Places.{Indexes};
-ghost use Rattle.batch_journal.specs.Rest.{IsAtRest};
+ghost use Rattle.batch_journal.specs.Rest.{IsAtRest, disk_in};
 ghost use Rattle.storage_map.specs.Limits.{Object};
 ghost use Rattle.timeline.specs.Logs.{fronted, backed};
 ghost use Rattle.host_core.specs.Begun.{IsMountedAt};
@@ -72,10 +73,11 @@ fn read_slot<D: Disk + Drop>(
     requires mounted { (frames : List Frame) × IsAtRest D.told D.image mounted.journal frames × Indexes frames mounted.index }
     requires none_left { unopened.old ≡ None }
     ensures row { IfOk result (λ read. (limit : ℕ) (content : Option (List ℕ)) (named : Option Object)
-        → IsMountedAt D.moment_of D.left_since D.told D.image limit content named mounted → IsReadRow D.told D.left_since content named read.0 read.1) }
+        → IsMountedAt D.moment_of D.left_since D.told D.image limit content named mounted → TellsAsBefore content (D.told (disk_in mounted.journal))
+        → IsReadRow D.told D.left_since content named read.0 read.1) }
     ensures none_left { OnOk result (unopened.new ≡ None) }
     ensures stops { IfErr result (λ end. (limit : ℕ) (content : Option (List ℕ)) (named : Option Object)
-        → IsMountedAt D.moment_of D.left_since D.told D.image limit content named mounted
+        → IsMountedAt D.moment_of D.left_since D.told D.image limit content named mounted → TellsAsBefore content (D.told (disk_in mounted.journal))
         → StopsReading D.told D.left_since D.faults_of content named slot unopened.new end) }
 {
     let Mounted {

@@ -5,7 +5,7 @@ use Rattle.std.proofs.lemmas.Bool.{cases_lt}
 use Rattle.std.proofs.lemmas.List.{take-append-drop}
 use Rattle.std.proofs.lemmas.Option.{slice_get_within}
 use Rattle.std.proofs.lemmas.List.FromFn.{map-range_with_len_more, take-map-range_with_len}
-use Rattle.batch_journal.specs.Moments.{LeavesOnly}
+use Rattle.batch_journal.specs.Moments.{LeavesOnly, TellsAsBefore}
 use Rattle.batch_journal.specs.Mounting.{ImageOrHeader, IsMountOf}
 use Rattle.batch_journal.specs.Reading.{IsObjectOf}
 use Rattle.batch_journal.specs.Rest.{IsStaged, disk_in, limit_of}
@@ -157,6 +157,15 @@ was_handed {D} told image moment_of left_since disk mounted (Ok adopted) content
     subst (λ (m : Mounted D). LeavesHanded told image moment_of left_since content (disk_in m.journal)) (sym same)
     (record { handed = disk; first = first; content_is = content_is; leaves = leaves })
 was_handed told image moment_of left_since disk mounted (Err end) content first content_is same leaves = tt
+
+-- a disk that was handed out tells its content still where it did
+pub was_telling : {D : Type 0} (told : D → Option (List ℕ)) (disk : D) (mounted : Mounted D) (result : Result (Mounted D) OpenEnd) (content : Option (List ℕ))
+    → told disk ≡ content → IfOk result (λ adopted. adopted ≡ mounted) → TellsAsBefore (told disk) (told (disk_in mounted.journal))
+    → IfOk result (λ adopted. TellsAsBefore content (told (disk_in adopted.journal)))
+was_telling {D} told disk mounted (Ok adopted) content content_is same telling =
+    subst (λ (m : Mounted D). TellsAsBefore content (told (disk_in m.journal))) (sym same)
+    (subst (λ (c : Option (List ℕ)). TellsAsBefore c (told (disk_in mounted.journal))) content_is telling)
+was_telling told disk mounted (Err end) content content_is same telling = tt
 
 -- the answer is what was mounted
 pub was_mounted : {D : Type 0} (told : D → Option (List ℕ)) (image : D → List ℕ → Type 0) (moment_of : D → ℕ) (left_since : D → ℕ → List ℕ → Type 0)

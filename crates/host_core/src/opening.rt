@@ -3,7 +3,7 @@ ghost use Rattle.std.specs.Prelude.{◌≡◌, ◌≢◌, ◌<◌, ◌≤◌, �
 ghost use Rattle.std.specs.Option.{option_copied};
 ghost use Rattle.std.specs.Vec.{vec_capacity};
 ghost use Rattle.batch_journal.specs.Mounting.{ImageOrHeader, IsMountOf, disk_left};
-ghost use Rattle.batch_journal.specs.Moments.{LeavesOnly};
+ghost use Rattle.batch_journal.specs.Moments.{LeavesOnly, TellsAsBefore};
 ghost use Rattle.batch_journal.specs.Rest.{IsStaged, disk_in, limit_of};
 ghost use Rattle.do_disk.specs.Asks.{for_slot};
 ghost use Rattle.do_tree.specs.Checked.{tree_of as script_in};
@@ -145,6 +145,7 @@ pub fn mount_slot<P: Depot>(
         (P.slot_at depot.old folder.now slot) (object_at directory.new slot)) }
     ensures handed { IfOk result (λ mounted. LeavesHanded P.Store.told P.Store.image P.Store.moment_of P.Store.left_since
         (P.slot_at depot.old folder.now slot) (disk_in mounted.journal)) }
+    ensures telling { IfOk result (λ mounted. TellsAsBefore (P.slot_at depot.old folder.now slot) (P.Store.told (disk_in mounted.journal))) }
     ensures only { OnlyAt slot directory.old directory.new }
     ensures asked { Asks (P.asked depot.old) (P.asked depot.new) (for_slot folder.now slot ∷ []) }
     ensures all_asked { OnOk result (P.asked depot.new ≡ P.asked depot.old ++ for_slot folder.now slot ∷ []) }
@@ -179,6 +180,7 @@ fn mount<D: Disk + Drop>(
     ensures mounted { IfOk result (IsMountOf D.told D.image D.moment_of D.left_since disk) }
     ensures staged { IfOk result (λ mounted. (object : Object) → IsStaged mounted.journal object []) }
     ensures limited { IfOk result (λ mounted. limit_of mounted.journal ≡ limit) }
+    ensures telling { IfOk result (λ mounted. TellsAsBefore (D.told disk) (D.told (disk_in mounted.journal))) }
     ensures left { IfOk result (λ mounted. LeavesOnly D.moment_of D.left_since disk (disk_in mounted.journal) (ImageOrHeader (D.told disk) (D.image disk))) }
     ensures none_left { OnOk result (unopened.new ≡ None) }
     ensures stop { IfErr result (λ end. (contents : ℕ → Option (List ℕ)) (named : Slots) (before after : ℕ) → D.told disk ≡ contents slot

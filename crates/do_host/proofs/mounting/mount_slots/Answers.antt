@@ -46,7 +46,7 @@ loop-slot-preserved g c =
     let mounted : AreMounted d.told d.left_since contents after (rows ++ row ∷ []) (c.loop-slot.storages.items ++ stored ∷ []) =
     mounted_put d.left_since d.told contents c.loop-slot.directory after rows c.loop-slot.storages.items row stored slot i.rows i.mounted c.mount_slot.ensures.only
     (subst (λ (x : Option (List ℕ)). IsReadRow d.told d.left_since x (object_at after slot) row stored) (i.later slot (omega arith))
-    (c.in_ok-row.ensures.row _ _ _ c.in_ok-mounted.ensures.mounted)) in
+    (c.in_ok-row.ensures.row _ _ _ c.in_ok-mounted.ensures.mounted c.in_ok-mounted.ensures.telling)) in
     record {
       rows = ap length c.put.ensures.rows ∙ length-append rows (row ∷ []) ∙ ap (λ (n : ℕ). n + 1) i.rows;
       mounted = subst (λ (rs : List (SlotReport g.row.P-Store.Denot)). AreMounted d.told d.left_since contents after rs c.put.new.storages.items) (sym c.put.ensures.rows)
@@ -141,7 +141,7 @@ returns-in_err-row-clause-stops g c =
     let unopened = c.read_slot.new.unopened in
     let stop : StopsReading d.told d.left_since d.faults_of (contents slot) (object_at after slot) slot unopened end =
     subst (λ (x : Option (List ℕ)). StopsReading d.told d.left_since d.faults_of x (object_at after slot) slot unopened end) (i.later slot (omega arith))
-    (c.in_err-row.ensures.stops _ _ _ c.in_ok-mounted.ensures.mounted) in
+    (c.in_err-row.ensures.stops _ _ _ c.in_ok-mounted.ensures.mounted c.in_ok-mounted.ensures.telling) in
     if_err c.from_residual-in_err-row.result end _ (p.1 ∙ ap Err p.2)
     (record {
       named = after;

@@ -1,6 +1,6 @@
 use Rattle.std.proofs.Common.{◌∙◌}
 use Rattle.std.proofs.lemmas.Result.{err_from_is_err_and}
-use Rattle.host_core.proofs.Opened.{stopped_adopting, was_handed, was_mounted}
+use Rattle.host_core.proofs.Opened.{stopped_adopting, was_handed, was_mounted, was_telling}
 use Rattle.host_core.proofs.opening.mount_slot.Goals as goal
 
 pub returns-in_err-mounted-clause-stop : goal.returns-in_err-mounted-clause-stop
@@ -24,3 +24,7 @@ pub returns-clause-handed : goal.returns-clause-handed
 returns-clause-handed g c =
     was_handed g.P.Store.Disk.told g.P.Store.Disk.image g.P.Store.Disk.moment_of g.P.Store.Disk.left_since c.in-Ok.disk c.in_ok-mounted.mounted c.adopt.result _
     c.in-Ok.ensures.fresh.0 c.in-Ok.ensures.content c.adopt.ensures.same c.in_ok-mounted.ensures.left
+
+pub returns-clause-telling : goal.returns-clause-telling
+returns-clause-telling g c =
+    was_telling g.P.Store.Disk.told c.in-Ok.disk c.in_ok-mounted.mounted c.adopt.result _ c.in-Ok.ensures.content c.adopt.ensures.same c.in_ok-mounted.ensures.telling
