@@ -55,7 +55,11 @@ pub(crate) fn empty_disks(alloc: Global, count: u32) -> Result<Vec<MemDisk>, Fai
 }
 
 // The halves of what was mounted and names no object.
-fn begin<D: Disk + Drop>(alloc: Global, checked: &Checked, mounted: Mounted<D>) -> Result<Halves<D>, Fail>
+fn begin<D: Disk + Drop>(
+    alloc: Global,
+    checked: &Checked,
+    mounted: Mounted<D>,
+) -> Result<Halves<D>, Fail>
     requires staged { (object : Object) → IsStaged mounted.journal object [] }
     requires none { mounted.identity ≡ None }
     requires mount { (disk : D) × IsMountOf D.told D.image D.moment_of D.left_since disk mounted }
