@@ -73,11 +73,16 @@ mark_text mark.Not = codes "!"
 
 -- Every keyword.
 abbrev pub keywords : List Keyword
-keywords = keyword.Import ∷ keyword.Export ∷ keyword.Class ∷ keyword.Extends ∷ keyword.Constructor ∷ keyword.Super ∷ keyword.Async ∷ keyword.Await ∷ keyword.Let ∷ keyword.Const ∷ keyword.If ∷ keyword.Else ∷ keyword.While ∷ keyword.For ∷ keyword.Try ∷ keyword.Catch ∷ keyword.Throw ∷ keyword.Return ∷ keyword.Break ∷ keyword.Continue ∷ keyword.True ∷ keyword.False ∷ keyword.Null ∷ keyword.Undefined ∷ keyword.This ∷ keyword.New ∷ []
+keywords = keyword.Import ∷ keyword.Export ∷ keyword.Class ∷ keyword.Extends ∷ keyword.Constructor ∷ keyword.Super ∷ keyword.Async ∷ keyword.Await
+    ∷ keyword.Let ∷ keyword.Const ∷ keyword.If ∷ keyword.Else ∷ keyword.While ∷ keyword.For ∷ keyword.Try ∷ keyword.Catch ∷ keyword.Throw ∷ keyword.Return
+    ∷ keyword.Break ∷ keyword.Continue ∷ keyword.True ∷ keyword.False ∷ keyword.Null ∷ keyword.Undefined ∷ keyword.This ∷ keyword.New ∷ []
 
 -- Every mark, longest first.
 abbrev pub marks : List Mark
-marks = mark.Same ∷ mark.Differs ∷ mark.Arrow ∷ mark.LessEq ∷ mark.GreaterEq ∷ mark.And ∷ mark.Or ∷ mark.Coalesce ∷ mark.Increment ∷ mark.Decrement ∷ mark.AddAssign ∷ mark.SubAssign ∷ mark.OpenBrace ∷ mark.CloseBrace ∷ mark.OpenParen ∷ mark.CloseParen ∷ mark.OpenBracket ∷ mark.CloseBracket ∷ mark.Semicolon ∷ mark.Comma ∷ mark.Dot ∷ mark.Colon ∷ mark.Question ∷ mark.Assign ∷ mark.Less ∷ mark.Greater ∷ mark.Plus ∷ mark.Minus ∷ mark.Star ∷ mark.Slash ∷ mark.Percent ∷ mark.Not ∷ []
+marks = mark.Same ∷ mark.Differs ∷ mark.Arrow ∷ mark.LessEq ∷ mark.GreaterEq ∷ mark.And ∷ mark.Or ∷ mark.Coalesce ∷ mark.Increment ∷ mark.Decrement
+    ∷ mark.AddAssign ∷ mark.SubAssign ∷ mark.OpenBrace ∷ mark.CloseBrace ∷ mark.OpenParen ∷ mark.CloseParen ∷ mark.OpenBracket ∷ mark.CloseBracket
+    ∷ mark.Semicolon ∷ mark.Comma ∷ mark.Dot ∷ mark.Colon ∷ mark.Question ∷ mark.Assign ∷ mark.Less ∷ mark.Greater ∷ mark.Plus ∷ mark.Minus ∷ mark.Star
+    ∷ mark.Slash ∷ mark.Percent ∷ mark.Not ∷ []
 
 -- The keyword that is this word.
 abbrev pub keyword_of : List ℕ → Option Keyword

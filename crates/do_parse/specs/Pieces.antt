@@ -233,7 +233,13 @@ abbrev pub ctx_env_at : ℕ → ℕ → List tree.Named
 ctx_env_at ctx env = record { at = ctx; text = codes "ctx" } ∷ record { at = env; text = codes "env" } ∷ []
 
 abbrev pub constructor_tree : ℕ → List tree.Named → tree.Items → tree.Method
-constructor_tree at parameters body = record { at = at; kind = method.Constructor; name = record { at = at; text = codes "constructor" }; parameters = parameters; body = body }
+constructor_tree at parameters body = record {
+  at = at;
+  kind = method.Constructor;
+  name = record { at = at; text = codes "constructor" };
+  parameters = parameters;
+  body = body;
+}
 
 -- Nothing stands behind.
 abbrev pub NothingLeft : List Lexeme → Type 0

@@ -113,7 +113,8 @@ is_path _ = false
 
 -- An await of what isn't to be awaited.
 pub data IsAwaitOfSync (s : Script) : ℕ → Type 0 where
-  idle_path : {c : Scope} {p : Path} {st : Stage} {at : ℕ} → LinksIn s c p st tree.no_links → p.serves ≡ awaited at → is_awaitable c.class st ≡ false → IsAwaitOfSync s at
+  idle_path : {c : Scope} {p : Path} {st : Stage} {at : ℕ} → LinksIn s c p st tree.no_links → p.serves ≡ awaited at → is_awaitable c.class st ≡ false
+      → IsAwaitOfSync s at
   idle_other : {c : Scope} {e : Expr} {at : ℕ} → ExprIn s c (awaited at) e → is_path e ≡ false → IsAwaitOfSync s at
 
 -- A call of the form asks or stores, and isn't one of a transaction's handle.

@@ -35,7 +35,8 @@ pub data AreTogether (s : Script) : List Named → Type 0 where
   block : {c : Scope} {at : ℕ} {is : Items} → StmtIn s c (tree.block at is) → AreTogether s (declared_in is)
   tried : {c : Scope} {at : ℕ} {is handler : Items} {n : Option Named} → StmtIn s c (tree.try at is n handler) → AreTogether s (declared_in is)
   handler : {c : Scope} {at : ℕ} {is handler : Items} {n : Option Named} → StmtIn s c (tree.try at is n handler) → AreTogether s (declared_in handler)
-  callback : {c : Scope} {r : Role} {at : ℕ} {n : Option Named} {is : Items} {rest : Args} → ArgsIn s c r (tree.callback at n is rest) → AreTogether s (declared_in is)
+  callback : {c : Scope} {r : Role} {at : ℕ} {n : Option Named} {is : Items} {rest : Args} → ArgsIn s c r (tree.callback at n is rest)
+      → AreTogether s (declared_in is)
 
 -- A name for the second time among names that are to differ.
 pub record IsDoubled (s : Script) (at : ℕ) : Type 0 where
@@ -61,7 +62,8 @@ pub data IsBound (s : Script) : Named → Type 0 where
   callback_parameter : {c : Scope} {r : Role} {at : ℕ} {n : Named} {is : Items} {rest : Args} → ArgsIn s c r (tree.callback at (Some n) is rest) → IsBound s n
 
 abbrev pub reserved : List (List ℕ)
-reserved = codes "ctx" ∷ codes "env" ∷ codes "fetch" ∷ codes "Date" ∷ codes "Object" ∷ codes "String" ∷ codes "Number" ∷ codes "Array" ∷ codes "Error" ∷ codes "DurableObject" ∷ []
+reserved = codes "ctx" ∷ codes "env" ∷ codes "fetch" ∷ codes "Date" ∷ codes "Object" ∷ codes "String" ∷ codes "Number" ∷ codes "Array" ∷ codes "Error"
+    ∷ codes "DurableObject" ∷ []
 
 abbrev pub outside_words : List (List ℕ)
 outside_words = codes "ctx" ∷ codes "env" ∷ []

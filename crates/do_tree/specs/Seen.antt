@@ -112,7 +112,13 @@ items_in (item ∷ rest) = with_item item (items_in rest)
 
 -- A method, a class, a script.
 abbrev pub method_of : Method → tree.Method
-method_of m = record { at = m.at; kind = m.kind; name = named_of m.name; parameters = map named_of m.parameters.items; body = items_in m.body.value.items.items }
+method_of m = record {
+  at = m.at;
+  kind = m.kind;
+  name = named_of m.name;
+  parameters = map named_of m.parameters.items;
+  body = items_in m.body.value.items.items;
+}
 
 abbrev pub class_of : Class → tree.Class
 class_of c = record { at = c.at; name = named_of c.name; methods = map method_of c.methods.items }

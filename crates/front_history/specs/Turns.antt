@@ -26,7 +26,8 @@ use Rattle.front_history.specs.Paired.{ArePaired}
 
 -- What is under way before a turn, and after it: what the front has sent of it, and logged as sent, is behind the entries under way to the
 -- back; and the notices that it got, and those under way, are the same in all.
-pub record AreUnderWay {T : Type 0} (old new : Half T) (got_before got : List Notice) (line later_line : List Entry) (notices later : List Notice) : Type 0 where
+pub record AreUnderWay {T : Type 0} (old new : Half T) (got_before got : List Notice) (line later_line : List Entry)
+    (notices later : List Notice) : Type 0 where
   pub sent : List Entry
   pub logged : new.log.sent.items ≡ old.log.sent.items ++ sent
   pub behind : later_line ≡ line ++ sent

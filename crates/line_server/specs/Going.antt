@@ -41,5 +41,6 @@ pub record GoesOn (whole : List ℕ) (given : List SeenLine) (count : ℕ) (held
   pub to_come : (more beyond : List ℕ) → source.rest ≡ more ++ beyond → requests (read ++ more) ≡ given ++ requests_after count (held ++ more)
   pub lines_read : (more beyond : List ℕ) → source.rest ≡ more ++ beyond → length (lines (read ++ more)) ≡ count + length (lines (held ++ more))
   -- the count is that of the lines that were ended, but behind the last line of an input at its end
-  pub ended_read : ((more beyond : List ℕ) → source.rest ≡ more ++ beyond → ended (read ++ more) ≡ count + ended (held ++ more)) ⊎ ((source.rest ≡ []) × (held ≡ []))
+  pub ended_read : ((more beyond : List ℕ) → source.rest ≡ more ++ beyond → ended (read ++ more) ≡ count + ended (held ++ more)) ⊎
+      ((source.rest ≡ []) × (held ≡ []))
   pub counted : list_all (λ line. nat_le line.number count) given ≡ true

@@ -75,7 +75,8 @@ module _ {S : Type 0} (left : S → Option (List ℕ)) where
     pub looked : (whole : List ℕ) (given : List SeenLine) → IsReading whole given old → LooksAt whole (given ++ lines_in result) (most_left result) new
     pub exact : result ≡ Err ReadFailed → (whole : List ℕ) (given : List SeenLine) → IsReading whole given old → IsAllRead whole given new
     pub all : result ≡ Ok None → (whole : List ℕ) (given : List SeenLine) → IsReading whole given old → given ≡ through most_lines (requests whole)
-    pub total : result ≡ Ok None → (whole : List ℕ) (given : List SeenLine) → IsReading whole given old → count_of new ≡ min most_lines (length (lines_of whole))
+    pub total : result ≡ Ok None → (whole : List ℕ) (given : List SeenLine) → IsReading whole given old
+        → count_of new ≡ min most_lines (length (lines_of whole))
     pub end : result ≡ Ok None → (count_of new ≡ most_lines) ⊎ (has_ended new ≡ true)
     pub met_end : has_ended old ≡ false → has_ended new ≡ true → IfTold (left (source_of new)) (λ rest. rest ≡ [])
     pub count : count_of old ≤ count_of new

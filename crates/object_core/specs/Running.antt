@@ -6,7 +6,8 @@ use Rattle.object_core.specs.Stepping.{Steps}
 use Rattle.object_core.specs.declared.choice.Choice.{Choice}
 use Rattle.object_core.specs.declared.object.Core.{Core}
 
-pub data Runs {D : Type 0} (moment_of : D → ℕ) (told : D → Option (List ℕ)) (image : D → List ℕ → Type 0) (faults_of : D → ℕ) (script : Script) : (old new : Core D) → List Choice → Result (Unit {0}) NoMemory → Type 0 where
+pub data Runs {D : Type 0} (moment_of : D → ℕ) (told : D → Option (List ℕ)) (image : D → List ℕ → Type 0) (faults_of : D → ℕ) (script : Script) :
+    (old new : Core D) → List Choice → Result (Unit {0}) NoMemory → Type 0 where
   ends : (core : Core D) → Runs moment_of told image faults_of script core core [] (Ok tt)
   goes_on : (old next new : Core D) (choice : Choice) (later : List Choice) (did : Bool) (result : Result (Unit {0}) NoMemory)
       → Steps moment_of told image faults_of script old next choice (Ok did) → Runs moment_of told image faults_of script next new later result

@@ -76,7 +76,8 @@ abbrev pub Does : {D : Type 0} → (D → ℕ) → (D → Option (List ℕ)) →
 Does moment_of told image faults_of script old new (Give event) = new.inbox ≡ record old.inbox { waiting = old.inbox.waiting ++ event ∷ [] }
 Does moment_of told image faults_of script old new Turn = (st : Stood) → IsHalf seen script old.front.half st
     → turning.Turns seen script old.front.half new.front.half st old.inbox.got new.inbox.got old.notices.got new.notices.got (sent_on old.notices)
-Does moment_of told image faults_of script old new Take = entering.Takes told image old.back new.back old.line.got new.line.got (sent_on old.notices) (sent_on new.notices)
+Does moment_of told image faults_of script old new Take = entering.Takes told image old.back new.back old.line.got new.line.got (sent_on old.notices)
+    (sent_on new.notices)
 Does moment_of told image faults_of script old new Flush = flushing.Flushes faults_of old.back new.back
 Does moment_of told image faults_of script old new Release =
     releasing.Releases moment_of old.back new.back (sent_on old.notices) (sent_on new.notices) (sent_on old.out) (sent_on new.out)
@@ -103,7 +104,8 @@ pub record Passes {D : Type 0} (old new : Core D) (choice : Choice) (result : Re
 
 -- A step answers false exactly where there is nothing to do, and then changes nothing; true where it did what its choice says; and
 -- want of memory always behind an earlier one of its half.
-pub record Steps {D : Type 0} (moment_of : D → ℕ) (told : D → Option (List ℕ)) (image : D → List ℕ → Type 0) (faults_of : D → ℕ) (script : Script) (old new : Core D) (choice : Choice)
+pub record Steps {D : Type 0} (moment_of : D → ℕ) (told : D → Option (List ℕ)) (image : D → List ℕ → Type 0) (faults_of : D → ℕ) (script : Script)
+    (old new : Core D) (choice : Choice)
     (result : Result Bool NoMemory) : Type 0 where
   pub touches : Touches old new choice
   pub passes : Passes old new choice result

@@ -135,7 +135,8 @@ pub data Together (start : Contents) (f : Front) (front : Fronted) (back : Backe
       → Together start f front back unread before mounted (record { hold = sync (length f.said); needs = before } ∷ []) []
   halts : (c : Cause) → f.mode ≡ serves (ended c) → unread ≡ [] → (first : List Body) × (f.said ≡ first ++ body.Halt c ∷ [])
       → Together start f front back unread before mounted (record { hold = halt c; needs = before } ∷ []) []
-  read_fails : (o : Object) (t : OpenTask) (a : StoreAsk) (free : Bool) (counts_before counts_after : ℕ) → f.mode ≡ serves (waiting o t (body.Ask a free)) → unread ≡ []
+  read_fails : (o : Object) (t : OpenTask) (a : StoreAsk) (free : Bool) (counts_before counts_after : ℕ) → f.mode ≡ serves (waiting o t (body.Ask a free))
+      → unread ≡ []
       → Together start f front back unread before mounted (record { hold = halt (cause.Disk counts_before counts_after); needs = before } ∷ []) []
   falls : (call : Option Event) (c : Cause) → f.mode ≡ down call → IsUnread f.mode unread
       → length (missed_of f.incarnation back.downs) ≡ suc (length (calls_down f front)) → Together start f front back unread before (fallen c) [] []

@@ -209,7 +209,8 @@ pub record IsIdle {D A B : Type 0} (old new : Back D) (taken_before taken : List
 
 -- The next entry of the line is taken, and the front is told what it waits for: over a disk that tells its content what the map says, where no
 -- read failed, and a read fails only where the count of faults rose.
-pub record Takes {D : Type 0} (told : D → Option (List ℕ)) (image : D → List ℕ → Type 0) (old new : Back D) (got_before got : List Entry) (sent_before sent : List Notice) : Type 0 where
+pub record Takes {D : Type 0} (told : D → Option (List ℕ)) (image : D → List ℕ → Type 0) (old new : Back D) (got_before got : List Entry)
+    (sent_before sent : List Notice) : Type 0 where
   pub entry : Entry
   pub took : got ≡ got_before ++ entry ∷ []
   pub failed : Failed
@@ -222,7 +223,8 @@ pub record Takes {D : Type 0} (told : D → Option (List ℕ)) (image : D → Li
   pub rose : (disk : D) → IsDiskOf old.store disk → IsTold (told disk) → IfSome failed (λ counts. Rose counts.0 counts.1)
 
 -- The same of an entry that was taken off the line.
-pub record TakesEntry {D : Type 0} (told : D → Option (List ℕ)) (image : D → List ℕ → Type 0) (old new : Back D) (entry : Entry) (answer : Option Notice) : Type 0 where
+pub record TakesEntry {D : Type 0} (told : D → Option (List ℕ)) (image : D → List ℕ → Type 0) (old new : Back D) (entry : Entry)
+    (answer : Option Notice) : Type 0 where
   pub failed : Failed
   pub enters : Enters failed old new entry
   pub answers : (disk : D) → IsDiskOf old.store disk → IsTold (told disk) → (m : Contents) → HasMap told image m old

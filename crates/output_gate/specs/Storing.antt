@@ -106,10 +106,13 @@ pub record IsFaultOf {D : Type 0} (faults_of : D → ℕ) (old new : Journal D) 
   pub end : fault.end ≡ end_of old
 
 -- What an append did to the cache: what was staged stands in the new frame; where it failed the cache is as it was.
-pub record Stores {D A : Type 0} (told : D → Option (List ℕ)) (image : D → List ℕ → Type 0) (journal : Journal D) (old new : Cached) (result : Result A Fault) : Type 0 where
+pub record Stores {D A : Type 0} (told : D → Option (List ℕ)) (image : D → List ℕ → Type 0) (journal : Journal D) (old new : Cached)
+    (result : Result A Fault) : Type 0 where
   pub stored : OnOk result ((frames : List Frame) (object : Object) (staged : List (List Op)) (m : Contents) → IsAtRest told image journal frames
-      → IsStaged journal object staged → Name object frames → HasStored frames object staged old m → HasStored (frames ++ frame_of object staged ∷ []) object [] new m)
-  pub kept : OnOk result ((frames : List Frame) (object : Object) (staged : List (List Op)) → HasKept frames old → HasKept (frames ++ frame_of object staged ∷ []) new)
+      → IsStaged journal object staged → Name object frames → HasStored frames object staged old m
+      → HasStored (frames ++ frame_of object staged ∷ []) object [] new m)
+  pub kept : OnOk result ((frames : List Frame) (object : Object) (staged : List (List Op)) → HasKept frames old
+      → HasKept (frames ++ frame_of object staged ∷ []) new)
   pub same : OnErr result (new ≡ old)
 
 -- What an append did: it wrote one frame; or it didn't, for this cause, and the journal's end was here before.

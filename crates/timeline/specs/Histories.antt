@@ -104,14 +104,16 @@ thrown_back = backs thrown_entries (1 ∷ []) (stops cause.BlockThrew 1 1 ∷ []
 
 -- `add` twice. The first flight fails, and so many of its batches are found.
 abbrev pub added_again : ℕ → ℕ → History
-added_again kept n = let entries = entry 1 1 (body.Ask (Get (codes "n")) false) ∷ entry 1 2 (body.Batch (puts "n" 1 ∷ []) None true) ∷ entry 1 3 (sends 1 (Ok (number 1)))
+added_again kept n = let entries = entry 1 1 (body.Ask (Get (codes "n")) false) ∷ entry 1 2 (body.Batch (puts "n" 1 ∷ []) None true)
+    ∷ entry 1 3 (sends 1 (Ok (number 1)))
     ∷ entry 2 1 (body.Ask (Get (codes "n")) false) ∷ entry 2 2 (body.Batch (puts "n" n ∷ []) None true) ∷ entry 2 3 (sends 2 (Ok (number n))) ∷ [] in
     history (fronts ((1, calls 1 0 []) ∷ (2, calls 2 0 []) ∷ []) entries (failed_disk ∷ []))
     (backs entries (1 ∷ []) (stops failed_disk 0 1 ∷ []) (keeps kept failed_disk ∷ []) [])
 
 -- A long `set` would pass the journal's limit; then a key is read.
 abbrev pub filled : History
-filled = let entries = entry 1 1 (body.Batch (puts "k" 5 ∷ []) None true) ∷ entry 1 2 (sends 1 (Ok (number 5))) ∷ entry 2 1 (sends 2 (Ok value.Undefined)) ∷ [] in
+filled = let entries = entry 1 1 (body.Batch (puts "k" 5 ∷ []) None true) ∷ entry 1 2 (sends 1 (Ok (number 5))) ∷ entry 2 1 (sends 2 (Ok value.Undefined))
+    ∷ [] in
     history (fronts ((1, calls 1 0 []) ∷ (2, calls 2 1 []) ∷ []) entries (cause.Full 5082 4096 ∷ []))
     (backs entries [] (stops (cause.Full 5082 4096) 0 1 ∷ []) (keeps 0 (cause.Full 5082 4096) ∷ []) [])
 

@@ -58,7 +58,8 @@ halted_back = backs halted_entries (1 ∷ []) (stops cause.BlockThrew 1 1 ∷ []
 
 -- What was durable and acknowledged is read as `undefined`, behind an end that no mounting followed.
 abbrev pub gone_entries : List Entry
-gone_entries = two_entries ++ entry 1 3 (body.Halt cause.BlockThrew) ∷ entry 2 1 (body.Ask (Get (codes "x")) false) ∷ entry 2 2 (sends 2 (Ok value.Undefined)) ∷ []
+gone_entries = two_entries ++ entry 1 3 (body.Halt cause.BlockThrew) ∷ entry 2 1 (body.Ask (Get (codes "x")) false) ∷ entry 2 2 (sends 2 (Ok value.Undefined))
+    ∷ []
 
 abbrev pub gone_front : Fronted
 gone_front = fronts ((1, calls 1 0 []) ∷ (2, calls 2 1 (word "x" ∷ [])) ∷ []) gone_entries (cause.BlockThrew ∷ [])

@@ -74,7 +74,8 @@ pub fn front_waits_for_its_storage()
     ensures goes_on { sent_for (own_write ∷ []) (delivered (calls 1 0 []) ∷ noticed (Read 2 (One (number 1))) ∷ [])
         ≡ entry 1 1 (body.Batch (puts "n" 1 ∷ []) None true) ∷ entry 1 2 (body.Ask (Get (codes "n")) false) ∷ entry 1 3 (sends 1 (Ok (number 1))) ∷ [] }
     ensures ends { sent_for (own_write ∷ []) (delivered (calls 1 0 []) ∷ noticed (Fresh 2 None failed_disk) ∷ [])
-        ≡ entry 1 1 (body.Batch (puts "n" 1 ∷ []) None true) ∷ entry 1 2 (body.Ask (Get (codes "n")) false) ∷ entry 2 1 (sends 1 (Err (failure.Reset failed_disk))) ∷ [] }
+        ≡ entry 1 1 (body.Batch (puts "n" 1 ∷ []) None true) ∷ entry 1 2 (body.Ask (Get (codes "n")) false)
+        ∷ entry 2 1 (sends 1 (Err (failure.Reset failed_disk))) ∷ [] }
 {}
 
 /// The switch gives a new object the least free slot, and names what is missing.
