@@ -45,9 +45,11 @@ pub record DumpsSlots {S R W : Type 0} (outside : Outside S R W) (folder : List 
   pub reads_nothing : (end ≢ ends.ReadFailed) × (left.report.switch ≡ given.report.switch) × (left.report.lines ≡ given.report.lines)
   pub reports : IsIdleReport outside.disks (given.depot.slots folder) slots end left.report
   pub whole : end ≡ ends.Finished
-      → PrintsDump outside.disks.told (given.depot.slots folder) reports.named left.report.slots.items (WritesAll (outside.sink.taken given.out) (outside.sink.taken left.out))
+      → PrintsDump outside.disks.told (given.depot.slots folder) reports.named left.report.slots.items
+      (WritesAll (outside.sink.taken given.out) (outside.sink.taken left.out))
   pub front : length left.report.slots.items ≡ slots
-      → PrintsDump outside.disks.told (given.depot.slots folder) reports.named left.report.slots.items (WritesFirstOf (outside.sink.taken given.out) (outside.sink.taken left.out))
+      → PrintsDump outside.disks.told (given.depot.slots folder) reports.named left.report.slots.items
+      (WritesFirstOf (outside.sink.taken given.out) (outside.sink.taken left.out))
   pub opened : IsOpened slots given.input left.input given.out left.out end given.report left.report
   pub unopened : LeavesUnopened outside.disks.told outside.disks.image outside.disks.moment_of outside.disks.left_since
       (given.depot.slots folder) end left.report ⊎ LeavesUnread outside.disks (given.depot.slots folder) reports.named end left.report

@@ -22,7 +22,8 @@ pub record Storage : Type 0 where
 -- a code of it, by which its model is kept
 abbrev pub storage_code : Coded Storage
 storage_code =
-    code_by (List (List ℕ × Value) × Option (ℤ × ℕ)) (coded× (coded_list (coded× (coded_list coded_ℕ) one_value.the_row.coded)) (coded_option (coded× coded_ℤ coded_ℕ)))
+    code_by (List (List ℕ × Value) × Option (ℤ × ℕ)) (coded× (coded_list (coded× (coded_list coded_ℕ) one_value.the_row.coded))
+    (coded_option (coded× coded_ℤ coded_ℕ)))
     (λ storage. (storage.pairs, storage.alarm)) (λ p. record { pairs = p.0; alarm = p.1 }) (λ _. refl)
 
 -- the storage of a map

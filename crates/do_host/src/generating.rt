@@ -29,8 +29,10 @@ use std::sync::Wait;
 use std::thread::Threads;
 
 // The script that is served.
-const SCRIPT: &str =
-    "export class G extends DurableObject {\n  async add(k) { let n = await this.ctx.storage.get(\"n\") ?? 0; this.ctx.storage.put(\"n\", n + k); return n + k; }\n}\n";
+const SCRIPT: &str = r#"export class G extends DurableObject {
+  async add(k) { let n = await this.ctx.storage.get("n") ?? 0; this.ctx.storage.put("n", n + k); return n + k; }
+}
+"#;
 
 const SLOTS: u32 = 16;
 

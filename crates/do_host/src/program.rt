@@ -43,14 +43,21 @@ pub struct Ran<R, W> {
 ///
 /// | status | comes |
 /// |---|---|
-/// | 0 | `serve`: the input was read to its end, or through line [`MOST_LINES`](line_server::MOST_LINES), and nothing is under way; `check`: the script is accepted; prints `["script",[names]]`, the classes in the order of the text; `dump`: prints for each slot with an object `["object",slot,class,name]`, a `["pair",slot,key,value]` for each pair, ascending by key, and `["alarm",slot,time,retry]` if there is one; `gen`: all lines were served, and `["summary",COUNT,replies,total]` is printed: how many lines there were, how many replies, and the sum of what the slots have under `n` |
+/// | 0 | `serve`: the input was read to its end, or through line [`MOST_LINES`](line_server::MOST_LINES), and nothing is under way |
+/// | | `check`: the script is accepted; prints `["script",[names]]`, the classes in the order of the text |
+/// | | `dump`: prints for each slot with an object `["object",slot,class,name]`, a `["pair",slot,key,value]` for each pair, ascending by key, |
+/// | | and `["alarm",slot,time,retry]` if there is one |
+/// | | `gen`: all lines were served, and `["summary",COUNT,replies,total]` is printed: how many lines there were, how many replies, |
+/// | | and the sum of what the slots have under `n` |
 /// | 1 | exactly where the words are none of the commands; prints `["usage"]` |
 /// | 2 | where the script is refused; prints `["script-refused",place,kind]`, its first fault |
 /// | 3 | only where the count of faults of the depot or of a slot's disk rose while the slots were opened, or read by `dump`, or mounted again by `gen` |
 /// | 4 | want of memory |
 /// | 5 | only where the source's count of faults rose |
 /// | 6 | only where the sink's count of faults rose |
-/// | 7 | only where, all earlier slots being good, a slot's file is foreign, damaged or mixed, or names the object of an earlier slot; prints `["foreign",slot,place]`, `["damaged",slot,place]`, `["mixed",slot,class,name,class,name]` or `["twice",a,b]`; the report has its disk as `unopened` |
+/// | 7 | only where, all earlier slots being good, a slot's file is foreign, damaged or mixed, or names the object of an earlier slot |
+/// | | prints `["foreign",slot,place]`, `["damaged",slot,place]`, `["mixed",slot,class,name,class,name]` or `["twice",a,b]` |
+/// | | the report has its disk as `unopened` |
 ///
 /// No other status comes. It isn't promised to return.
 ///

@@ -57,7 +57,8 @@ fn batch_of(alloc: Global, op: Op) -> Mem<Batch>
 
 // The alarm after the batch that a handler's end writes, and no handler runs.
 fn unhandled<T: Task + Drop>(object: Object<T>, batch: &Batch) -> Object<T>
-    ensures object { (ts : List OpenTask) → object_of result ts ≡ steps.wrote (steps.confirmed batch.now ∷ []) (record (object_of object ts) { handler = None }) }
+    ensures object { (ts : List OpenTask) → object_of result ts ≡ steps.wrote (steps.confirmed batch.now ∷ [])
+        (record (object_of object ts) { handler = None }) }
     ensures holds { (l : Life) (ts : List OpenTask) → Holds T.seen l object ts → Holds T.seen l result ts }
 {
     let mut object = object;

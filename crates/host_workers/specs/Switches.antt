@@ -74,7 +74,8 @@ pub record SameLanes {W T : Type 0} (old new : SwitchCell W T) : Type 0 where
 
 -- A line that was taken was accepted, or is lost: the cell is one over what it got with this line.
 abbrev pub AcceptsLine : {W T : Type 0} → (old new : SwitchCell W T) → read.Line → Type 0
-AcceptsLine old new line = (first : switch.Switch) (got : List read.Line) → IsSwitchOver (script_of old) first old.switch old.kept old.outs.items old.inboxes.items got
+AcceptsLine old new line = (first : switch.Switch) (got : List read.Line)
+    → IsSwitchOver (script_of old) first old.switch old.kept old.outs.items old.inboxes.items got
     → IsSwitchOver (script_of new) first new.switch new.kept new.outs.items new.inboxes.items (got ++ line ∷ [])
 
 -- The lines that a switch has logged were written behind what its sink held, as far as the sink tells it; after a write that failed their

@@ -56,7 +56,8 @@ impl Machine {
     /// A part is done that gives this number and does nothing else, for which a step is charged.
     fn give_number(&mut self, alloc: Global, number: Num, focus: &mut Focus) -> Mem<Progress>
         requires { IsDeep self.old }
-        ensures { IfOk result (λ p. (f : SeenFocus) → Charges f (Focus.Ended (Outcome.Gave (Value.Num number))) → StepsFrom f self.old self.new (leads_of p focus.new)) }
+        ensures { IfOk result (λ p. (f : SeenFocus) → Charges f (Focus.Ended (Outcome.Gave (Value.Num number)))
+            → StepsFrom f self.old self.new (leads_of p focus.new)) }
     {
         if !self.state.charge(1) {
             return self.finish(alloc, Done::Exceeded, focus);
