@@ -158,7 +158,7 @@ int main(int argc, char **argv) {
     if (argc != 2) { fprintf(stderr, "usage: server FILE\n"); return 2; }
     file = open(argv[1], O_RDWR | O_CREAT | O_TRUNC, 0644);
     if (file < 0) fail(argv[1]);
-    write_synced("\xa5" "DO-JOURNAL-V1\n\0", 16, 0);
+    write_synced("\xa5" "DO-JOURNAL-V2\n\0", 16, 0);
     in_disk = 0;
     while ((got = read(0, room + had, sizeof room - had)) > 0) {
         char *line = room, *end;

@@ -49,7 +49,7 @@ tell_journals() {
     if [[ " $seen" == *' slots '* ]]; then
         say "no slot was free for a further object (NoSlot): $(more_slots). A slot isn't freed by what its object deletes."
     elif [ -z "$output_from" ] && [ ! -t 1 ]; then
-        free=$(($(journals_of "$folder" 16 | wc -l) - slots))
+        free=$(($(journals_of "$folder" "$bare_bytes" | wc -l) - slots))
         if [ "$free" -ge 0 ]; then say "all $slots slots of $folder have an object, and a further one is answered by NoSlot: $(more_slots)"; fi
     fi
 }

@@ -7,6 +7,9 @@ see_words() {
     if tell_paths "$script" "$folder"; then exit 3; fi
 }
 
+# the most bytes of a journal without an object: its header has 16, and the marker that one of version 1 gets has 45 (docs/FORMATS.md)
+bare_bytes=61
+
 # the journals that stand in a folder, in order; where a number is given, those of more bytes than that
 journals_of() {
     find "$1" -maxdepth 1 -name 'slot-[0-9][0-9][0-9].journal' ${2:+-size "+$2c"} 2>/dev/null | sort
@@ -25,10 +28,10 @@ see_journals() {
     exit 3
 }
 
-# Warns where objects stand in journals behind the last slot: a journal that has a frame has more than its header of 16 bytes.
+# Warns where objects stand in journals behind the last slot.
 warn_of_slots() {
     local file last
-    file=$(journals_of "$1" 16 | tail -n 1)
+    file=$(journals_of "$1" "$bare_bytes" | tail -n 1)
     [ -n "$file" ] && [ "$(number_of "$file")" -ge "$2" ] || return 0
     if [ "$command" = gen ]; then
         say "WARNING: $file has an object, and gen serves and adds up the first $2 slots alone. Give gen another folder."

@@ -4,7 +4,6 @@ use Rattle.std.specs.List.{flat_map}
 use Rattle.storage_map.specs.Contents.{Contents, apply_op, apply}
 use Rattle.storage_map.specs.Ops.{IsOp}
 use Rattle.storage_map.specs.declared.op.Op.{Op}
-use Rattle.batch_codec.specs.Frames.{Frame, IsFrame}
 use Rattle.batch_codec.specs.Lent.{LentOps, LentBatches}
 use Rattle.batch_codec.specs.Views.{Shows, IsFirst, IsFirstBatch}
 use Rattle.batch_codec.specs.declared.op_view.OpView.{OpView}

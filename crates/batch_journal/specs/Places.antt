@@ -10,7 +10,7 @@ use Rattle.storage_map.specs.Ops.{IsStored, op_bytes}
 use Rattle.storage_map.specs.declared.place.Place.{Place}
 use Rattle.storage_map.specs.declared.op.Op.{Op}
 use Rattle.storage_map.specs.declared.op.Op.TheVariants.{Put, Delete, DeleteAll, SetAlarm, ClearAlarm}
-use Rattle.batch_journal.specs.Frames.{Frame, journal_bytes, operations_in}
+use Rattle.batch_journal.specs.Frames.{Version, Frame, file_bytes, journal_bytes, operations_in}
 
 -- The part stands in the bytes from this place on.
 pub record HasPart (bytes : List ℕ) (at : ℕ) (part : List ℕ) : Type 0 where
@@ -29,9 +29,13 @@ pub record HasValueAt (bytes : List ℕ) (place : Place) (value : Value) : Type 
 abbrev pub place_of : ℕ → ℕ → Place
 place_of at size = record { at = at; size = size }
 
--- so it is in the journal of these frames
+-- so it is in the file of each version
+abbrev pub InEach : (Version → List ℕ) → Place → Value → Type 0
+InEach files place value = (version : Version) → HasValueAt (files version) place value
+
+-- so it is in the journal of these frames, whatever its version
 abbrev pub IsPlaceIn : List Frame → Place → Value → Type 0
-IsPlaceIn frames place value = HasValueAt (journal_bytes frames) place value
+IsPlaceIn frames = InEach (λ version. file_bytes version frames)
 
 -- The index stands for what the frames leave of their object's storage: it has the map's keys and alarm, and at the place of each
 -- key stands its value.
@@ -44,10 +48,10 @@ ArePlaced frames frame places values = length (journal_bytes (frames ++ frame �
 
 -- ---- what the code's own functions say
 
--- An index over a file in which the payload stands from this place on goes by these operations of the payload.
+-- An index over files in which the payload stands from this place on goes by these operations of the payload.
 abbrev pub GoesBy : ℕ → List ℕ → Indexed → Indexed → List Op → Type 0
-GoesBy start payload old new ops = (file : List ℕ) (m : Contents) → HasPart file start payload
-    → StandsFor (HasValueAt file) old m → StandsFor (HasValueAt file) new (apply m ops)
+GoesBy start payload old new ops = (files : Version → List ℕ) (m : Contents) → ((version : Version) → HasPart (files version) start payload)
+    → StandsFor (InEach files) old m → StandsFor (InEach files) new (apply m ops)
 
 -- the place of each value that is put, where the bytes of the operations begin at this place
 abbrev pub placed : ℕ → List Op → List Place

@@ -9,7 +9,7 @@ use Rattle.batch_journal.specs.Frames.{Frame}
 use Rattle.batch_journal.specs.Moments.{OnlyReads, TellsAsBefore}
 use Rattle.batch_journal.specs.Places.{Indexes}
 use Rattle.batch_journal.specs.Reading.{IsObjectOf}
-use Rattle.batch_journal.specs.Recovery.{Recovers}
+use Rattle.batch_journal.specs.Recovery.{RecoversAlike}
 use Rattle.batch_journal.specs.Rest.{IsAtRest, disk_in}
 use Rattle.batch_journal.specs.declared.journal.Journal.{Journal}
 use Rattle.batch_journal.specs.declared.mount.Mounted.{Mounted}
@@ -71,7 +71,7 @@ module _ {S : Type 0} (moment_of : S → ℕ) (left_since : S → ℕ → List �
       let later : next_count 0 ≤ moment_of (disk_in mounted.journal) = subst (λ (n : ℕ). next_count n ≤ moment_of (disk_in mounted.journal)) is.first is.mount.later in
       ⊎_elim (λ before. before) (λ now. now_counts (disk_in mounted.journal) (next_count 0) c later now) (reads.moments.before (next_count 0) c later left)
 
-  since_mounted : (disk : S) → OnlyReads told image moment_of left_since (disk_in mounted.journal) disk → (c : List ℕ) → left_since disk (next_count 0) c → Recovers c is.mount.frames
+  since_mounted : (disk : S) → OnlyReads told image moment_of left_since (disk_in mounted.journal) disk → (c : List ℕ) → left_since disk (next_count 0) c → RecoversAlike c is.mount.frames
   since_mounted disk reads c left =
       is.mount.images c (subst (λ (t : ℕ). left_since (disk_in mounted.journal) (next_count t) c) (sym is.first) (image_since disk reads c left))
 

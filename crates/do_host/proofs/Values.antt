@@ -4,14 +4,14 @@ use Rattle.std.specs.Prelude.{IsErrOf, is_some, unwrap_or}
 use Rattle.std.specs.List.{AllByRecursion}
 use Rattle.std.specs.FinMap.{entries, get}
 use Rattle.std.proofs.lemmas.List.{append-nil, map-append}
-use Rattle.batch_journal.specs.Frames.{Frame, journal_bytes}
+use Rattle.batch_journal.specs.Frames.{Frame}
 use Rattle.batch_journal.specs.Moments.{OnlyReads}
 use Rattle.batch_journal.specs.Places.{Indexes, IsPlaceIn}
 use Rattle.batch_journal.specs.Rest.{IsAtRest, disk_in}
 use Rattle.batch_journal.specs.declared.journal.Journal.{Journal}
 use Rattle.batch_journal.specs.declared.read_stored.ReadFault.{ReadFault}
 use Rattle.batch_journal.specs.declared.read_stored.ReadFault.TheVariants.{BadValue, DiskFailed}
-use Rattle.batch_journal.proofs.Parts.{one_value}
+use Rattle.batch_journal.proofs.ReadPlaces.{one_value_in}
 use Rattle.batch_journal.proofs.Runs.{reads_on, started}
 use Rattle.do_disk.specs.Disk.{Rose}
 use Rattle.do_value.specs.declared.value.Value.{Value}
@@ -136,7 +136,7 @@ each_entry index = subst (AllByRecursion (IsEntry index.places)) (all_listed (en
 -- all pairs that were read are those that the frames leave
 pub left_read : (frames : List Frame) (index : Indexed) (rs : List (List ℕ × Value)) → Indexes frames index → AreReadAt (IsPlaceIn frames) (entries index.places) rs
     → rs ≡ entries (left_by frames).values
-left_read frames index rs stands read = read_whole (IsPlaceIn frames) index (left_by frames) stands (one_value (journal_bytes frames)) rs (each_entry index) read
+left_read frames index rs stands read = read_whole (IsPlaceIn frames) index (left_by frames) stands (one_value_in frames) rs (each_entry index) read
 
 -- ---- the journal over the reads
 

@@ -4,7 +4,7 @@ use Rattle.std.specs.List.{flat_map}
 use Rattle.batch_journal.specs.Frames.{Frame}
 use Rattle.batch_journal.specs.Moments.{TellsAsBefore}
 use Rattle.batch_journal.specs.Reading.{IsObjectOf}
-use Rattle.batch_journal.specs.Recovery.{Recovers}
+use Rattle.batch_journal.specs.Recovery.{Recovers, RecoversAlike}
 use Rattle.do_disk.specs.Disk.{IfTold, next_count}
 use Rattle.do_value.specs.declared.value.Value.{Value}
 use Rattle.host_core.specs.declared.report.SlotReport.{SlotReport}
@@ -67,7 +67,7 @@ abbrev pub no_back : Backed
 no_back = record { taken = []; flights = []; stops = []; released = []; ends = []; downs = [] }
 
 -- A row of a slot that was mounted and not served: its logs are empty, its object is the slot's, and a crash at any moment since the first call
--- of its disk leaves a file that recovers to the frames of the slot's own, and no other.
+-- of its disk leaves a file that recovers to the frames of the slot's own, but for a marker, and no other.
 pub record IsIdleRow {S : Type 0} (left_since : S → ℕ → List ℕ → Type 0) (content : Option (List ℕ)) (named : Option Object)
     (row : SlotReport S) : Type 0 where
   pub frames : List Frame
@@ -76,7 +76,7 @@ pub record IsIdleRow {S : Type 0} (left_since : S → ℕ → List ℕ → Type 
   pub object : row.identity ≡ named
   pub front : fronted row.front ≡ no_front
   pub back : backed row.back ≡ no_back
-  pub images : (c : List ℕ) → left_since row.store (next_count 0) c → Recovers c frames
+  pub images : (c : List ℕ) → left_since row.store (next_count 0) c → RecoversAlike c frames
 
 -- Each row is one of its own slot.
 abbrev pub AreIdleRows : {S : Type 0} → (S → ℕ → List ℕ → Type 0) → (ℕ → Option (List ℕ)) → Slots → List (SlotReport S) → Type 0
@@ -84,12 +84,12 @@ AreIdleRows {S} left_since contents named rows = (slot : ℕ) (row : SlotReport 
     → IsIdleRow left_since (contents slot) (object_at named slot) row
 
 -- The disk of a slot that was mounted, of which a value wasn't read: a crash at any moment since its first call leaves a file that recovers to
--- the frames of the slot's own, and no other.
+-- the frames of the slot's own, but for a marker, and no other.
 pub record IsUnread {S : Type 0} (left_since : S → ℕ → List ℕ → Type 0) (content : Option (List ℕ)) (named : Option Object) (disk : S) : Type 0 where
   pub frames : List Frame
   pub recovered : IfTold content (λ c. Recovers c frames)
   pub names : IsObjectOf named frames
-  pub images : (c : List ℕ) → left_since disk (next_count 0) c → Recovers c frames
+  pub images : (c : List ℕ) → left_since disk (next_count 0) c → RecoversAlike c frames
 
 -- The slot is damaged at a place at which no value stands, and its disk tells nothing.
 abbrev pub HasNoValue : {S : Type 0} → (S → Option (List ℕ)) → ℕ → Bad → S → Type 0

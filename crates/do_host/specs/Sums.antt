@@ -3,7 +3,7 @@ use Rattle.std.specs.Prelude.{◌≡◌, ◌*◌, ℕ, ℤ, ◌+ℤ◌, ◌≤�
 use Rattle.std.specs.FinMap.{get}
 use Rattle.batch_journal.specs.Frames.{Frame}
 use Rattle.batch_journal.specs.Moments.{LeavesOnly}
-use Rattle.batch_journal.specs.Mounting.{ImageOrHeader}
+use Rattle.batch_journal.specs.Mounting.{ImageOrSame}
 use Rattle.batch_journal.specs.Recovery.{Recovers}
 use Rattle.do_disk.specs.Disk.{IfTold, Rose}
 use Rattle.do_value.specs.Limits.{most_number}
@@ -40,13 +40,13 @@ abbrev pub IsSumOf : ℕ → ℤ → Type 0
 IsSumOf slots sum = (neg_ℤ (pos (slots * most_number)) ≤ℤ sum) × (sum ≤ℤ pos (slots * most_number))
 
 -- A row whose disk was mounted again, and which is as before but for that. A crash leaves of the disk what it might have left before, or, where
--- the header of its file wasn't finished, a file without frames.
+-- its file wasn't as a mounting leaves it, one that recovers to the same.
 pub record IsMountedAgain {S : Type 0} (told : S → Option (List ℕ)) (image : S → List ℕ → Type 0) (moment_of : S → ℕ) (left_since : S → ℕ → List ℕ → Type 0)
     (row after : SlotReport S) : Type 0 where
   pub front : after.front ≡ row.front
   pub back : after.back ≡ row.back
   pub identity : after.identity ≡ row.identity
-  pub leaves : LeavesOnly moment_of left_since row.store after.store (ImageOrHeader (told row.store) (image row.store))
+  pub leaves : LeavesOnly moment_of left_since row.store after.store (ImageOrSame (told row.store) (image row.store))
 
 -- Why the sum isn't made at this slot, whose disk is this before it is mounted again and that after: it failed, or its file is bad.
 pub record StopsAt {S : Type 0} (told : S → Option (List ℕ)) (faults_of : S → ℕ) (slot : ℕ) (before after : S) (end : OpenEnd) : Type 0 where

@@ -2,7 +2,7 @@
 ghost use Rattle.std.specs.Prelude.{◌≡◌, ◌⊎◌, ◌≤◌, ◌+◌, ◌+ℤ◌, List, ℕ, ℤ, Ok, Err, IfOk, IfErr, Some, length};
 ghost use Rattle.batch_journal.specs.Frames.{Frame};
 ghost use Rattle.batch_journal.specs.Moments.{IsTold, LeavesOnly, OnlyReads};
-ghost use Rattle.batch_journal.specs.Mounting.{ImageOrHeader, disk_left};
+ghost use Rattle.batch_journal.specs.Mounting.{ImageOrSame, disk_left};
 ghost use Rattle.batch_journal.specs.Places.{Indexes};
 ghost use Rattle.batch_journal.specs.Rest.{IsAtRest, disk_in};
 ghost use Rattle.do_value.specs.Limits.{IsSafe};
@@ -84,7 +84,7 @@ fn sum_slot<D: Disk>(
 
 // Mounts a disk again, and reads what it has under `n`. The disk is handed back.
 fn mount_and_read<D: Disk>(alloc: Global, disk: D, slot: u32) -> (D, Result<i64, OpenEnd>)
-    ensures leaves { LeavesOnly D.moment_of D.left_since disk result.0 (ImageOrHeader (D.told disk) (D.image disk)) }
+    ensures leaves { LeavesOnly D.moment_of D.left_since disk result.0 (ImageOrSame (D.told disk) (D.image disk)) }
     ensures number { IfOk result.1 (IsNumberOf (D.told disk)) }
     ensures safe { IfOk result.1 IsSafe }
     ensures stops { IfErr result.1 (StopsAt D.told D.faults_of slot disk result.0) }

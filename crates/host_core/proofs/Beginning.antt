@@ -47,6 +47,7 @@ module _ {D : Type 0} (moment_of : D → ℕ) (left_since : D → ℕ → List �
     stands = known at.disk at.mount;
     begun = record {
       frames = at.mount.frames;
+      stand = (mounted.journal.version, at.mount.at_rest.of_grammar);
       recovered = λ file is. at.mount.recovers file (at.content_is ∙ is);
       names = subst (λ (o : Option Object). IsObjectOf o at.mount.frames) at.object at.mount.object;
       start = refl;

@@ -6,7 +6,7 @@ use Rattle.std.proofs.lemmas.List.{take-append-drop}
 use Rattle.std.proofs.lemmas.Option.{slice_get_within}
 use Rattle.std.proofs.lemmas.List.FromFn.{map-range_with_len_more, take-map-range_with_len}
 use Rattle.batch_journal.specs.Moments.{LeavesOnly, TellsAsBefore}
-use Rattle.batch_journal.specs.Mounting.{ImageOrHeader, IsMountOf}
+use Rattle.batch_journal.specs.Mounting.{ImageOrSame, IsMountOf}
 use Rattle.batch_journal.specs.Reading.{IsObjectOf}
 use Rattle.batch_journal.specs.Rest.{IsStaged, disk_in, limit_of}
 use Rattle.batch_journal.specs.declared.mount.Mounted.{Mounted}
@@ -110,7 +110,7 @@ module _ {S : Type 0} (told : S → Option (List ℕ)) (image : S → List ℕ �
   not_refused other why refused = why
 
   stops_adopting : (faults_of : S → ℕ) (faults later : ℕ) (unopened : Option S) (end : OpenEnd) → moment_of disk ≡ 0
-      → LeavesOnly moment_of left_since disk (disk_in mounted.journal) (ImageOrHeader (told disk) (image disk)) → unopened ≡ Some (disk_in mounted.journal)
+      → LeavesOnly moment_of left_since disk (disk_in mounted.journal) (ImageOrSame (told disk) (image disk)) → unopened ≡ Some (disk_in mounted.journal)
       → IsNotTaken named slot mounted.identity end
       → StopsOpening told image moment_of left_since faults_of contents named slot faults later unopened end
   stops_adopting faults_of faults later unopened end first leaves kept why =
@@ -128,7 +128,7 @@ module _ {S : Type 0} (told : S → Option (List ℕ)) (image : S → List ℕ �
 pub stopped_adopting : {S T : Type 0} (told : S → Option (List ℕ)) (image : S → List ℕ → Type 0) (moment_of : S → ℕ) (left_since : S → ℕ → List ℕ → Type 0) (faults_of : S → ℕ)
     (disk : S) (mounted : Mounted S) (result : Result T OpenEnd) (content : Option (List ℕ)) (slot : ℕ) (old named : Slots) (unopened : Option S) (faults later : ℕ)
     → moment_of disk ≡ 0 → told disk ≡ content → IsMountOf told image moment_of left_since disk mounted
-    → LeavesOnly moment_of left_since disk (disk_in mounted.journal) (ImageOrHeader (told disk) (image disk))
+    → LeavesOnly moment_of left_since disk (disk_in mounted.journal) (ImageOrSame (told disk) (image disk))
     → OnErr result (unopened ≡ Some (disk_in mounted.journal)) → OnErr result (named ≡ old) → IfErr result (IsNotTaken old slot mounted.identity)
     → IfErr result (λ end. (contents : ℕ → Option (List ℕ)) → content ≡ contents slot
     → StopsOpening told image moment_of left_since faults_of contents named slot faults later unopened end)
@@ -151,7 +151,7 @@ stopped_beginning {S} told image moment_of left_since faults_of contents named s
 -- what was handed out and mounted
 pub was_handed : {D : Type 0} (told : D → Option (List ℕ)) (image : D → List ℕ → Type 0) (moment_of : D → ℕ) (left_since : D → ℕ → List ℕ → Type 0)
     (disk : D) (mounted : Mounted D) (result : Result (Mounted D) OpenEnd) (content : Option (List ℕ)) → moment_of disk ≡ 0 → told disk ≡ content
-    → IfOk result (λ adopted. adopted ≡ mounted) → LeavesOnly moment_of left_since disk (disk_in mounted.journal) (ImageOrHeader (told disk) (image disk))
+    → IfOk result (λ adopted. adopted ≡ mounted) → LeavesOnly moment_of left_since disk (disk_in mounted.journal) (ImageOrSame (told disk) (image disk))
     → IfOk result (λ adopted. LeavesHanded told image moment_of left_since content (disk_in adopted.journal))
 was_handed {D} told image moment_of left_since disk mounted (Ok adopted) content first content_is same leaves =
     subst (λ (m : Mounted D). LeavesHanded told image moment_of left_since content (disk_in m.journal)) (sym same)

@@ -4,7 +4,7 @@ use Rattle.std.specs.Vec.{vec_capacity}
 use Rattle.std.specs.List.{range_with_len}
 use Rattle.batch_journal.specs.Frames.{Frame}
 use Rattle.batch_journal.specs.Moments.{LeavesOnly}
-use Rattle.batch_journal.specs.Mounting.{ImageOrHeader}
+use Rattle.batch_journal.specs.Mounting.{ImageOrSame}
 use Rattle.batch_journal.specs.Reading.{IsObjectOf}
 use Rattle.batch_journal.specs.Recovery.{Recovers}
 use Rattle.batch_journal.specs.Refused.{IsForeign, IsDamaged, IsMixed}
@@ -28,13 +28,13 @@ abbrev pub LeavesFile : {S : Type 0} → (S → ℕ → List ℕ → Type 0) →
 LeavesFile left_since content disk = (c : List ℕ) → left_since disk (next_count 0) c → content ≡ Some c
 
 -- A disk that isn't mounted: what a crash leaves of it, at any moment since it was handed out with a file of this content, is what one might
--- have left of it then, or, where its header wasn't finished, a file without frames.
+-- have left of it then, or, where its file wasn't as a mounting leaves it, one that recovers to the same.
 pub record LeavesHanded {S : Type 0} (told : S → Option (List ℕ)) (image : S → List ℕ → Type 0) (moment_of : S → ℕ) (left_since : S → ℕ → List ℕ → Type 0)
     (content : Option (List ℕ)) (disk : S) : Type 0 where
   pub handed : S
   pub first : moment_of handed ≡ 0
   pub content_is : told handed ≡ content
-  pub leaves : LeavesOnly moment_of left_since handed disk (ImageOrHeader (told handed) (image handed))
+  pub leaves : LeavesOnly moment_of left_since handed disk (ImageOrSame (told handed) (image handed))
 
 -- The file names this object.
 pub record NamesObject (file : List ℕ) (object : List ℕ × List ℕ) : Type 0 where

@@ -3,7 +3,7 @@ use Rattle.std.specs.Prelude.{◌≡◌, ℕ, List, [], ◌++◌, Option}
 use Rattle.do_disk.specs.Disk.{IfTold, next_count}
 use Rattle.do_tree.specs.Tree.{Script}
 use Rattle.lane.specs.Lanes.{Both, sent_on, StartsWith}
-use Rattle.batch_journal.specs.Frames.{Frame, batches_in}
+use Rattle.batch_journal.specs.Frames.{Frame, AreOfJournal, batches_in}
 use Rattle.batch_journal.specs.Laws.{end_after}
 use Rattle.batch_journal.specs.Reading.{IsObjectOf}
 use Rattle.batch_journal.specs.Recovery.{Recovers}
@@ -14,10 +14,11 @@ use Rattle.object_core.specs.One.{IsOne, Origin}
 use Rattle.object_core.specs.declared.object.Core.{Core}
 use Rattle.host_core.specs.Acting.{HasSettled}
 
--- An object runs from the frames that its slot's file, of this content, recovered to, and which name this object, since the first call of
+-- An object runs from the frames of a journal that its slot's file, of this content, recovered to, and which name this object, since the first call of
 -- its disk; its journal may have so many bytes, and ended behind these frames.
 pub record IsBegun (limit : ℕ) (content : Option (List ℕ)) (named : Option Object) (origin : Origin) : Type 0 where
   pub frames : List Frame
+  pub stand : AreOfJournal frames
   pub recovered : IfTold content (λ c. Recovers c frames)
   pub names : IsObjectOf named frames
   pub start : origin.start ≡ batches_in frames

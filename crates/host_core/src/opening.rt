@@ -2,7 +2,7 @@
 ghost use Rattle.std.specs.Prelude.{◌≡◌, ◌≢◌, ◌<◌, ◌≤◌, ◌+◌, ◌++◌, ◌∷◌, [], ℕ, List, Option, Ok, Err, IfOk, IfErr, OnOk, OnErr, Some, None, length, replicate, string_bytes, vec_len};
 ghost use Rattle.std.specs.Option.{option_copied};
 ghost use Rattle.std.specs.Vec.{vec_capacity};
-ghost use Rattle.batch_journal.specs.Mounting.{ImageOrHeader, IsMountOf, disk_left};
+ghost use Rattle.batch_journal.specs.Mounting.{ImageOrSame, IsMountOf, disk_left};
 ghost use Rattle.batch_journal.specs.Moments.{LeavesOnly, TellsAsBefore};
 ghost use Rattle.batch_journal.specs.Rest.{IsStaged, disk_in, limit_of};
 ghost use Rattle.do_disk.specs.Asks.{for_slot};
@@ -181,7 +181,7 @@ fn mount<D: Disk + Drop>(
     ensures staged { IfOk result (λ mounted. (object : Object) → IsStaged mounted.journal object []) }
     ensures limited { IfOk result (λ mounted. limit_of mounted.journal ≡ limit) }
     ensures telling { IfOk result (λ mounted. TellsAsBefore (D.told disk) (D.told (disk_in mounted.journal))) }
-    ensures left { IfOk result (λ mounted. LeavesOnly D.moment_of D.left_since disk (disk_in mounted.journal) (ImageOrHeader (D.told disk) (D.image disk))) }
+    ensures left { IfOk result (λ mounted. LeavesOnly D.moment_of D.left_since disk (disk_in mounted.journal) (ImageOrSame (D.told disk) (D.image disk))) }
     ensures none_left { OnOk result (unopened.new ≡ None) }
     ensures stop { IfErr result (λ end. (contents : ℕ → Option (List ℕ)) (named : Slots) (before after : ℕ) → D.told disk ≡ contents slot
         → StopsOpening D.told D.image D.moment_of D.left_since D.faults_of contents named slot before after unopened.new end) }

@@ -49,8 +49,8 @@ fn no_files(alloc: Global) -> Result<Vec<Vec<u8>>, Fail> {
     Ok(files)
 }
 
-/// `file HEX SLOT CHANGE` makes the slot's file, `empty` makes all empty, `run WORDS GIVEN` runs over them, and `crash PICK` or `keep PICK`
-/// makes them what a crash after that run leaves. Slot 0's file is told in hexadecimal behind `crash`.
+/// `file HEX SLOT CHANGE` makes the slot's file, `change SLOT CHANGE` changes it, `empty` makes all empty, `run WORDS GIVEN` runs over them, and
+/// `crash PICK` or `keep PICK` makes them what a crash after that run leaves. Slot 0's file is told in hexadecimal behind `crash`.
 pub(crate) fn answer<T: Threads + Wait + Copy + Send + Sync>(
     rt: &T,
     alloc: Global,
@@ -61,6 +61,7 @@ pub(crate) fn answer<T: Threads + Wait + Copy + Send + Sync>(
     match word(row, 0) {
         "empty" => runs.files = no_files(alloc)?,
         "file" => set_file(alloc, runs, row)?,
+        "change" => change_file(runs, row),
         "keep" => {
             crash(alloc, runs, row)?;
             line.say("kept");
@@ -86,7 +87,17 @@ fn set_file(alloc: Global, runs: &mut Runs, row: &Json) -> Result<(), Fail> {
     Ok(())
 }
 
-// `{"cut": n}` leaves the first n bytes, `{"turn": p}` turns the lowest bit of the byte at p, and `{"open": p}` makes that byte A5.
+fn change_file(runs: &mut Runs, row: &Json) {
+    let Some(change) = row.get(2) else {
+        return;
+    };
+    if let Some(file) = runs.files.get_mut(count(row, 1) as usize) {
+        change_bytes(file, change);
+    }
+}
+
+// `{"cut": n}` leaves the first n bytes, `{"turn": p}` turns the lowest bit of the byte at p, `{"open": p}` makes that byte A5, and
+// `{"at": p, "byte": b}` makes it b.
 fn change_bytes(bytes: &mut Vec<u8>, change: &Json) {
     if let Some(left) = number_of(change, "cut") {
         bytes.truncate(left as usize);
@@ -99,6 +110,11 @@ fn change_bytes(bytes: &mut Vec<u8>, change: &Json) {
     if let Some(at) = number_of(change, "open") {
         if let Some(byte) = bytes.get_mut(at as usize) {
             *byte = 0xa5;
+        }
+    }
+    if let Some(at) = number_of(change, "at") {
+        if let Some(byte) = bytes.get_mut(at as usize) {
+            *byte = u8::try_from(number_of(change, "byte").unwrap_or(0)).unwrap_or(0);
         }
     }
 }

@@ -14,7 +14,7 @@ use Rattle.line_server.specs.contracts.line.Line as Line
 use Rattle.line_server.proofs.refusal.Refusal.TheSendSync as refusal
 use Rattle.line_server.proofs.lines.Lines.TheSendSync as lines
 use Rattle.host_workers.specs.contracts.lines_cell.LinesCell as LinesCell
-use Rattle.host_workers.proofs.Sent.{sends_sent}
+use Rattle.host_workers.proofs.Sent.{boxed_sent, sends_sent}
 
 ruleset parts = (tt, sendable, crosses, as_row_send, plain_send)
 
@@ -29,7 +29,7 @@ line_send = declared_send Line.the_type (search (parts, request_send, refusal.th
 
 pub lines_cell_send : (R T : RattleType) → IsSend R → IsSend T → IsSend (LinesCell.the_row R T)
 lines_cell_send R T r t = declared_send (LinesCell.the_type R T) (
-  search (parts, lines.the_send, r) depth 20 fits 4000,
+  boxed_sent _ (lines.the_send R r),
   (
     sends_sent Line.the_row T line_send t,
     (

@@ -17,7 +17,7 @@ use Rattle.mailbox.proofs.state.State.TheSendSync as state
 use Rattle.mailbox.specs.contracts.switch_log.SwitchLog as SwitchLog
 use Rattle.mailbox.specs.contracts.switch.Switch as Switch
 use Rattle.host_workers.specs.contracts.switch_cell.SwitchCell as SwitchCell
-use Rattle.host_workers.proofs.Sent.{sends_sent, takes_sent}
+use Rattle.host_workers.proofs.Sent.{boxed_sent, sends_sent, takes_sent}
 use Rattle.host_workers.proofs.SentLines.{value_send, line_send}
 use Rattle.host_workers.proofs.SentTree.{checked_sync}
 
@@ -37,7 +37,7 @@ switch_send W w = declared_send (Switch.the_type W) (search (parts, w, state.the
 -- ---- the cell
 pub switch_cell_send : (s : NamedLft) (W T : RattleType) → IsSend W → IsSend T → IsSend (SwitchCell.the_row s W T)
 switch_cell_send s W T w t = declared_send (SwitchCell.the_type s W T) (
-  search (parts, switch_send, w) depth 20 fits 4000,
+  boxed_sent _ (switch_send W w),
   (
     search (parts, message_send) depth 20 fits 4000,
     (

@@ -14,6 +14,7 @@ ghost use Rattle.output_gate.specs.Serving.{alarm_of};
 ghost use Rattle.object_core.specs.Limited.{extent_of};
 ghost use Rattle.host_workers.specs.Backs.{CanStep, IsBackCell, IsCellAlone, IsFresh, KeepsBackCell, KeepsCellAlone, SameLanes};
 
+use crate::boxed::Boxed;
 use do_disk::Disk;
 use do_value::Mem;
 use lane::{SendEnd, TakeEnd};
@@ -25,7 +26,7 @@ use timeline::{Body, Entry, Message, Notice, Stepped};
 /// The back of an object, with the end from which it takes what the front says, the one on which it tells the front, and the one on
 /// which its messages leave.
 pub struct BackCell<D, T: Wait> {
-    pub(crate) back: Back<D>,
+    pub(crate) back: Boxed<Back<D>>,
     pub(crate) line: TakeEnd<Entry, T>,
     pub(crate) notices: SendEnd<Notice, T>,
     pub(crate) out: SendEnd<Message, T>,
@@ -50,7 +51,7 @@ impl<D: Drop, T: Wait + Drop> Drop for BackCell<D, T> {
 impl<D: Disk, T: Wait + Copy> BackCell<D, T> {
     /// The back of a slot that was just mounted, through whose lanes nothing went. It takes no memory.
     pub fn new(
-        back: Back<D>,
+        back: Boxed<Back<D>>,
         line: TakeEnd<Entry, T>,
         notices: SendEnd<Notice, T>,
         out: SendEnd<Message, T>,
@@ -73,8 +74,8 @@ impl<D: Disk, T: Wait + Copy> BackCell<D, T> {
         }
     }
 
-    /// Takes the next entry of the line. After `NoMemory` the back is stopped: each further step but `flush` answers `NoMemory` and
-    /// does nothing.
+    /// Takes the next entry of the line. After `NoMemory` the back is stopped, and does as a stopped
+    /// one does (`Back`).
     pub fn take(&mut self) -> Mem<Stepped>
         requires { CanStep D.moment_of D.left_since D.told D.image D.faults_of self.old }
         ensures nothing { result ≡ Ok Nothing → (self.new ≡ self.old)
@@ -86,7 +87,7 @@ impl<D: Disk, T: Wait + Copy> BackCell<D, T> {
         ensures cell { KeepsBackCell D.moment_of D.left_since D.told D.image D.faults_of self.old self.new }
         ensures alone { KeepsCellAlone D.moment_of D.left_since D.told D.image D.faults_of self.old self.new }
     {
-        self.back.take(&mut self.line, &mut self.notices)
+        self.back.get_mut().take(&mut self.line, &mut self.notices)
     }
 
     /// Appends all batches that were taken since the last append as one flight. It takes no memory.
@@ -98,7 +99,7 @@ impl<D: Disk, T: Wait + Copy> BackCell<D, T> {
         ensures cell { KeepsBackCell D.moment_of D.left_since D.told D.image D.faults_of self.old self.new }
         ensures alone { KeepsCellAlone D.moment_of D.left_since D.told D.image D.faults_of self.old self.new }
     {
-        self.back.flush()
+        self.back.get_mut().flush()
     }
 
     /// Lets the first go of what is held, where all batches before it are durable. After `NoMemory` the back is stopped.
@@ -112,7 +113,9 @@ impl<D: Disk, T: Wait + Copy> BackCell<D, T> {
         ensures cell { KeepsBackCell D.moment_of D.left_since D.told D.image D.faults_of self.old self.new }
         ensures alone { KeepsCellAlone D.moment_of D.left_since D.told D.image D.faults_of self.old self.new }
     {
-        self.back.release(&mut self.notices, &mut self.out)
+        self.back
+            .get_mut()
+            .release(&mut self.notices, &mut self.out)
     }
 
     /// Mounts the journal again, where an append has failed. After `NoMemory` the back is stopped.
@@ -125,27 +128,27 @@ impl<D: Disk, T: Wait + Copy> BackCell<D, T> {
         ensures cell { KeepsBackCell D.moment_of D.left_since D.told D.image D.faults_of self.old self.new }
         ensures alone { KeepsCellAlone D.moment_of D.left_since D.told D.image D.faults_of self.old self.new }
     {
-        self.back.mend(alloc, &mut self.notices)
+        self.back.get_mut().mend(alloc, &mut self.notices)
     }
 
     // Whether batches wait for a flush.
     pub(crate) fn has_unflushed(&self) -> bool {
-        self.back.has_unflushed()
+        self.back.get().has_unflushed()
     }
 
     // How many entries it has taken.
     pub(crate) fn count_taken(&self) -> usize {
-        self.back.log().taken.len()
+        self.back.get().log().taken.len()
     }
 
     // How many messages it has let go.
     pub(crate) fn count_released(&self) -> usize {
-        self.back.log().released.len()
+        self.back.get().log().released.len()
     }
 
     // Whether it has answered one of the entries behind so many.
     pub(crate) fn has_answered(&self, first: usize) -> bool {
-        let taken = self.back.log().taken.as_slice();
+        let taken = self.back.get().log().taken.as_slice();
         for at in first..taken.len() {
             if let Some(entry) = taken.get(at)
                 && is_answered(&entry.body)
@@ -174,7 +177,7 @@ impl<D: Disk, T: Wait + Copy> BackCell<D, T> {
             notices,
             out,
         } = self;
-        (back, line, notices, out)
+        (back.into_inner(), line, notices, out)
     }
 }
 

@@ -9,6 +9,7 @@ ghost use Rattle.front_half.specs.Turning.{IsQuiet, Turns};
 ghost use Rattle.front_half.specs.declared.turning.Turned.TheVariants.{Ran, Idle};
 ghost use Rattle.host_workers.specs.Fronts.{IsFrontCell, KeepsFrontCell, SameLanes, script_of};
 
+use crate::boxed::Boxed;
 use do_tree::Checked;
 use do_value::Mem;
 use front_history::laws;
@@ -21,7 +22,7 @@ use timeline::{Entry, Event, Notice};
 /// The front of an object, with the script that it runs, the ends from which it takes events and notices, and the one on which it sends
 /// what its script says.
 pub struct FrontCell<'s, T: Wait> {
-    pub(crate) front: Front,
+    pub(crate) front: Boxed<Front>,
     pub(crate) checked: &'s Checked,
     pub(crate) inbox: TakeEnd<Event, T>,
     pub(crate) notices: TakeEnd<Notice, T>,
@@ -48,7 +49,7 @@ impl<'s, T: Wait + Drop> Drop for FrontCell<'s, T> {
 impl<'s, T: Wait + Copy> FrontCell<'s, T> {
     /// The front of a slot that was just mounted, made for this script, through whose lanes nothing went. It takes no memory.
     pub fn new(
-        front: Front,
+        front: Boxed<Front>,
         checked: &'s Checked,
         inbox: TakeEnd<Event, T>,
         notices: TakeEnd<Notice, T>,
@@ -72,7 +73,7 @@ impl<'s, T: Wait + Copy> FrontCell<'s, T> {
     }
 
     /// Takes one notice; else the first deferred event that may be delivered; else one event of the inbox. What the script then says is
-    /// sent on the line. After `NoMemory` the front is stopped: each further turn answers `NoMemory` and does nothing.
+    /// sent on the line. After `NoMemory` the front is stopped, and does as a stopped one does (`Front::turn`).
     pub fn turn(&mut self, alloc: Global) -> Mem<Turned>
         requires { (first : Option ℕ) × (alarm : Option (ℤ × ℕ)) × IsFrontCell first alarm self.old }
         ensures still { result ≡ Ok Idle → self.new ≡ self.old }
@@ -88,7 +89,7 @@ impl<'s, T: Wait + Copy> FrontCell<'s, T> {
         laws::turn_steps();
         front_laws::events_come();
         front_laws::class_comes();
-        self.front.turn(
+        self.front.get_mut().turn(
             alloc,
             self.checked,
             &mut self.inbox,
@@ -116,6 +117,6 @@ impl<'s, T: Wait + Copy> FrontCell<'s, T> {
             notices,
             line,
         } = self;
-        (front, inbox, notices, line)
+        (front.into_inner(), inbox, notices, line)
     }
 }

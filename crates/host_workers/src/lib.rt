@@ -5,6 +5,7 @@
 pub mod apart;
 mod back_cell;
 mod board;
+mod boxed;
 mod cells;
 mod crew;
 mod flow;
@@ -20,6 +21,7 @@ mod switch_cell;
 
 pub use back_cell::BackCell;
 pub use board::Board;
+pub use boxed::Boxed;
 pub use cells::Cells;
 pub use flow::MOST_WAITING_LINES;
 pub use front_cell::FrontCell;

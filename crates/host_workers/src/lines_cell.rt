@@ -5,6 +5,7 @@ ghost use Rattle.line_server.specs.declared.line.Line.{Line as SeenLine};
 ghost use Rattle.timeline.specs.declared.notice.Stepped.TheVariants.{Did, Nothing};
 ghost use Rattle.host_workers.specs.Lines.{IsNumbered, HasCounted, HasRead, IsLinesCell, PassesOn};
 
+use crate::boxed::Boxed;
 use do_disk::Source;
 use do_value::{Mem, NoMemory};
 use lane::{Outlet, SendEnd};
@@ -14,7 +15,7 @@ use timeline::Stepped;
 
 /// The lines of a source, and the end of the lane on which those that were read go to the switch.
 pub struct LinesCell<R, T: Wait> {
-    pub(crate) lines: Lines<R>,
+    pub(crate) lines: Boxed<Lines<R>>,
     pub(crate) send: SendEnd<Line, T>,
     // memory didn't suffice to send a line that was read: nothing is read any more
     pub(crate) stopped: bool,
@@ -35,7 +36,7 @@ impl<R: Drop, T: Wait + Drop> Drop for LinesCell<R, T> {
 
 impl<R: Source, T: Wait + Copy> LinesCell<R, T> {
     /// A reader that has read nothing, on whose lane nothing was sent. It takes no memory.
-    pub fn new(lines: Lines<R>, send: SendEnd<Line, T>) -> LinesCell<R, T>
+    pub fn new(lines: Boxed<Lines<R>>, send: SendEnd<Line, T>) -> LinesCell<R, T>
         requires { send.sent ≡ [] }
         ensures parts { (result.lines ≡ lines) × (result.send ≡ send) }
         ensures cell { (whole : List ℕ) → IsReading R.left whole [] lines → IsLinesCell R.left whole result }
@@ -49,7 +50,7 @@ impl<R: Source, T: Wait + Copy> LinesCell<R, T> {
     }
 
     /// Reads the next line and sends it. `Nothing` comes at the input's end, and after the last line that counts. After a fault
-    /// each further call gives that fault and reads nothing.
+    /// the reader does as one does that has met it (`Lines::next`).
     pub fn read(&mut self) -> Result<Stepped, LineFault>
         ensures cell { (whole : List ℕ) → IsLinesCell R.left whole self.old → IsLinesCell R.left whole self.new }
         ensures did { result ≡ Ok Did → (line : SeenLine) × (self.new.send.sent ≡ self.old.send.sent ++ line ∷ []) }
@@ -64,7 +65,7 @@ impl<R: Source, T: Wait + Copy> LinesCell<R, T> {
         if self.stopped {
             return Err(LineFault::NoMemory);
         }
-        match self.lines.next() {
+        match self.lines.get_mut().next() {
             Ok(Some(line)) => self.pass_on(line),
             Ok(None) => Ok(Stepped::Nothing),
             Err(fault) => Err(fault),
@@ -73,7 +74,7 @@ impl<R: Source, T: Wait + Copy> LinesCell<R, T> {
 
     // Whether the next line is at hand, so that there is nothing to wait for.
     pub(crate) fn is_ready(&self) -> bool {
-        self.lines.is_ready()
+        self.lines.get().is_ready()
     }
 
     // Sends a line that was read. Where memory doesn't suffice, it is lost and nothing is read any more.
@@ -106,7 +107,7 @@ impl<R: Source, T: Wait + Copy> LinesCell<R, T> {
             send,
             stopped: _,
         } = self;
-        (lines, send)
+        (lines.into_inner(), send)
     }
 }
 

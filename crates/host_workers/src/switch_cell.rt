@@ -9,6 +9,7 @@ ghost use Rattle.mailbox.specs.Taken.{AreEmpty};
 ghost use Rattle.mailbox.specs.declared.fault.SwitchFault.{SwitchFault as SeenFault};
 ghost use Rattle.host_workers.specs.Switches.{AcceptsLine, AreUnused, HasPrinted, IsSwitchCell, KeepsPrinted, KeepsSwitchCell, SameLanes, got_of, script_of, told_of};
 
+use crate::boxed::Boxed;
 use do_disk::Sink;
 use do_tree::Checked;
 use lane::{Inlet, SendEnd, TakeEnd};
@@ -20,7 +21,7 @@ use timeline::{Event, Message, Stepped};
 /// The switch, with the script of the run, the end from which it takes lines, and for each slot, by its number, the end from which it takes
 /// what the slot's object lets go and the one on which it posts to it.
 pub struct SwitchCell<'s, W, T: Wait> {
-    pub(crate) switch: Switch<W>,
+    pub(crate) switch: Boxed<Switch<W>>,
     // a message that was taken from the lane of this slot and wasn't fit to be routed: from then on none is taken
     pub(crate) kept: Option<(u32, Message)>,
     pub(crate) checked: &'s Checked,
@@ -61,7 +62,7 @@ impl<'s, W: Drop, T: Wait + Drop> Drop for SwitchCell<'s, W, T> {
 impl<'s, W: Sink, T: Wait + Copy> SwitchCell<'s, W, T> {
     /// A switch that has done nothing, made for this script, with two ends for each slot, through whose lanes nothing went. It takes no memory.
     pub fn new(
-        switch: Switch<W>,
+        switch: Boxed<Switch<W>>,
         checked: &'s Checked,
         lines: TakeEnd<Line, T>,
         outs: Vec<TakeEnd<Message, T>>,
@@ -96,7 +97,7 @@ impl<'s, W: Sink, T: Wait + Copy> SwitchCell<'s, W, T> {
         ensures printed { KeepsPrinted W.taken W.faults_of self.old.switch self.new.switch }
         ensures fault { fault_of self.new.switch ≡ fault_in result }
     {
-        if let Some(fault) = self.switch.fault() {
+        if let Some(fault) = self.switch.get().fault() {
             return Err(fault);
         }
         match self.lines.take() {
@@ -116,7 +117,11 @@ impl<'s, W: Sink, T: Wait + Copy> SwitchCell<'s, W, T> {
         ensures printed { KeepsPrinted W.taken W.faults_of self.old.switch self.new.switch }
         ensures fault { fault_of self.new.switch ≡ fault_in result }
     {
-        match self.switch.accept(self.checked, line, &mut self.inboxes) {
+        match self
+            .switch
+            .get_mut()
+            .accept(self.checked, line, &mut self.inboxes)
+        {
             Ok(()) => Ok(Stepped::Did),
             Err(fault) => Err(fault),
         }
@@ -134,7 +139,7 @@ impl<'s, W: Sink, T: Wait + Copy> SwitchCell<'s, W, T> {
         ensures printed { KeepsPrinted W.taken W.faults_of self.old.switch self.new.switch }
         ensures fault { fault_of self.new.switch ≡ fault_in result }
     {
-        match self.switch.fault() {
+        match self.switch.get().fault() {
             Some(fault) => Err(fault),
             None if self.kept.is_some() => Ok(Stepped::Nothing),
             None => self.route_next(),
@@ -155,6 +160,7 @@ impl<'s, W: Sink, T: Wait + Copy> SwitchCell<'s, W, T> {
     {
         match self
             .switch
+            .get_mut()
             .route_fit(self.checked, &mut self.outs, &mut self.inboxes)
         {
             Ok(Routed::Did) => Ok(Stepped::Did),
@@ -169,12 +175,12 @@ impl<'s, W: Sink, T: Wait + Copy> SwitchCell<'s, W, T> {
 
     // All posts that the switch has made, in order, each with the slot that it went to.
     pub(crate) fn posts(&self) -> &[(u32, Event)] {
-        self.switch.log().posts.as_slice()
+        self.switch.get().log().posts.as_slice()
     }
 
     // How many lines it has accepted.
     pub(crate) fn count_accepted(&self) -> usize {
-        self.switch.log().accepted.len()
+        self.switch.get().log().accepted.len()
     }
 
     /// Its parts. It takes no memory.
@@ -191,7 +197,7 @@ impl<'s, W: Sink, T: Wait + Copy> SwitchCell<'s, W, T> {
             inboxes,
         } = self;
         SwitchParts {
-            switch,
+            switch: switch.into_inner(),
             kept,
             lines,
             outs,

@@ -22,9 +22,9 @@ use Rattle.storage_cache.specs.declared.held.Look.{Look}
 use Rattle.storage_cache.specs.declared.held.Look.TheVariants as found
 use Rattle.storage_cache.proofs.Entries.{IsEntry, each_behind, listed_entries, picked_entries}
 use Rattle.storage_cache.proofs.Standing.{given_stands}
-use Rattle.batch_journal.specs.Frames.{Frame, journal_bytes}
+use Rattle.batch_journal.specs.Frames.{Frame}
 use Rattle.batch_journal.specs.Places.{IsPlaceIn}
-use Rattle.batch_journal.proofs.Parts.{one_value}
+use Rattle.batch_journal.proofs.ReadPlaces.{one_value_in}
 use Rattle.object_storage.specs.Stored.{HasSome}
 use Rattle.object_storage.specs.Reads.{keys_of, CanBeRead, AllCanBeRead, IsReadOf, AreReadOf, AreAsked, moment_after, moment_behind}
 
@@ -86,7 +86,7 @@ read_is frames cache m stand (h ∷ hs) (p ∷ ps) (r ∷ rs) each given read =
   where
     one : (key : List ℕ) (value other : Value) (held : Held) → get m.values key ≡ Some value → IsGiven cache key value held → IsReadOf frames held other → other ≡ value
     one key value other (Given v) is given read = read ∙ given
-    one key value other (At place) is given read = one_value (journal_bytes frames) place other value read (stand key place value given.0 given.1 is)
+    one key value other (At place) is given read = one_value_in frames place other value read (stand key place value given.0 given.1 is)
 
 own_pair : (values : Values) (key : List ℕ) → AllByRecursion (IsEntry values) (pair_at key (get values key))
 own_pair values key = found_as (get values key) refl

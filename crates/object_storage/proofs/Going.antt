@@ -12,7 +12,7 @@ use Rattle.storage_cache.proofs.Standing.{cache_of_index, flushed_index, agrees_
 use Rattle.batch_journal.specs.Frames.{Frame, journal_bytes, operations_in}
 use Rattle.batch_journal.specs.Staged.{frame_of}
 use Rattle.batch_journal.specs.Places.{IsPlaceIn, Indexes, ArePlaced}
-use Rattle.batch_journal.proofs.Parts.{one_value}
+use Rattle.batch_journal.proofs.ReadPlaces.{one_value_in}
 use Rattle.batch_journal.proofs.Held.{place_grows}
 use Rattle.object_storage.specs.Stored.{with_staged, HasStored, HasKept}
 
@@ -84,4 +84,4 @@ stored_same frames object staged old new m index unflushed is = record {
 
 -- the map agrees with what is kept
 pub agrees : (frames : List Frame) (object : Object) (staged : List (List Op)) (cache : Cached) (m : Contents) → HasStored frames object staged cache m → HasKept frames cache → AgreesWith cache m
-agrees frames object staged cache m is keeps = agrees_on (IsPlaceIn frames) (one_value (journal_bytes frames)) cache m is.cache_of is.flushed keeps
+agrees frames object staged cache m is keeps = agrees_on (IsPlaceIn frames) (one_value_in frames) cache m is.cache_of is.flushed keeps

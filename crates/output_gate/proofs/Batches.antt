@@ -5,6 +5,7 @@ use Rattle.std.proofs.lemmas.List.{take_more, take-append-drop}
 use Rattle.std.proofs.Math.Seq.{take-length}
 use Rattle.std.specs.List.{flat_map}
 use Rattle.batch_codec.proofs.Sizes.{length-payload}
+use Rattle.batch_codec.specs.Frames as codec
 use Rattle.batch_journal.specs.Frames.{payload}
 use Rattle.batch_journal.specs.Staged.{frame_of}
 use Rattle.storage_map.proofs.Sizes.{length-batch_bytes, length-object_bytes}
@@ -26,7 +27,7 @@ bytes_within ops k =
     omega (arith, ap bytes (take-append-drop k ops), ap length (flat_map-append op_bytes (take k ops) (drop k ops)), length-append (flat_map op_bytes (take k ops)) (flat_map op_bytes (drop k ops)))
 
 -- the sum so far fits a word
-pub size_fits : (ops : List Op) (size k n : ℕ) (x : Op) → IsBatch ops → k < length ops → size ≡ 4 + bytes (take k ops) → n ≡ length (op_bytes (get_or ops k x)) → size + n ≤ 1048576
+pub size_fits : (ops : List Op) (size k n : ℕ) (x : Op) → IsBatch ops → k < length ops → size ≡ 4 + bytes (take k ops) → n ≡ length (op_bytes (get_or ops k x)) → size + n ≤ 4194304
 size_fits ops size k n x batch less is one = omega (arith, is, one, bytes_more ops k x less, bytes_within ops (k + 1), length-batch_bytes ops, batch.fits)
 
 pub size_all : (ops : List Op) (size k : ℕ) → k ≡ length ops → size ≡ 4 + bytes (take k ops) → size ≡ length (batch_bytes ops)
@@ -38,7 +39,7 @@ pub fits_frame : (object : Object) (batches : List (List Op)) (ops : List Op) �
 fits_frame object batches ops is_object batch few =
     omega (
       arith,
-      length-payload (frame_of object (batches ++ ops ∷ [])),
+      length-payload (codec.frame_of object (batches ++ ops ∷ [])),
       length-object_bytes object,
       ap length (flat_map-append batch_bytes batches (ops ∷ [])),
       length-append (flat_map batch_bytes batches) (batch_bytes ops ++ []),

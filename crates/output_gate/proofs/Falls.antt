@@ -1,10 +1,10 @@
 -- Over a disk that tells its content a mounting fails only where the disk's count of faults rises.
 use Rattle.std.proofs.Common.{◌≡◌, ◌∙◌, ap, sym, subst, inl, inr, ⊎_elim, ℕ, ◌≤◌, List, [], ◌∷◌, ◌++◌, Option, Some}
 use Rattle.std.specs.Prelude.{◌⊎◌}
-use Rattle.std.proofs.lemmas.List.Elements.{All-head, All-push}
+use Rattle.std.proofs.lemmas.List.Elements.{All-head, All-tail, All-push}
 use Rattle.batch_codec.proofs.ReadPayloads.{one_payload}
 use Rattle.batch_journal.proofs.Verdicts.{one_verdict}
-use Rattle.batch_journal.specs.Frames.{Frame}
+use Rattle.batch_journal.specs.Frames.{Frame, holds, marker, NamesAs}
 use Rattle.batch_journal.specs.Moments.{IsTold}
 use Rattle.batch_journal.specs.Mounting.{IsMountOf}
 use Rattle.batch_journal.specs.Reading.{IsObjectOf}
@@ -26,6 +26,7 @@ use Rattle.output_gate.specs.declared.back.Mode.{Mode}
 use Rattle.output_gate.specs.declared.back.Mode.TheVariants.{Mounted as IsMountedMode, Wanted}
 use Rattle.output_gate.proofs.Mends.{found_one}
 use Rattle.output_gate.proofs.Remounts.{known}
+use Rattle.output_gate.proofs.Resting.{journal_recovers}
 use Rattle.output_gate.proofs.Stored.{same_disk}
 
 abbrev is_recovered : Verdict → Type 0
@@ -41,7 +42,8 @@ not_refused c frames recovers (inr (inr mixed)) = subst is_recovered (one_verdic
 -- frames that name the slot's object alone are of a journal that may be its own
 own_named : (found identity : Option Object) (frames : List Frame) → IsObjectOf found frames → NameOnly identity frames → is_own_object found identity
 own_named found identity [] is named = inr is
-own_named found identity (f ∷ frames) is named = inl (is.0 ∙ sym (All-head (λ (x : Frame). identity ≡ Some x.object) f frames named))
+own_named found identity (holds f ∷ frames) is named = inl (is.0 ∙ sym (All-head (NamesAs identity) (holds f) frames named))
+own_named found identity (marker ∷ frames) is named = own_named found identity frames is (All-tail (NamesAs identity) marker frames named)
 
 abbrev is_wanted_mode : Mode → Type 0
 is_wanted_mode (Wanted ending) = Unit {0}
@@ -77,7 +79,8 @@ module _ {D : Type 0} (moment_of : D → ℕ) (left_since : D → ℕ → List �
   refused_rises old disk left ending wanted at why u tells =
       let k = known moment_of left_since told image faults_of reads_an_image counts_now start opening old disk ending wanted at u in
       let e : IsEnded moment_of left_since image start opening disk ending old = k.1 tells in
-      let no : IsRefusedFile tells.0 → ⊥ = λ refused. ⊎_elim (λ one. not_refused tells.0 e.frames one refused) (λ more. not_refused tells.0 (e.frames ++ e.flight ∷ []) more refused)
+      let no : IsRefusedFile tells.0 → ⊥ = λ refused. ⊎_elim (λ one. not_refused tells.0 e.frames (journal_recovers tells.0 e.frames one) refused)
+      (λ more. not_refused tells.0 (e.frames ++ holds e.flight ∷ []) (journal_recovers tells.0 (e.frames ++ holds e.flight ∷ []) more) refused)
       (e.outcomes tells.0 (reads_an_image disk tells.0 tells.1)) in
       ⊎_elim (λ (rose : HasRisen (faults_of disk) (faults_of left)). rose) (λ refused. absurd (no (refused tells.0 tells.1))) why
 
@@ -96,7 +99,7 @@ module _ {D : Type 0} (moment_of : D → ℕ) (left_since : D → ℕ → List �
       let e : IsEnded moment_of left_since image start opening disk ending old = k.1 tells in
       let names : List Frame → Type 0 = λ frames. NameOnly old.identity frames in
       let named : NameOnly old.identity is.frames = ⊎_elim (λ same. subst names (sym same) e.named)
-      (λ same. subst names (sym same) (All-push (λ (f : Frame). old.identity ≡ Some f.object) e.frames e.flight e.named e.object))
+      (λ same. subst names (sym same) (All-push (NamesAs old.identity) e.frames (holds e.flight) e.named e.object))
       (found_one moment_of left_since told image reads_an_image start opening disk ending old e tells.0 is.frames tells.1 is.recovers) in
       absurd (other (own_named mounted.identity old.identity is.frames is.object named))
 

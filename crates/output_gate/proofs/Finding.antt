@@ -1,10 +1,8 @@
 -- Where a mounting behind an end finds the end of the journal.
 use Rattle.std.proofs.Common.{◌≡◌, ◌∙◌, ap, sym, subst, inl, inr, ⊎_elim, ℕ, ◌+◌, ◌≤◌, List, [], ◌∷◌, ◌++◌, length, sum, arith, Option, Some}
-use Rattle.std.proofs.lemmas.List.Elements.{All-head, All-tail}
 use Rattle.std.specs.Prelude.{Bool, false, if◌then◌else◌}
-use Rattle.std.specs.List.{All}
-use Rattle.batch_journal.proofs.Journals.{length-journal_push}
-use Rattle.batch_journal.specs.Frames.{Frame, IsFrame, journal_bytes}
+use Rattle.batch_journal.proofs.Journals.{last_some, length-journal_push}
+use Rattle.batch_journal.specs.Frames.{Frame, holds, AllMayStand, journal_bytes}
 use Rattle.batch_journal.specs.Moments.{IsTold, TellsAsBefore}
 use Rattle.batch_journal.specs.Mounting.{IsMountOf}
 use Rattle.batch_journal.specs.Rest.{disk_in, end_of}
@@ -33,10 +31,6 @@ use Rattle.output_gate.proofs.Mends.{found_one}
 use Rattle.output_gate.proofs.Remounts.{known}
 use Rattle.output_gate.proofs.Steps.{ending_in, told_before}
 use Rattle.output_gate.proofs.Stored.{same_journal}
-
-all_last : (P : Frame → Type 0) (xs : List Frame) (y : Frame) → All P (xs ++ y ∷ []) → P y
-all_last P [] y all = All-head P y [] all
-all_last P (x ∷ xs) y all = all_last P xs y (All-tail P x (xs ++ y ∷ []) all)
 
 -- nothing was mounted
 pub still_finds : {D : Type 0} (told : D → Option (List ℕ)) (old new : Back D) → new.mode ≡ old.mode → FindsEnd told old new
@@ -92,9 +86,9 @@ module _ {D : Type 0} (moment_of : D → ℕ) (left_since : D → ℕ → List �
       (λ found. inr (
         s.flight,
         record {
-          end_is = omega (arith, ends, was, ap (λ (fs : List Frame). length (journal_bytes fs)) found, length-journal_push s.frames s.flight);
+          end_is = omega (arith, ends, was, ap (λ (fs : List Frame). length (journal_bytes fs)) found, length-journal_push s.frames (holds s.flight));
           object = s.object;
-          some = (all_last IsFrame s.frames s.flight (subst (λ (fs : List Frame). All IsFrame fs) found is.at_rest.of_grammar.each)).some;
+          some = last_some mounted.journal.version s.frames s.flight (subst (λ (fs : List Frame). AllMayStand mounted.journal.version fs) found is.at_rest.of_grammar.each);
           batches = flight_is disk ending old s (marks_of old) k.2.ended;
         },
       )) (found_one moment_of left_since told image reads_an_image start opening disk ending old s before.0 is.frames before.1 is.recovers)

@@ -2,11 +2,12 @@
 use Rattle.std.proofs.Common.{◌≡◌, ◌≢◌, ◌∙◌, ap, sym, refl, subst, inr, ⊎_elim, ℕ, suc, pred, ◌+◌, ◌-◌, ◌≤◌, List, [], ◌∷◌, ◌++◌, append-nil, append_assoc, length, length-append, sum, arith, Option, Some, None, Ok}
 use Rattle.std.proofs.lemmas.Grind.{flat_map-append}
 use Rattle.std.proofs.lemmas.List.{length_push}
-use Rattle.std.proofs.lemmas.List.Elements.{All-nil, All-push}
+use Rattle.std.proofs.lemmas.List.Elements.{All-nil, All-push, All-weaker}
 use Rattle.std.specs.Prelude.{Bool, true, false, nat_lt}
 use Rattle.output_gate.specs.Ended.{late_if}
 use Rattle.std.specs.List.{flat_map}
-use Rattle.batch_journal.specs.Frames.{Frame, Name, batches_in}
+use Rattle.batch_codec.specs.Frames as codec
+use Rattle.batch_journal.specs.Frames.{Frame, holds, marker, Name, Names, batches_of, batches_in, NamesAs}
 use Rattle.batch_journal.specs.Moments.{LeavesOnly}
 use Rattle.batch_journal.specs.Rest.{IsAtRest, IsStaged, RecoversToOneOf, disk_in}
 use Rattle.batch_journal.specs.Staged.{frame_of}
@@ -41,6 +42,7 @@ use Rattle.output_gate.specs.declared.back.Back.{Back}
 use Rattle.output_gate.proofs.Gates.{calls, flies}
 use Rattle.output_gate.proofs.Histories.{stands, flies as history_flies, stops as history_stops, flies_fit, stops_fit}
 use Rattle.output_gate.proofs.Downs.{fails}
+use Rattle.output_gate.proofs.Resting.{journal_recovers, rests}
 use Rattle.output_gate.proofs.Kept.{first_of, fewer}
 
 pub front_none : Fronted
@@ -59,8 +61,12 @@ abbrev named : Option Object → Object → Object
 named None other = other
 named (Some object) other = object
 
+names_it : (object : Object) (identity : Option Object) → identity ≡ Some object → (frame : Frame) → NamesAs identity frame → Names object frame
+names_it object identity is (holds frame) name = ap (λ (o : Option Object). named o object) (sym name ∙ is)
+names_it object identity is marker name = tt
+
 pub name_all : (object : Object) (frames : List Frame) (identity : Option Object) → identity ≡ Some object → NameOnly identity frames → Name object frames
-name_all object frames identity is names k d lt = ap (λ (o : Option Object). named o object) (sym (names k d lt) ∙ is)
+name_all object frames identity is names = All-weaker (NamesAs identity) (Names object) (names_it object identity is) frames names
 
 -- the slot's object
 pub may_be : (identity : Option Object) (object : Object) → identity ≡ Some object → MayBe identity object
@@ -115,13 +121,13 @@ module _ {D : Type 0} (moment_of : D → ℕ) (left_since : D → ℕ → List �
       let g = s.gate front in
       let h : History = history_at front (place_of front (backed back.log)) in
       let frames : List Frame = s.frames ++ flight ∷ [] in
-      let named_all : NameOnly back.identity frames = All-push (λ (f : Frame). back.identity ≡ Some f.object) s.frames flight s.named is in
+      let named_all : NameOnly back.identity frames = All-push (NamesAs back.identity) s.frames flight s.named is in
       let batches : batches_in frames ≡ start ++ (s.flown ++ s.staged) =
-      flat_map-append (λ (f : Frame). f.batches) s.frames (flight ∷ []) ∙ ap (λ bs. bs ++ (s.staged ++ [])) s.batches ∙ ap (λ bs. (start ++ s.flown) ++ bs) (append-nil s.staged) ∙ append_assoc start s.flown s.staged in
+      flat_map-append batches_of s.frames (flight ∷ []) ∙ ap (λ bs. bs ++ (s.staged ++ [])) s.batches ∙ ap (λ bs. (start ++ s.flown) ++ bs) (append-nil s.staged) ∙ append_assoc start s.flown s.staged in
       subst (λ (both : List (List Op) × ℕ). RecoversToPrefix back.identity start both.0 both.1 c) (ap (λ bs. (bs, length s.flown)) (sym g.line) ∙ ap (λ n. (line h, n)) g.long)
-      (⊎_elim (λ past. first_of back.identity start s.flown s.staged s.frames c past s.named s.batches)
+      (⊎_elim (λ past. first_of back.identity start s.flown s.staged s.frames c (journal_recovers c s.frames past) s.named s.batches)
       (λ whole. fewer back.identity start (s.flown ++ s.staged) (length s.flown) (length (s.flown ++ s.staged)) c (omega (arith, length-append s.flown s.staged))
-      (subst (λ bs. RecoversToPrefix back.identity start bs (length (s.flown ++ s.staged)) c) (append-nil (s.flown ++ s.staged)) (first_of back.identity start (s.flown ++ s.staged) [] frames c whole named_all batches))) one)
+      (subst (λ bs. RecoversToPrefix back.identity start bs (length (s.flown ++ s.staged)) c) (append-nil (s.flown ++ s.staged)) (first_of back.identity start (s.flown ++ s.staged) [] frames c (journal_recovers c frames whole) named_all batches))) one)
 
   -- the append was good
   pub lands : (old new : Back D) (journal later_journal : Journal D) (cache : Cached) (s : IsServing moment_of left_since told image start opening sound journal old) → old.before ≢ old.durable
@@ -145,9 +151,9 @@ module _ {D : Type 0} (moment_of : D → ℕ) (left_since : D → ℕ → List �
       let same_log : BackLog = old.log in
       let released : new.log.released.items ≡ old.log.released.items = ap (λ (log : BackLog). log.released.items) done.log in
       let frames : List Frame = s.frames ++ flight ∷ [] in
-      let named_all : NameOnly old.identity frames = All-push (λ (f : Frame). old.identity ≡ Some f.object) s.frames flight s.named o.1 in
+      let named_all : NameOnly old.identity frames = All-push (NamesAs old.identity) s.frames flight s.named o.1 in
       let batches : batches_in frames ≡ start ++ (s.flown ++ s.staged) =
-      flat_map-append (λ (f : Frame). f.batches) s.frames (flight ∷ []) ∙ ap (λ bs. bs ++ (s.staged ++ [])) s.batches ∙ ap (λ bs. (start ++ s.flown) ++ bs) (append-nil s.staged) ∙ append_assoc start s.flown s.staged in
+      flat_map-append batches_of s.frames (flight ∷ []) ∙ ap (λ bs. bs ++ (s.staged ++ [])) s.batches ∙ ap (λ bs. (start ++ s.flown) ++ bs) (append-nil s.staged) ∙ append_assoc start s.flown s.staged in
       let leaves = any_moment s.frames object s.staged s.at_rest (s.staged_for object o.1) names in
       let gate : (front : Fronted) → IsGate moment_of left_since old.identity start opening front (place_of front (backed new.log)) (disk_in later_journal)
       (record { released = old.log.released.items; left = s.left; waiting = waiting_in old.held.items; flown = s.flown ++ s.staged; staged = [] }) old.before (old.durable + k) = λ front.
@@ -235,7 +241,7 @@ module _ {D : Type 0} (moment_of : D → ℕ) (left_since : D → ℕ → List �
       bound s.room.own refl in
       let made : IsEnded moment_of left_since image start opening (disk_in later_journal) (ending_of old fault) (stopped old later_journal cache new fault) = record {
         frames = s.frames;
-        flight = flight;
+        flight = codec.frame_of object s.staged;
         ended = suc n;
         taken = [];
         left = s.left;
@@ -258,6 +264,6 @@ module _ {D : Type 0} (moment_of : D → ℕ) (left_since : D → ℕ → List �
         mended = λ wanted. All-nil (λ (h : Held). h.mended ≡ true);
         gone = omega (arith, ap (λ (x : Backed). length x.stops) logs, length_push old.log.stops.items stop, ap (λ (x : Backed). length x.ends) logs, s.room.followed);
         number = omega (arith, s.room.number, ap (λ (x : Backed). length x.stops) logs, length_push old.log.stops.items stop);
-        full = λ needed limit is bytes now. let rest = full needed limit is in inr (rest.file bytes (rest.durable bytes now));
+        full = λ needed limit is. rests told image later_journal s.frames (full needed limit is);
       } in
       subst (IsEnded moment_of left_since image start opening (disk_in later_journal) (ending_of old fault)) (sym done.same) made

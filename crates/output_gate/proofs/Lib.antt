@@ -1,6 +1,7 @@
 pub mod Histories
 pub mod Passing
 pub mod Kept
+pub mod Resting
 pub mod Gates
 pub mod Downs
 pub mod Helds

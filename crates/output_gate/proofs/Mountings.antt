@@ -2,13 +2,13 @@
 use Rattle.std.proofs.Common.{◌≡◌, ◌∙◌, ap, sym, refl, subst, inl, inr, ℕ, suc, ◌+◌, ◌-◌, ◌≤◌, List, [], ◌∷◌, ◌++◌, append-nil, length, length-append, arith, Option, Some}
 use Rattle.std.proofs.lemmas.Bool.{eq-eqb}
 use Rattle.std.proofs.lemmas.List.{length_push}
-use Rattle.std.proofs.lemmas.List.Elements.{All-nil}
+use Rattle.std.proofs.lemmas.List.Elements.{All-nil, All-cons}
 use Rattle.std.specs.Prelude.{◌⊎◌, Bool, true, false, not, ◌==◌, if◌then◌else◌}
 use Rattle.std.specs.List.{flat_map}
 use Rattle.batch_journal.proofs.Held.{all_named}
-use Rattle.batch_journal.specs.Frames.{Frame, journal_bytes, batches_in, operations_in}
+use Rattle.batch_journal.specs.Frames.{Frame, holds, marker, journal_bytes, batches_in, operations_in, NamesAs}
 use Rattle.batch_journal.specs.Moments.{LeavesOnly, TellsAsBefore, IsTold}
-use Rattle.batch_journal.specs.Mounting.{IsMountOf, ImageOrHeader}
+use Rattle.batch_journal.specs.Mounting.{IsMountOf, ImageOrSame}
 use Rattle.batch_journal.specs.Reading.{IsObjectOf}
 use Rattle.batch_journal.specs.Rest.{IsAtRest, IsStaged, disk_in}
 use Rattle.batch_journal.specs.declared.journal.Journal.{Journal}
@@ -59,8 +59,9 @@ use Rattle.output_gate.proofs.Steps.{told_before}
 -- frames of an object that may be the slot's name that
 named_found : (mounted identity : Option Object) (frames : List Frame) → IsObjectOf mounted frames → is_own_object mounted identity → NameOnly identity frames
 named_found mounted identity frames is (inl same) = subst (λ o. NameOnly o frames) same (all_named mounted frames is)
-named_found mounted identity [] is (inr nobody) = All-nil (λ (f : Frame). identity ≡ Some f.object)
-named_found mounted identity (f ∷ frames) is (inr nobody) = absurd (some_none (sym is.0 ∙ nobody))
+named_found mounted identity [] is (inr nobody) = All-nil (NamesAs identity)
+named_found mounted identity (holds f ∷ frames) is (inr nobody) = absurd (some_none (sym is.0 ∙ nobody))
+named_found mounted identity (marker ∷ frames) is (inr nobody) = All-cons (NamesAs identity) marker frames tt (named_found mounted identity frames is (inr nobody))
 
 -- the older incarnations, of which the last is followed
 abbrev kept_head : ℕ → History → History
@@ -187,12 +188,12 @@ module _ {D : Type 0} (moment_of : D → ℕ) (left_since : D → ℕ → List �
       → backed log ≡ record (backed old.log) { ends = old.log.ends.items ++ record { kept = kept; cause = ending.cause } ∷ [] }
       → (is : IsMountOf told image moment_of left_since disk mounted) → is_own_object mounted.identity old.identity
       → ((object : Object) → IsStaged mounted.journal object [])
-      → LeavesOnly moment_of left_since disk (disk_in mounted.journal) (ImageOrHeader (told disk) (image disk)) → (c : List ℕ) → told disk ≡ Some c
+      → LeavesOnly moment_of left_since disk (disk_in mounted.journal) (ImageOrSame (told disk) (image disk)) → (c : List ℕ) → told disk ≡ Some c
       → not (mounted.journal.end == ending.end) ≡ whole → kept ≡ (if whole then ending.whole else ending.flown)
       → IsServing moment_of left_since told image start opening true mounted.journal (begun old log mounted.journal (of_index mounted.index) (old.durable + (kept - ending.flown)))
   serves_begun disk ending old log mounted kept true safe s wanted is_log is own staged leaves c tells test so =
       let one = found_one moment_of left_since told image reads_an_image start opening disk ending old s c is.frames tells is.recovers in
-      let frames : is.frames ≡ s.frames ++ s.flight ∷ [] = more_found s.frames is.frames s.flight mounted.journal.end ending.end one is.at_rest.end s.end test in
+      let frames : is.frames ≡ s.frames ++ holds s.flight ∷ [] = more_found s.frames is.frames (holds s.flight) mounted.journal.end ending.end one is.at_rest.end s.end test in
       let found : List (List Op) = s.flown ++ s.flight.batches in
       let long : length found ≡ old.durable + (kept - ending.flown) = omega (arith, length-append s.flown s.flight.batches, (s.down front_none).long, so, s.is_whole) in
       serves_found disk ending old log (record { kept = kept; cause = ending.cause }) mounted (old.durable + (kept - ending.flown)) is.frames found safe s is_log (omega (arith, so)) is.at_rest is.object own staged is.index
@@ -200,7 +201,7 @@ module _ {D : Type 0} (moment_of : D → ℕ) (left_since : D → ℕ → List �
       (λ front. begins_more moment_of left_since told image reads_an_image start opening disk ending old s front (disk_in mounted.journal) leaves (s.mended wanted) kept (omega (arith, so, s.is_whole, s.is_flown front)))
   serves_begun disk ending old log mounted kept false safe s wanted is_log is own staged leaves c tells test so =
       let one = found_one moment_of left_since told image reads_an_image start opening disk ending old s c is.frames tells is.recovers in
-      let frames : is.frames ≡ s.frames = old_found s.frames is.frames s.flight mounted.journal.end ending.end one is.at_rest.end s.end test in
+      let frames : is.frames ≡ s.frames = old_found s.frames is.frames (holds s.flight) mounted.journal.end ending.end one is.at_rest.end s.end test in
       let long : length s.flown ≡ old.durable + (kept - ending.flown) = omega (arith, (s.down front_none).long, so) in
       serves_found disk ending old log (record { kept = kept; cause = ending.cause }) mounted (old.durable + (kept - ending.flown)) is.frames s.flown safe s is_log (omega (arith, so)) is.at_rest is.object own staged is.index
       (ap batches_in frames ∙ s.batches) long
@@ -220,7 +221,7 @@ module _ {D : Type 0} (moment_of : D → ℕ) (left_since : D → ℕ → List �
       → (IsTold (told disk) → IsEnded moment_of left_since image start opening disk ending old) → old.mode ≡ Wanted ending
       → (is : IsMountOf told image moment_of left_since disk mounted) → is_own_object mounted.identity old.identity
       → ((object : Object) → IsStaged mounted.journal object [])
-      → LeavesOnly moment_of left_since disk (disk_in mounted.journal) (ImageOrHeader (told disk) (image disk))
+      → LeavesOnly moment_of left_since disk (disk_in mounted.journal) (ImageOrSame (told disk) (image disk))
       → TellsAsBefore (told disk) (told (disk_in mounted.journal)) → IsLoggedDown (IsTold (told disk)) (backed old.log) ending (marks_of old) old.durable
       → AreCounted (IsTold (told disk)) (backed old.log) (faults_of disk) → faults_of disk ≤ faults_of (disk_in mounted.journal)
       → Begins old new ending mounted.journal (of_index mounted.index) → IsShut old
@@ -252,9 +253,9 @@ module _ {D : Type 0} (moment_of : D → ℕ) (left_since : D → ℕ → List �
   -- the mounting failed
   pub unmounted_missed : (disk left : D) (ending : Ending) (old new : Back D) (before after : ℕ) → (safe : IsSafeEnded disk ending old)
       → (IsTold (told disk) → IsEnded moment_of left_since image start opening disk ending old)
-      → LeavesOnly moment_of left_since disk left (ImageOrHeader (told disk) (image disk))
+      → LeavesOnly moment_of left_since disk left (ImageOrSame (told disk) (image disk))
       → TellsAsBefore (told disk) (told left)
-      → ((c : List ℕ) → image left c → ImageOrHeader (told disk) (image disk) c)
+      → ((c : List ℕ) → image left c → ImageOrSame (told disk) (image disk) c)
       → IsLoggedDown (IsTold (told disk)) (backed old.log) ending (marks_of old) old.durable
       → AreCounted (IsTold (told disk)) (backed old.log) (faults_of disk) → before ≡ faults_of disk → after ≡ faults_of left → (IsTold (told left) → HasRisen (faults_of disk) (faults_of left))
       → Misses old new ending left before after → IsShut old

@@ -1,7 +1,7 @@
 -- What was known of a slot without an object is known of the object that it gets.
 use Rattle.std.proofs.Common.{◌≡◌, ◌∙◌, sym, refl, subst, inl, inr, ℕ, List, [], ◌∷◌, Option, Some, None}
-use Rattle.std.proofs.lemmas.List.Elements.{All-nil, All-head}
-use Rattle.batch_journal.specs.Frames.{Frame}
+use Rattle.std.proofs.lemmas.List.Elements.{All-nil, All-cons, All-head, All-tail}
+use Rattle.batch_journal.specs.Frames.{Frame, holds, marker, NamesAs}
 use Rattle.storage_map.specs.Limits.{Object}
 use Rattle.storage_map.specs.declared.op.Op.{Op}
 use Rattle.timeline.specs.History.{History, line}
@@ -19,9 +19,10 @@ pub some_none : {object : Object} → Some object ≡ None → ⊥
 some_none same = subst is_there same tt
 
 pub no_frames : (object : Object) (identity : Option Object) (frames : List Frame) → identity ≡ None → NameOnly identity frames → NameOnly (Some object) frames
-no_frames object identity [] nobody named = All-nil (λ (f : Frame). Some object ≡ Some f.object)
-no_frames object identity (f ∷ frames) nobody named =
-    absurd (some_none (sym (All-head (λ (x : Frame). identity ≡ Some x.object) f frames named) ∙ nobody))
+no_frames object identity [] nobody named = All-nil (NamesAs (Some object))
+no_frames object identity (holds f ∷ frames) nobody named = absurd (some_none (sym (All-head (NamesAs identity) (holds f) frames named) ∙ nobody))
+no_frames object identity (marker ∷ frames) nobody named =
+    All-cons (NamesAs (Some object)) marker frames tt (no_frames object identity frames nobody (All-tail (NamesAs identity) marker frames named))
 
 module _ (start : List (List Op)) (object : Object) where
   named_prefix : (of : List (List Op)) (least : ℕ) (c : List ℕ) → RecoversToPrefix None start of least c → RecoversToPrefix (Some object) start of least c

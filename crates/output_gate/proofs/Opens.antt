@@ -1,8 +1,8 @@
 -- A back that begins.
-use Rattle.std.proofs.Common.{◌≡◌, ◌∙◌, ap, sym, refl, subst, inl, ℕ, suc, ◌≤◌, List, [], ◌++◌, append-nil, length, arith, Option, Some, None}
+use Rattle.std.proofs.Common.{◌≡◌, ◌∙◌, ap, sym, refl, subst, inl, ⊎_elim, ℕ, suc, ◌≤◌, List, [], ◌++◌, append-nil, length, arith, Option, Some, None}
 use Rattle.std.proofs.lemmas.List.Elements.{All-nil}
-use Rattle.batch_journal.specs.Frames.{Frame, batches_in, operations_in}
-use Rattle.batch_journal.specs.Recovery.{Recovers}
+use Rattle.batch_journal.specs.Frames.{Frame, batches_in, operations_in, NamesAs}
+use Rattle.batch_journal.specs.Recovery.{RecoversAlike}
 use Rattle.storage_map.specs.Limits.{Object}
 use Rattle.std.proofs.Common.{Global}
 use Rattle.std.specs.declared.collections.VecDeque.{VecDeque}
@@ -57,7 +57,7 @@ abbrev pub no_lists : Lists
 no_lists = record { released = []; left = []; waiting = []; flown = []; staged = [] }
 
 module _ {D : Type 0} (moment_of : D → ℕ) (left_since : D → ℕ → List ℕ → Type 0) (object : Option Object) (frames : List Frame) (opening : ℕ) (front : Fronted) where
-  pub opens : (disk : D) → NameOnly object frames → opening ≤ moment_of disk → ((c : List ℕ) → left_since disk opening c → Recovers c frames)
+  pub opens : (disk : D) → NameOnly object frames → opening ≤ moment_of disk → ((c : List ℕ) → left_since disk opening c → RecoversAlike c frames)
       → IsGate moment_of left_since object (batches_in frames) opening front first_place disk no_lists 0 0
   opens disk named later images = record {
     mounted = refl;
@@ -73,7 +73,12 @@ module _ {D : Type 0} (moment_of : D → ℕ) (left_since : D → ℕ → List �
     line = refl;
     long = refl;
     opened = later;
-    images = λ c left. inl (omega arith, first_of object (batches_in frames) [] [] frames c (images c left) named (sym (append-nil (batches_in frames))));
+    images = λ c left. inl (
+      omega arith,
+      ⊎_elim (λ same. first_of object (batches_in frames) [] [] frames c same named (sym (append-nil (batches_in frames))))
+          (λ alone. first_of object (batches_in frames) [] [] [] c alone.1 (All-nil (NamesAs object)) (sym (ap (λ (fs : List Frame). batches_in fs ++ []) alone.0)))
+          (images c left),
+    );
     released = tt;
   }
 

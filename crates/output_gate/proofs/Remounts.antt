@@ -6,7 +6,7 @@ use Rattle.storage_map.specs.Limits.{Object}
 use Rattle.output_gate.proofs.Reading.{shut_stays}
 use Rattle.std.specs.Prelude.{true}
 use Rattle.batch_journal.specs.Moments.{LeavesOnly, TellsAsBefore, IsTold}
-use Rattle.batch_journal.specs.Mounting.{ImageOrHeader}
+use Rattle.batch_journal.specs.Mounting.{ImageOrSame}
 use Rattle.batch_journal.specs.declared.mount.Mounted.{Mounted}
 use Rattle.storage_map.specs.declared.op.Op.{Op}
 use Rattle.timeline.specs.Logs.{Backed, backed}
@@ -69,11 +69,11 @@ module _ {D : Type 0} (moment_of : D → ℕ) (left_since : D → ℕ → List �
       mounted_begun moment_of left_since told image faults_of reads_an_image start opening disk ending old new mounted k.0 k.1 wanted is.0.2 own is.1 is.2 is.3 k.2 k.3 up
       (subst (λ (c : Cached). Begins old new ending journal c) is.0.1 done) k.4
 
-  images_left : (disk left : D) → LeavesOnly moment_of left_since disk left (ImageOrHeader (told disk) (image disk)) → (c : List ℕ) → image left c → ImageOrHeader (told disk) (image disk) c
+  images_left : (disk left : D) → LeavesOnly moment_of left_since disk left (ImageOrSame (told disk) (image disk)) → (c : List ℕ) → image left c → ImageOrSame (told disk) (image disk) c
   images_left disk left leaves c now = leaves.each c (counts_now left (moment_of disk) c leaves.later now)
 
   pub remount_misses : (old new : Back D) (disk left : D) (ending : Ending) (before after : ℕ) → old.mode ≡ Wanted ending → IsDiskOf old.store disk
-      → LeavesOnly moment_of left_since disk left (ImageOrHeader (told disk) (image disk)) × TellsAsBefore (told disk) (told left) → Misses old new ending left before after
+      → LeavesOnly moment_of left_since disk left (ImageOrSame (told disk) (image disk)) × TellsAsBefore (told disk) (told left) → Misses old new ending left before after
       → before ≡ faults_of disk → after ≡ faults_of left → (IsTold (told disk) → HasRisen (faults_of disk) (faults_of left))
       → IsUnmounted moment_of left_since told image faults_of start opening old → IsUnmounted moment_of left_since told image faults_of start opening new
   remount_misses old new disk left ending before after wanted at is done from into rises u =
@@ -83,7 +83,7 @@ module _ {D : Type 0} (moment_of : D → ℕ) (left_since : D → ℕ → List �
 
   -- memory was wanting, and a mounting is still wanted
   pub remount_fails : (old : Back D) (disk left : D) (ending : Ending) (s : Store D) → s ≡ store.Disk left → old.mode ≡ Wanted ending → IsDiskOf old.store disk
-      → LeavesOnly moment_of left_since disk left (ImageOrHeader (told disk) (image disk)) × TellsAsBefore (told disk) (told left)
+      → LeavesOnly moment_of left_since disk left (ImageOrSame (told disk) (image disk)) × TellsAsBefore (told disk) (told left)
       → faults_of disk ≤ faults_of left
       → IsUnmounted moment_of left_since told image faults_of start opening old → IsUnmounted moment_of left_since told image faults_of start opening (record old { store = s })
   remount_fails old disk left ending s same wanted at is up u =

@@ -3,7 +3,7 @@ use Rattle.std.proofs.Common.{◌≡◌, ◌≢◌, ◌∙◌, ap, sym, refl, su
 use Rattle.std.proofs.lemmas.List.{length_push}
 use Rattle.std.proofs.lemmas.List.Elements.{All-push}
 use Rattle.std.specs.Prelude.{true, false, Bool, is_some, nat_lt}
-use Rattle.batch_journal.specs.Frames.{Frame, Name}
+use Rattle.batch_journal.specs.Frames.{Frame, Name, NamesAs}
 use Rattle.batch_journal.specs.Moments.{TellsAsBefore, IsTold}
 use Rattle.batch_journal.proofs.Journals.{length-journal_push}
 use Rattle.batch_journal.specs.Rest.{IsAtRest, IsStaged, CanAppend, disk_in, end_of}
@@ -155,7 +155,7 @@ module _ {D : Type 0} (told : D → Option (List ℕ)) (image : D → List ℕ �
         frames = s.frames ++ frame_of o.0 s.staged ∷ [];
         staged = [];
         at_rest = appended s.frames o.0 s.staged s.at_rest (s.staged_for o.0 o.1) (name_all o.0 s.frames old.identity o.1 s.named);
-        named = All-push (λ (f : Frame). old.identity ≡ Some f.object) s.frames (frame_of o.0 s.staged) s.named o.1;
+        named = All-push (NamesAs old.identity) s.frames (frame_of o.0 s.staged) s.named o.1;
         unflown = omega arith;
         own = omega arith;
         unflushed = refl;

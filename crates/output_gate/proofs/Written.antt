@@ -4,7 +4,8 @@ use Rattle.std.proofs.lemmas.Bool.{eq-eqb, ne_eqb}
 use Rattle.std.proofs.lemmas.List.Elements.{All-nil}
 use Rattle.std.proofs.lemmas.List.{length-drop, length-take, take_all}
 use Rattle.std.specs.Prelude.{Bool, true, not, ◌||◌, min, if◌then◌else◌, is_some}
-use Rattle.batch_journal.specs.Frames.{Frame, payload}
+use Rattle.batch_codec.specs.Frames as codec
+use Rattle.batch_journal.specs.Frames.{Frame, holds, payload}
 use Rattle.batch_journal.specs.Moments.{IsTold}
 use Rattle.batch_journal.specs.Rest.{disk_in, end_of, limit_of, needed}
 use Rattle.batch_journal.specs.Staged.{frame_of}
@@ -520,23 +521,23 @@ module _ {D : Type 0} (moment_of : D → ℕ) (left_since : D → ℕ → List �
               begins_with (same ∙ old_end ∙ ap (end_with end) (sym frames))
 
           -- or with the flight that failed
-          begins_more : (flight : Frame) → IsFoundWith old ending (end_of begun.journal) flight → IsWritten limit end new front object
+          begins_more : (flight : codec.Frame) → IsFoundWith old ending (end_of begun.journal) flight → IsWritten limit end new front object
           begins_more flight with =
               let all_of : flight.batches ≡ unflown last = with.batches front ∙ ap (λ (p : Place). unflown_in p.older) (ended.place front) in
               let one : flight.object ≡ object = subst (λ (o : Option Object). MayBe o object) with.object may in
-              let flight_is : frame_of object (unflown last) ≡ flight =
+              let flight_is : frame_of object (unflown last) ≡ holds flight =
               ap (λ (o : Object). frame_of o (unflown last)) (sym one) ∙ ap (λ bs. frame_of flight.object bs) (sym all_of) in
               let other : end_of begun.journal ≡ ending.end → ⊥ = λ same. omega (arith, same, with.end_is) in
               let kept_is : kept_now ≡ ending.whole = ap (λ (b : Bool). if not b then ending.whole else ending.flown) (ne_eqb (end_of begun.journal) ending.end other) in
               let less : sum last.flights < how.ended.stop.batches =
               some_less (sum last.flights) how.ended.stop.batches (batches_in last.taken) (λ none. with.some (all_of ∙ rest_is ∙ none)) in
-              let frames : frames_in object (going front (backed new.log)) ≡ frames_in object (going front (backed old.log)) ++ flight ∷ [] =
+              let frames : frames_in object (going front (backed new.log)) ≡ frames_in object (going front (backed old.log)) ++ holds flight ∷ [] =
               ap (λ (p : Place). frames_in object (history_at front p)) at
               ∙ followed_more limit end object front ended.ended ended.taken last rest kept_now filled (omega (arith, kept_is, whole_is, less)) (ended.down front).unfollowed
               ∙ ap (λ fs. fs ++ frame_of object (unflown last) ∷ []) old_place
               ∙ ap (λ (f : Frame). frames_in object (going front (backed old.log)) ++ f ∷ []) flight_is in
               begins_with
-              (omega (arith, with.end_is, old_end, end_push end (frames_in object (going front (backed old.log))) flight, ap (end_with end) frames))
+              (omega (arith, with.end_is, old_end, end_push end (frames_in object (going front (backed old.log))) (holds flight), ap (end_with end) frames))
 
         begins_so : FindsEnd told old new → IsTold (told (disk_in begun.journal)) → AreWritten limit end new
         begins_so finds now front object may =

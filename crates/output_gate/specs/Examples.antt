@@ -1,5 +1,5 @@
 -- Logs that no back has, for the examples.
-use Rattle.std.specs.Prelude.{ℕ, true, false, List, [], ◌∷◌, Option, None}
+use Rattle.std.specs.Prelude.{ℕ, ◌+◌, ◌≤◌, true, false, List, [], ◌∷◌, Option, None}
 use Rattle.batch_journal.specs.Frames.{header_end}
 use Rattle.storage_map.specs.Limits.{Object}
 use Rattle.storage_map.specs.declared.op.Op.{Op}
@@ -44,6 +44,6 @@ full_early = record no_log { taken = record { incarnation = 1; number = 1; body 
 abbrev pub some_object : Object
 some_object = (67 ∷ [], 97 ∷ [])
 
--- No journal of so many bytes that had no frame at the opening was full as this log of the object says.
+-- No journal of so many bytes that had no batch at the opening, and at most a marker, was full as this log of the object says.
 abbrev pub IsFilledByNone : Backed → Type 0
-IsFilledByNone log = (front : Fronted) → AreFilled 4096 header_end some_object (history front log) → ⊥
+IsFilledByNone log = (front : Fronted) (end : ℕ) → end ≤ header_end + 45 → AreFilled 4096 end some_object (history front log) → ⊥

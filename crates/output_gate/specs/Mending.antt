@@ -3,7 +3,7 @@ use Rattle.std.specs.Prelude.{◌≡◌, ◌⊎◌, ℕ, ◌+◌, ◌-◌, ◌�
 use Rattle.std.specs.Vec.{vec_capacity}
 use Rattle.do_disk.specs.Disk.{IfTold, HasRisen}
 use Rattle.batch_journal.specs.Moments.{LeavesOnly, TellsAsBefore, IsTold}
-use Rattle.batch_journal.specs.Mounting.{IsMountOf, ImageOrHeader}
+use Rattle.batch_journal.specs.Mounting.{IsMountOf, ImageOrSame}
 use Rattle.batch_journal.specs.Refused.{IsForeign, IsDamaged, IsMixed}
 use Rattle.batch_journal.specs.Rest.{IsStaged, disk_in}
 use Rattle.do_value.specs.declared.fault.NoMemory.{NoMemory}
@@ -63,11 +63,11 @@ IsFound moment_of left_since told image disk (found.Mounted journal identity cac
     ((index : Indexed) × (cache ≡ of_index index)
     × IsMountOf told image moment_of left_since disk (record { journal = journal; identity = identity; index = index }))
     × ((object : Object) → IsStaged journal object [])
-    × LeavesOnly moment_of left_since disk (disk_in journal) (ImageOrHeader (told disk) (image disk)) × TellsAsBefore (told disk) (told (disk_in journal))
+    × LeavesOnly moment_of left_since disk (disk_in journal) (ImageOrSame (told disk) (image disk)) × TellsAsBefore (told disk) (told (disk_in journal))
 IsFound moment_of left_since told image disk (found.Refused left) =
-    LeavesOnly moment_of left_since disk left (ImageOrHeader (told disk) (image disk)) × TellsAsBefore (told disk) (told left)
+    LeavesOnly moment_of left_since disk left (ImageOrSame (told disk) (image disk)) × TellsAsBefore (told disk) (told left)
 IsFound moment_of left_since told image disk (found.NoMemory left) =
-    LeavesOnly moment_of left_since disk left (ImageOrHeader (told disk) (image disk)) × TellsAsBefore (told disk) (told left)
+    LeavesOnly moment_of left_since disk left (ImageOrSame (told disk) (image disk)) × TellsAsBefore (told disk) (told left)
 
 -- This was mounted, with a cache of its index; or memory was wanting for that, and its disk is left.
 abbrev pub HasCache : {D : Type 0} → JustMounted D → Found D → Type 0

@@ -2,9 +2,10 @@
 use Rattle.std.specs.Prelude.{◌≡◌, ◌≢◌, ◌⊎◌, ℕ, ℤ, suc, ◌+◌, ◌-◌, ◌<◌, ◌≤◌, nat_lt, Bool, true, false, not, List, [], ◌∷◌, ◌++◌, length, Option, Some, None, Result, OnOk, OnErr, vec_len}
 use Rattle.std.specs.List.{flat_map}
 use Rattle.std.specs.Vec.{vec_capacity}
-use Rattle.batch_journal.specs.Frames.{Frame, journal_bytes, batches_in}
+use Rattle.batch_codec.specs.Frames as codec
+use Rattle.batch_journal.specs.Frames.{Frame, holds, journal_bytes, batches_in}
 use Rattle.batch_journal.specs.Moments.{IsTold}
-use Rattle.batch_journal.specs.Recovery.{Recovers}
+use Rattle.batch_journal.specs.Recovery.{IsJournal}
 use Rattle.batch_journal.specs.Rest.{IsAtRest, IsStaged, RecoversToOneOf, disk_in}
 use Rattle.batch_journal.specs.declared.journal.Journal.{Journal}
 use Rattle.do_value.specs.declared.fault.NoMemory.{NoMemory}
@@ -157,7 +158,7 @@ pub record IsSafeEnded {D : Type 0} (disk : D) (ending : Ending) (back : Back D)
 pub record IsEnded {D : Type 0} (moment_of : D → ℕ) (left_since : D → ℕ → List ℕ → Type 0) (image : D → List ℕ → Type 0)
     (start : List (List Op)) (opening : ℕ) (disk : D) (ending : Ending) (back : Back D) : Type 0 where
   pub frames : List Frame
-  pub flight : Frame
+  pub flight : codec.Frame
   pub ended : ℕ
   pub taken : List Entry
   pub left : List Passed
@@ -174,11 +175,11 @@ pub record IsEnded {D : Type 0} (moment_of : D → ℕ) (left_since : D → ℕ 
   pub object : back.identity ≡ Some flight.object
   pub named : NameOnly back.identity frames
   pub batches : batches_in frames ≡ start ++ flown
-  pub outcomes : (c : List ℕ) → image disk c → RecoversToOneOf frames flight c
+  pub outcomes : (c : List ℕ) → image disk c → RecoversToOneOf frames (holds flight) c
   pub mended : (back.mode ≡ Wanted ending) → AreMended taken
   pub gone : length back.log.stops.items ≡ suc (length back.log.ends.items)
   pub number : back.number ≡ suc (length back.log.stops.items)
-  pub full : (needed limit : ℕ) → ending.cause ≡ causes.Full needed limit → (c : List ℕ) → image disk c → Recovers c frames
+  pub full : (needed limit : ℕ) → ending.cause ≡ causes.Full needed limit → (c : List ℕ) → image disk c → IsJournal c frames
 
 -- The newest incarnation isn't mounted.
 pub record IsUnmounted {D : Type 0} (moment_of : D → ℕ) (left_since : D → ℕ → List ℕ → Type 0) (told : D → Option (List ℕ)) (image : D → List ℕ → Type 0)

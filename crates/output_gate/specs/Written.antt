@@ -1,7 +1,8 @@
 -- The frames that a journal got since the opening, as the log has them, and where it was full. This project's profile.
 use Rattle.std.specs.Prelude.{◌≡◌, ◌≢◌, ◌⊎◌, ◌+◌, ◌-◌, ◌^◌, ◌<◌, ◌≤◌, min, nat_lt, if◌then◌else◌, ℕ, List, [], ◌∷◌, ◌++◌, length, take, drop, sum, Option, Some, None}
 use Rattle.std.specs.List.{All, sum_by}
-use Rattle.batch_journal.specs.Frames.{Frame, payload, frame_room}
+use Rattle.batch_codec.specs.Frames as codec
+use Rattle.batch_journal.specs.Frames.{Frame, holds, payload, frame_room}
 use Rattle.batch_journal.specs.Moments.{IsTold}
 use Rattle.batch_journal.specs.Rest.{disk_in, end_of}
 use Rattle.batch_journal.specs.Staged.{frame_of}
@@ -94,15 +95,15 @@ AreWritten limit end back = (front : Fronted) (object : Object) → MayBe back.i
 
 -- Behind an end a journal that tells its content is found with the end that it had before the append, or with that append's whole frame, of the
 -- batches that had not flown.
-pub record IsFoundWith {D : Type 0} (old : Back D) (ending : Ending) (end : ℕ) (flight : Frame) : Type 0 where
-  pub end_is : end ≡ end_with ending.end (flight ∷ [])
+pub record IsFoundWith {D : Type 0} (old : Back D) (ending : Ending) (end : ℕ) (flight : codec.Frame) : Type 0 where
+  pub end_is : end ≡ end_with ending.end (holds flight ∷ [])
   pub object : old.identity ≡ Some flight.object
   pub some : flight.batches ≢ []
   pub batches : (front : Fronted) → flight.batches ≡ unflown_in (older_of front (backed old.log))
 
 abbrev pub FindsEnd : {D : Type 0} → (D → Option (List ℕ)) → (old new : Back D) → Type 0
 FindsEnd {D} told old new = (ending : Ending) (journal : Journal D) → old.mode ≡ Wanted ending → new.store ≡ store.Journal journal → new.mode ≡ Mounted
-    → IsTold (told (disk_in journal)) → (end_of journal ≡ ending.end) ⊎ ((flight : Frame) × IsFoundWith old ending (end_of journal) flight)
+    → IsTold (told (disk_in journal)) → (end_of journal ≡ ending.end) ⊎ ((flight : codec.Frame) × IsFoundWith old ending (end_of journal) flight)
 
 -- A log's frames go on with the journal: one that was mounted is written from its end on.
 abbrev pub FreshIsWritten : {D : Type 0} → (D → ℕ) → (D → ℕ → List ℕ → Type 0) → (D → Option (List ℕ)) → (D → List ℕ → Type 0) → (D → ℕ) → Back D → Type 0

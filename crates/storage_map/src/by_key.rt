@@ -58,8 +58,21 @@ impl<V: Drop> ByKey<V> {
         self.put(key.as_str(), value)
     }
 
-    /// The same for a key that is lent.
+    /// The same for a key that is lent, which is copied only where nothing stood there.
     pub fn put(&mut self, key: &str, value: V) -> Mem<()>
+        requires { length key.now ≤ most_key_bytes }
+        ensures set { OnOk result (self.new ≡ insert self.old key.now value) }
+        ensures same { OnErr result (self.new ≡ self.old) }
+    {
+        if let Some(there) = self.entries.get_mut(key) {
+            *there = value;
+            return Ok(());
+        }
+        self.add(key, value)
+    }
+
+    // The same, with a copy of the key.
+    fn add(&mut self, key: &str, value: V) -> Mem<()>
         requires { length key.now ≤ most_key_bytes }
         ensures set { OnOk result (self.new ≡ insert self.old key.now value) }
         ensures same { OnErr result (self.new ≡ self.old) }

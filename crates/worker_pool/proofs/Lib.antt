@@ -3,6 +3,7 @@ mod Rows
 mod Beginning
 mod Ending
 mod Unmade
+mod Behind
 mod Slots
 mod Leftovers
 mod Ends

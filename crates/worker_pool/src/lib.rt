@@ -1,6 +1,7 @@
 //! The workers of a run: from the halves of slots that were just mounted to the objects that they are once all workers have ended.
 #![tactic(auto)]
 
+mod boxing;
 mod closing;
 mod making;
 mod ran;

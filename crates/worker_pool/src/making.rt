@@ -6,10 +6,11 @@ ghost use Rattle.do_tree.specs.Checked.{tree_of as script_in};
 ghost use Rattle.object_core.specs.One.{AreFresh};
 ghost use Rattle.worker_pool.specs.Making.{AreJustMounted, AreMade, AreNewEnds, HasRoom, IsEmpty, IsMade};
 
+use crate::boxing::BoxedHalves;
 use do_disk::Disk;
 use do_tree::Checked;
 use do_value::{Mem, NoMemory};
-use host_workers::{BackCell, FrontCell, Halves};
+use host_workers::{BackCell, FrontCell};
 use lane::{SendEnd, TakeEnd, make};
 use std::alloc::Global;
 use std::sync::Wait;
@@ -99,14 +100,14 @@ pub(crate) fn make_all_ends<T: Wait + Copy>(
 // The cells of a slot's halves, on lanes that are new. It takes no memory.
 fn make_slot<'s, D: Disk + Drop, T: Wait + Copy>(
     checked: &'s Checked,
-    halves: Halves<D>,
+    halves: BoxedHalves<D>,
     ends: SlotEnds<T>,
 ) -> Slot<'s, D, T>
     requires fresh { AreFresh (script_in checked.now) halves.front.half halves.back }
     requires new { AreNewEnds ends }
     ensures { IsMade D.moment_of D.left_since D.told D.image D.faults_of (script_in checked.now) halves result }
 {
-    let Halves { front, back } = halves;
+    let (front, back) = halves.into_parts();
     let SlotEnds {
         inbox,
         events,
@@ -168,7 +169,7 @@ impl<'s, D: Disk + Drop, T: Wait + Copy> Made<'s, D, T> {
 // Makes the cells of all slots, on lanes that are new. It takes no memory.
 pub(crate) fn make_all<'s, D: Disk + Drop, T: Wait + Copy>(
     checked: &'s Checked,
-    slots: Vec<Halves<D>>,
+    slots: Vec<BoxedHalves<D>>,
     ends: Vec<SlotEnds<T>>,
     made: Made<'s, D, T>,
 ) -> Made<'s, D, T>

@@ -1,15 +1,14 @@
 //! A run of the workers, from fresh halves to joined objects.
-ghost use Rattle.std.specs.Prelude.{◌≡◌, ◌<◌, ◌≤◌, ℕ, [], length, IfOk};
-ghost use Rattle.std.specs.List.{All};
-ghost use Rattle.std.specs.Vec.{vec_capacity};
+ghost use Rattle.std.specs.Prelude.{◌≡◌, ◌<◌, ◌≤◌, length, IfOk};
 ghost use Rattle.do_disk.specs.Slots.{most_slots};
 ghost use Rattle.do_tree.specs.Checked.{tree_of as script_in};
 ghost use Rattle.do_tree.specs.Tree.{Script};
 ghost use Rattle.host_workers.specs.Board.{AreCells, empty_places, places_of};
 ghost use Rattle.worker_pool.specs.Ended.{HasRun};
 ghost use Rattle.worker_pool.specs.Fresh.{AreFreshSlots, IsFreshReader, IsFreshSwitch};
-ghost use Rattle.worker_pool.specs.Making.{AreNewEnds, HasRoom, IsEmpty};
+ghost use Rattle.worker_pool.specs.Prepared.{IsPrepared};
 
+use crate::boxing::{BoxedRun, GivenRun, box_run};
 use crate::closing::{Room, close_all};
 use crate::making::{Made, SlotEnds, make_all, make_all_ends, with_room};
 use crate::ran::Ran;
@@ -43,11 +42,7 @@ fn prepare<'s, D: Disk + Drop, T: Wait + Copy>(
     alloc: Global,
     slots: usize,
 ) -> Mem<Prepared<'s, D, T>>
-    ensures lines { IfOk result (λ p. (p.send.lane ≡ p.take.lane) × (p.send.sent ≡ []) × (p.take.got ≡ [])) }
-    ensures ends { IfOk result (λ p. (length p.ends.items ≡ slots) × All AreNewEnds p.ends.items) }
-    ensures made { IfOk result (λ p. IsEmpty p.made × HasRoom slots p.made) }
-    ensures cores { IfOk result (λ p. (p.room.cores.items ≡ []) × (slots ≤ vec_capacity p.room.cores)) }
-    ensures apart { IfOk result (λ p. (p.room.apart.items ≡ []) × (slots ≤ vec_capacity p.room.apart)) }
+    ensures { IfOk result (IsPrepared slots) }
 {
     let (send, take) = make(rt, alloc)?;
     let ends = make_all_ends(rt, alloc, slots)?;
@@ -118,9 +113,64 @@ fn run_named<
     (end, board.into_cells())
 }
 
+// The same over what stands behind pointers, once all that it takes memory for is there.
+fn run_prepared<
+    's,
+    D: Disk + Drop + Send,
+    R: Source + Drop + Send,
+    W: Sink + Drop + Send,
+    T: Threads + Wait + Copy + Send + Sync,
+    G: TurnGate + Sync,
+>(
+    rt: &T,
+    alloc: Global,
+    checked: &'s Checked,
+    run: BoxedRun<D, R, W>,
+    prepared: Prepared<'s, D, T>,
+    gate: &G,
+    workers: u32,
+) -> Ran<D, R, W>
+    requires workers { 1 ≤ workers }
+    requires few { length run.slots.items ≤ most_slots }
+    requires slots { AreFreshSlots D.moment_of D.left_since D.told D.image D.faults_of (script_in checked.now) run.slots.items }
+    requires switch { IsFreshSwitch (length run.slots.items) run.switch }
+    requires lines { IsFreshReader run.lines }
+    requires prepared { IsPrepared (length run.slots.items) prepared }
+    ensures { HasRun D.moment_of D.left_since D.told D.image D.faults_of R.left R.faults_of W.taken W.faults_of (script_in checked.now)
+        run.slots.items run.switch run.lines result }
+{
+    let BoxedRun {
+        slots,
+        switch,
+        lines,
+    } = run;
+    let Prepared {
+        send,
+        take,
+        ends,
+        made,
+        room,
+    } = prepared;
+    let Made {
+        fronts,
+        backs,
+        outs,
+        inboxes,
+    } = make_all(checked, slots, ends, made);
+    let cells = Cells {
+        fronts,
+        backs,
+        switch: Some(SwitchCell::new(switch, checked, take, outs, inboxes)),
+        lines: Some(LinesCell::new(lines, send)),
+    };
+    let blank = Blank::new(u64::from(workers));
+    let (end, cells) = run_named::<Brand, D, R, W, T, G>(rt, alloc, blank, cells, gate, workers);
+    close_all(alloc, end, cells, room)
+}
+
 /// Makes the lanes and the cells of a run, and lets so many workers work, each in a thread of its own where one is to be had, until nothing is left to do
 /// and the input has ended or a read of it has failed, or until one has met a write fault or want of memory. Then it closes the lanes and joins
-/// the halves of each slot. Where memory is wanting for the lanes, nothing is done, and the halves are as they were.
+/// the halves of each slot. Where memory is wanting for the lanes or the cells, nothing is done, and the halves are as they were.
 ///
 /// The gate is entered and left round a front's turns.
 pub fn run_workers<
@@ -150,26 +200,22 @@ pub fn run_workers<
     let Ok(prepared) = prepare::<D, T>(rt, alloc, slots.len()) else {
         return unmade(alloc, slots, switch, lines);
     };
-    let Prepared {
-        send,
-        take,
-        ends,
-        made,
-        room,
-    } = prepared;
-    let Made {
-        fronts,
-        backs,
-        outs,
-        inboxes,
-    } = make_all(checked, slots, ends, made);
-    let cells = Cells {
-        fronts,
-        backs,
-        switch: Some(SwitchCell::new(switch, checked, take, outs, inboxes)),
-        lines: Some(LinesCell::new(lines, send)),
+    let Ok(room) = with_room(alloc, slots.len()) else {
+        return unmade(alloc, slots, switch, lines);
     };
-    let blank = Blank::new(u64::from(workers));
-    let (end, cells) = run_named::<Brand, D, R, W, T, G>(rt, alloc, blank, cells, gate, workers);
-    close_all(alloc, end, cells, room)
+    let given = GivenRun {
+        slots,
+        switch,
+        lines,
+    };
+    match box_run(alloc, given, room) {
+        Ok(run) => run_prepared(rt, alloc, checked, run, prepared, gate, workers),
+        Err(
+            GivenRun {
+                slots,
+                switch,
+                lines,
+            },
+        ) => unmade(alloc, slots, switch, lines),
+    }
 }

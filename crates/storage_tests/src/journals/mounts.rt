@@ -56,7 +56,7 @@ fn tell_refused(alloc: Global, fault: &MountFault<MemDisk>, line: &mut Telling) 
 }
 
 /// `mount HEX FAILS COUNTS`: with a number behind the bytes the calls of the disk fail from that one on; with `true` behind that
-/// the calls are counted.
+/// the calls are counted, and the journal's version is told.
 pub(crate) fn answer(alloc: Global, row: &Json, line: &mut Telling) -> Result<(), Fail> {
     let fails = match row.get(2).and_then(Json::as_u64) {
         Some(call) => Fails::From(call),
@@ -66,10 +66,11 @@ pub(crate) fn answer(alloc: Global, row: &Json, line: &mut Telling) -> Result<()
     match Journal::mount(alloc, disk, LIMIT) {
         Ok(mut mounted) => {
             let calls = mounted.journal.disk().moment();
+            let version = mounted.journal.version();
             let read = read_k(&mut mounted);
             tell_mounted(alloc, mounted, read, line);
             if flag(row, 3) {
-                line.tell(format!(in alloc; " by {calls} calls"));
+                line.tell(format!(in alloc; " by {calls} calls, version {version}"));
             }
         }
         Err(fault) => tell_refused(alloc, &fault, line),

@@ -8,11 +8,13 @@ use std::test::Fail;
 use storage_map::{Batch, Identity};
 use test_rows::{Telling, count};
 
-fn read(bytes: &[u8]) -> Result<FrameView<'_>, BadFrame> {
-    if bytes.len() > 2_000_000 {
+// The payload as one of format 1 where the case says so at this place, and else of format 2.
+fn read<'a>(bytes: &'a [u8], row: &Json, at: usize) -> Result<FrameView<'a>, BadFrame> {
+    if bytes.len() > 5_000_000 {
         return Err(BadFrame);
     }
-    FrameView::read(bytes)
+    let format = if count(row, at) == 1 { 1 } else { 2 };
+    FrameView::read(bytes, format)
 }
 
 // An operation as it is lent, with the place of a value's first byte.
@@ -33,8 +35,8 @@ fn tell_op(alloc: Global, line: &mut Telling, op: &OpView) {
     }
 }
 
-fn tell(alloc: Global, bytes: &[u8], line: &mut Telling) {
-    let Ok(frame) = read(bytes) else {
+fn tell(alloc: Global, bytes: &[u8], row: &Json, line: &mut Telling) {
+    let Ok(frame) = read(bytes, row, 2) else {
         line.say("bad");
         return;
     };
@@ -51,13 +53,14 @@ fn tell(alloc: Global, bytes: &[u8], line: &mut Telling) {
     }
 }
 
-/// `payload HEX`
+/// `payload HEX FORMAT`
 pub(crate) fn answer(alloc: Global, row: &Json, line: &mut Telling) -> Result<(), Fail> {
-    tell(alloc, &bytes_at(alloc, row, 1)?, line);
+    tell(alloc, &bytes_at(alloc, row, 1)?, row, line);
     Ok(())
 }
 
-/// `large HEAD PUT PUTS LETTERS`: the payload of one batch that has so many puts of a text of so many letters, whether it is read.
+/// `large HEAD PUT PUTS LETTERS FORMAT`: the payload of one batch that has so many puts of a text of so many letters, whether it is
+/// read.
 pub(crate) fn answer_large(alloc: Global, row: &Json, line: &mut Telling) -> Result<(), Fail> {
     let puts = u32::try_from(count(row, 3)).unwrap_or(0);
     let letters = u32::try_from(count(row, 4)).unwrap_or(0);
@@ -71,7 +74,11 @@ pub(crate) fn answer_large(alloc: Global, row: &Json, line: &mut Telling) -> Res
             bytes.push(b'a')?;
         }
     }
-    line.say(if read(&bytes).is_ok() { "read" } else { "bad" });
+    line.say(if read(&bytes, row, 5).is_ok() {
+        "read"
+    } else {
+        "bad"
+    });
     Ok(())
 }
 

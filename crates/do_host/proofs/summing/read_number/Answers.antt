@@ -14,3 +14,9 @@ returns-clause-number g c = λ frames rest stands told.
     let value : c.in_ok-value.value ≡ there.0 = c.in_ok-value.ensures.value frames there.0 rest there.2 told in
     let number : c.number_of.result ≡ number_left frames = c.number_of.ensures.number ∙ ap (λ (v : Value). counted (Some v)) value ∙ ap counted (sym there.1) in
     to_z-of_z w64 c.number_of.result (record { sfits = omega (arith, ints, c.number_of.ensures.safe.0, c.number_of.ensures.safe.1) }) ∙ number
+
+pub read_value-requires : goal.read_value-requires
+read_value-requires g c =
+    let r = c.requires in
+    let there = value_there (IsPlaceIn r.0) c.args.index.now (left_by r.0) r.2 (codes "n") c.in-Some.place (sym c.get.ensures ∙ c.in-Some.is) in
+    (r.0, there.0, r.1, there.2)

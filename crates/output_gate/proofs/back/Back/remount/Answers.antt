@@ -1,6 +1,6 @@
 use Rattle.std.proofs.Common.{◌∙◌, ap, sym, subst, inl, inr, refl, arith, ℕ}
 use Rattle.batch_journal.specs.Moments.{LeavesOnly, TellsAsBefore}
-use Rattle.batch_journal.specs.Mounting.{ImageOrHeader}
+use Rattle.batch_journal.specs.Mounting.{ImageOrSame}
 use Rattle.timeline.specs.declared.notice.Notice.TheVariants as notice
 use Rattle.storage_cache.specs.Cached.{Cached}
 use Rattle.output_gate.specs.Mending.{Begins, Misses}
@@ -45,7 +45,7 @@ pub returns-in-Mounted-clause-back : goal.returns-in-Mounted-clause-back
 returns-in-Mounted-clause-back g c start opening u =
     let m = c.miss.ensures.misses in
     inr (remount_misses g.D.Disk.moment_of g.D.Disk.left_since g.D.Disk.told g.D.Disk.image g.D.Disk.faults_of g.met.D.Disk.reads_an_image g.met.D.Disk.counts_now start opening c.args.self.now c.miss.new.self c.leave-disk.result c.into_disk.result c.args.ending _ _ c.requires.wanted c.leave-disk.ensures.disk
-    (subst (λ d. LeavesOnly g.D.Disk.moment_of g.D.Disk.left_since c.leave-disk.result d (ImageOrHeader (g.D.Disk.told c.leave-disk.result) (g.D.Disk.image c.leave-disk.result)) × TellsAsBefore (g.D.Disk.told c.leave-disk.result) (g.D.Disk.told d))
+    (subst (λ d. LeavesOnly g.D.Disk.moment_of g.D.Disk.left_since c.leave-disk.result d (ImageOrSame (g.D.Disk.told c.leave-disk.result) (g.D.Disk.image c.leave-disk.result)) × TellsAsBefore (g.D.Disk.told c.leave-disk.result) (g.D.Disk.told d))
     (sym c.into_disk.ensures) (c.in-Mounted.ensures.found.2, c.in-Mounted.ensures.found.3)) (record { log = m.log; same = m.same }) c.faults-before.ensures refl
     (other_rises g.D.Disk.moment_of g.D.Disk.left_since g.D.Disk.told g.D.Disk.image g.met.D.Disk.reads_an_image g.met.D.Disk.counts_now g.D.Disk.faults_of start opening
     c.args.self.now c.leave-disk.result c.into_disk.result c.args.ending (record { journal = c.in-Mounted.journal; identity = c.in-Mounted.identity; index = c.in-Mounted.ensures.found.0.0 }) c.requires.wanted c.leave-disk.ensures.disk c.in-Mounted.ensures.found.0.2 (c.may_be.ensures.other c.if-may_be.false) u) u)

@@ -1,10 +1,8 @@
-use Rattle.std.proofs.Common.{◌≡◌, List, [], ◌∷◌, Option, None, subst}
-use Rattle.std.proofs.lemmas.List.Elements.{All-nil}
-use Rattle.batch_journal.specs.Frames.{Frame}
+use Rattle.std.proofs.Common.{◌≡◌, [], ◌∷◌, Option, None, subst}
 use Rattle.storage_map.specs.Limits.{Object}
 use Rattle.batch_journal.specs.Reading.{IsObjectOf}
-use Rattle.batch_journal.specs.Rest.{IsAtRest}
-use Rattle.batch_journal.proofs.Held.{none_named, none_left}
+use Rattle.batch_journal.proofs.Held.{none_left}
+use Rattle.batch_journal.proofs.Nameless.{unnamed}
 use Rattle.storage_tests.proofs.journals.appends.append_first.Goals as goal
 
 pub stage-requires : goal.stage-requires
@@ -12,13 +10,19 @@ stage-requires g c =
     let object = c.args.identity.now in
     ([], c.requires.nothing_staged object, c.one_batch_fits.ensures object c.args.batch.now c.size.ensures.object c.as_slice.ensures.batch)
 
--- a journal of no object has no frames, and the batch is all that is staged
+-- the frames of a journal of no object name nobody, and the batch is all that is staged
 pub append-outcome-requires : goal.append-outcome-requires
 append-outcome-requires g c =
     let object = c.args.identity.now in
     let mounted = c.requires.mounted.1 in
     let none : c.args.mounted.identity ≡ None = none_left c.args.mounted.identity c.if-is_some.ensures in
     let named = subst (λ (o : Option Object). IsObjectOf o mounted.frames) none mounted.object in
-    let rest = subst (λ (frames : List Frame). IsAtRest g.D.Disk.told g.D.Disk.image c.args.mounted.journal frames) (none_named mounted.frames named) mounted.at_rest in
-    let staged = c.in-Ok.ensures.staged [] (c.requires.nothing_staged object) in
-    ([], object, c.args.batch.now ∷ [], c.in-Ok.ensures.same_frames [] rest, staged, (λ none. absurd (cc)), All-nil (λ (frame : Frame). frame.object ≡ object))
+    let staged = c.in-Ok.ensures.staged [] (c.requires.nothing_staged object) in (
+      mounted.frames,
+      object,
+      c.args.batch.now ∷ [],
+      c.in-Ok.ensures.same_frames mounted.frames mounted.at_rest,
+      staged,
+      (λ none. absurd (cc)),
+      unnamed object mounted.frames named,
+    )

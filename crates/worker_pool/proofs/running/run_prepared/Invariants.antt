@@ -1,5 +1,5 @@
 use Rattle.worker_pool.specs.Named.{run_of}
-use Rattle.worker_pool.proofs.running.run_workers.Given as goal
+use Rattle.worker_pool.proofs.running.run_prepared.Given as goal
 
 abbrev pub ghosts-run_named-L-Ledger : goal.ghosts-run_named-L-Ledger
 ghosts-run_named-L-Ledger g a = record { name = a.blank.name; parts = a.blank.parts }
