@@ -1,5 +1,5 @@
 -- Frames that name no object: each names any, and they are the marker at most.
-use Rattle.std.proofs.Common.{◌≡◌, ℕ, ◌≤◌, List, [], ◌∷◌, length, Option, Some, None, refl, ap, arith}
+use Rattle.std.proofs.Common.{◌≡◌, ◌≤◌, List, [], ◌∷◌, length, Some, None, refl, ap, arith}
 use Rattle.std.proofs.lemmas.List.Elements.{All-nil, All-cons}
 use Rattle.storage_map.specs.Limits.{Object}
 use Rattle.batch_journal.specs.Frames.{Version, One, Two, Frame, holds, marker, journal_bytes, AllMayStand, Names, Name}

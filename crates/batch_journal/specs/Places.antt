@@ -6,10 +6,13 @@ use Rattle.do_value.specs.Encoding.{encoding}
 use Rattle.do_value.specs.declared.value.Value.{Value}
 use Rattle.storage_map.specs.Contents.{Contents, nothing, apply}
 use Rattle.storage_map.specs.Indexed.{Indexed, StandsFor, AllStand}
+use Rattle.storage_map.specs.Limits.{Object, Format}
 use Rattle.storage_map.specs.Ops.{IsStored, op_bytes}
 use Rattle.storage_map.specs.declared.place.Place.{Place}
 use Rattle.storage_map.specs.declared.op.Op.{Op}
 use Rattle.storage_map.specs.declared.op.Op.TheVariants.{Put, Delete, DeleteAll, SetAlarm, ClearAlarm}
+use Rattle.batch_codec.specs.Frames as codec
+use Rattle.batch_codec.specs.Views.{operations_of}
 use Rattle.batch_journal.specs.Frames.{Version, Frame, file_bytes, journal_bytes, operations_in}
 
 -- The part stands in the bytes from this place on.
@@ -52,6 +55,14 @@ ArePlaced frames frame places values = length (journal_bytes (frames ++ frame �
 abbrev pub GoesBy : ℕ → List ℕ → Indexed → Indexed → List Op → Type 0
 GoesBy start payload old new ops = (files : Version → List ℕ) (m : Contents) → ((version : Version) → HasPart (files version) start payload)
     → StandsFor (InEach files) old m → StandsFor (InEach files) new (apply m ops)
+
+-- The index goes by all operations of a frame of the format that names this object and says the payload.
+pub record IndexesFrame (format : Format) (start : ℕ) (said : List ℕ) (object : Object) (old new : Indexed) : Type 0 where
+  pub frame : codec.Frame
+  pub of_format : codec.IsFrameIn format frame
+  pub is : codec.payload frame ≡ said
+  pub names : frame.object ≡ object
+  pub goes : GoesBy start said old new (operations_of frame)
 
 -- the place of each value that is put, where the bytes of the operations begin at this place
 abbrev pub placed : ℕ → List Op → List Place

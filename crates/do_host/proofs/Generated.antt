@@ -1,8 +1,8 @@
 -- The runs of `gen`.
-use Rattle.std.proofs.Common.{◌≡◌, ◌≢◌, ◌≤◌, ◌<◌, ◌⊎◌, ⊎_elim, inl, inr, ℕ, ℤ, zero, suc, List, [], length, Some, None, Result, Ok, Err, refl, sym, ap, subst, ◌∙◌, arith}
+use Rattle.std.proofs.Common.{◌≡◌, ◌≢◌, ◌≤◌, ◌<◌, ◌⊎◌, ⊎_elim, inl, inr, ℕ, ℤ, List, [], length, Some, None, Result, Ok, Err, refl, sym, ap, subst, ◌∙◌, arith}
 use Rattle.std.specs.Prelude.{IsErrOf, OnErr, OnOk}
 use Rattle.command_words.specs.Asked.{gens}
-use Rattle.do_disk.specs.Disk.{IfTold, Rose}
+use Rattle.do_disk.specs.Disk.{Rose}
 use Rattle.do_disk.specs.declared.memory_sink.VoidSink.{VoidSink}
 use Rattle.line_server.specs.Limits.{most_lines}
 use Rattle.host_core.specs.Ends.{opening_end}
@@ -11,74 +11,47 @@ use Rattle.host_core.specs.declared.opening.OpenEnd.{OpenEnd}
 use Rattle.host_core.specs.declared.report.Report.{Report}
 use Rattle.host_core.specs.declared.settings.ServeEnd.{ServeEnd}
 use Rattle.host_core.specs.declared.settings.ServeEnd.TheVariants as ends
-use Rattle.do_host.specs.EarlyEnds.{IsRefusedBy, IsScriptEnd, IsStoppedBy}
+use Rattle.do_host.specs.EarlyEnds.{IsRefusedBy, IsStoppedBy}
 use Rattle.do_host.specs.Endings.{EndsAs, TellsEnd}
 use Rattle.do_host.specs.GenRuns.{GoesOn, PrintsLine, ServesMade, SumsUp, gen_script, replies_in, summary_line}
 use Rattle.do_host.specs.Outside.{Disks, Given, Left, LeavesInputAndReport, Outside, Sinks}
 use Rattle.do_host.specs.Runs.{AtAnyEnd, Runs}
 use Rattle.do_host.specs.ScriptLines.{IsRefusalLine}
-use Rattle.do_host.specs.Status.{IsEarlyStatus, dump_end, status_of}
+use Rattle.do_host.specs.Status.{dump_end, status_of}
 use Rattle.do_host.specs.Sums.{Sums}
 use Rattle.do_host.specs.Written.{WritesAll, Writes}
 use Rattle.do_host.specs.declared.early_end.EarlyEnd.{EarlyEnd}
 use Rattle.do_host.specs.declared.early_end.EarlyEnd.TheVariants.{Stopped}
 use Rattle.do_host.specs.declared.run_end.RunEnd.{RunEnd}
-use Rattle.do_host.specs.declared.run_end.RunEnd.TheVariants.{DepotFailed, NoMemory, WriteFailed}
+use Rattle.do_host.specs.declared.run_end.RunEnd.TheVariants.{NoMemory, WriteFailed}
+use Rattle.do_host.proofs.GenAccepted.{gen_not_refused}
 use Rattle.do_host.proofs.Dumps.{print_kind, stopped_unread}
-use Rattle.do_host.proofs.Early.{any_unread, check_unread, early, early_check, early_no_one, early_of, failed_three, same_stop, shows, silent_early, Shows, stop_is_no_line, told_six, told_two, written_six}
+use Rattle.do_host.proofs.Early.{any_unread, check_unread, early}
 use Rattle.do_host.proofs.Served.{Ends, ends_silent, not_usage, shows_end, status_known}
 
 -- ---- before a slot is asked for
-
-no_depot : (status : ℕ) → IsEarlyStatus status → status ≢ 3 → (status ≡ 2) ⊎ (status ≡ 4) ⊎ (status ≡ 6)
-no_depot status (zero, within, is) other = inl (sym is)
-no_depot status (suc zero, within, is) other = absurd (other (sym is))
-no_depot status (suc (suc zero), within, is) other = inr (inl (sym is))
-no_depot status (suc (suc (suc zero)), within, is) other = inr (inr (sym is))
-no_depot status (suc (suc (suc (suc n))), within, is) other = absurd (omega (arith, within))
 
 module _ {T S R W : Type 0} (outside : Outside S R W) (given : Given S R W) (left : Left S R W) (end : EarlyEnd) (text : List ℕ) (text_is : text ≡ gen_script)
     (by : ((line : List ℕ) × IsRefusedBy (early {T = T} end) line) ⊎ IsStoppedBy (early {T = T} end) NoMemory)
     (ends_as : EndsAs (outside.sink.taken given.out) (outside.sink.taken left.out) left.status end)
     (refused : (line : List ℕ) → IsRefusedBy (early {T = T} end) line → IsRefusalLine text line)
-    (same : LeavesInputAndReport given left) (depot : left.depot ≡ given.depot)
-    (write : (end ≡ Stopped WriteFailed → ⊥) → left.status ≡ 6 → Rose (outside.sink.faults_of given.out) (outside.sink.faults_of left.out)) where
-  script_end : IsScriptEnd (early {T = T} end)
-  script_end = ⊎_elim (λ line. inl line) (λ wanting. inr (inr wanting)) by
+    (same : LeavesInputAndReport given left) (depot : left.depot ≡ given.depot) where
+  -- the script isn't refused, and no depot is asked for it
+  never : (line : List ℕ) → IsRefusedBy (early {T = T} end) line → ⊥
+  never line is = gen_not_refused line (subst (λ (x : List ℕ). IsRefusalLine x line) text_is (refused line is))
 
-  not_depot : IsStoppedBy (early {T = T} end) DepotFailed → ⊥
-  not_depot failed =
-      ⊎_elim (λ line. stop_is_no_line {T = T} DepotFailed line.1.0 (sym failed ∙ line.1.1))
-      (λ wanting. let no : DepotFailed ≡ NoMemory = same_stop {T = T} DepotFailed NoMemory (sym failed ∙ wanting) in cc) by
+  stopped : end ≡ Stopped NoMemory
+  stopped = ⊎_elim (λ line. absurd (never line.0 line.1)) (λ wanting. let is : end ≡ Stopped NoMemory = cc in is) by
 
-  shown : Shows T (outside.sink.taken given.out) (outside.sink.taken left.out) left.status end
-  shown = shows {T = T} (outside.sink.taken given.out) (outside.sink.taken left.out) left.status end script_end ends_as
-
-  known : IsEarlyStatus left.status
-  known = early_of {T = T} (outside.sink.taken given.out) (outside.sink.taken left.out) left.status end shown
-
-  statuses : (left.status ≡ 2) ⊎ (left.status ≡ 4) ⊎ (left.status ≡ 6)
-  statuses = no_depot left.status known (λ three. failed_three {T = T} (outside.sink.taken given.out) (outside.sink.taken left.out) left.status end ⊥ not_depot shown three)
-
-  refused_of : (line : List ℕ) → IsRefusedBy (early {T = T} end) line → IfTold (Some gen_script) (λ t. IsRefusalLine t line)
-  refused_of line is = λ t told. let own : gen_script ≡ t = cc in subst (λ (x : List ℕ). IsRefusalLine x line) (text_is ∙ own) (refused line is)
+  told : (left.status ≡ 4) × (outside.sink.taken left.out ≡ outside.sink.taken given.out)
+  told = subst (λ (e : EarlyEnd). EndsAs (outside.sink.taken given.out) (outside.sink.taken left.out) left.status e) stopped ends_as
 
   pub none_runs : (seed count : ℕ) (folder : List ℕ) → IsEmpty given.report → Runs (gens seed count folder) outside given left
   none_runs seed count folder empty = record {
-    any = any_unread outside given left empty same (check_unread left.status (early_check left.status known))
-        (λ silent. silent_early {T = T} (outside.sink.taken given.out) (outside.sink.taken left.out) left.status end shown silent);
+    any = any_unread outside given left empty same (check_unread left.status (3, omega arith, sym told.0)) (λ silent. told.1);
     input = tt;
-    status_one = λ one. absurd (early_no_one left.status known one);
-    as_asked = inl (record {
-      statuses = statuses;
-      alone = same;
-      asked = depot;
-      refused = told_two {T = T} (Some gen_script) (outside.sink.taken given.out) (outside.sink.taken left.out) left.status end refused_of shown;
-      in_part = told_six {T = T} (Some gen_script) (outside.sink.taken given.out) (outside.sink.taken left.out) left.status end refused_of shown;
-      silent = λ four. silent_early {T = T} (outside.sink.taken given.out) (outside.sink.taken left.out) left.status end shown
-          ((λ e. omega (arith, e, four)), (λ e. omega (arith, e, four)), (λ e. omega (arith, e, four)), (λ e. omega (arith, e, four)), (λ e. omega (arith, e, four)));
-      write_failed = λ six. write (written_six {T = T} (outside.sink.taken given.out) (outside.sink.taken left.out) left.status end shown six) six;
-    });
+    status_one = λ one. absurd (omega (arith, one, told.0));
+    as_asked = inl (record { wanting = told.0; alone = same; asked = depot; silent = told.1 });
   }
 
 -- ---- the line of the summary

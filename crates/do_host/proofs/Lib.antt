@@ -11,5 +11,8 @@ pub mod Dumped
 pub mod Made
 pub mod Sums
 pub mod Dumps
+pub mod Spaced
+pub mod GenTree
+pub mod GenAccepted
 pub mod Generated
 pub mod Words

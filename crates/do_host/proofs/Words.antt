@@ -111,13 +111,10 @@ module _ {S R W : Type 0} (outside : Outside S R W) (given : Given S R W) (empty
     dumps = of_slots folder slots;
   }
   as_asked (gens seed count folder) = inl (record {
-    statuses = inr (inl refl);
+    wanting = refl;
     alone = untouched;
     asked = refl;
-    refused = λ two. absurd (omega (arith, two));
-    in_part = λ six. absurd (omega (arith, six));
-    silent = λ four. refl;
-    write_failed = λ six. absurd (omega (arith, six));
+    silent = refl;
   })
   as_asked usage = record {
     statuses = inr (inr refl);

@@ -16,8 +16,6 @@ use Rattle.line_server.specs.declared.out_line.OutLine.TheVariants.{Reply}
 use Rattle.do_host.specs.Endings.{TellsEnd}
 use Rattle.do_host.specs.Generator.{made_lines}
 use Rattle.do_host.specs.Outside.{Disks, Given, Left, LeavesInputAndReport, Outside, Sinks}
-use Rattle.do_host.specs.ScriptLines.{IsRefusalLine}
-use Rattle.do_host.specs.ScriptRuns.{TellsAll, TellsFirst}
 use Rattle.do_host.specs.Scripts.{IsAccepted}
 use Rattle.do_host.specs.ServeRuns.{ServesTree, Serving}
 use Rattle.do_host.specs.SlotLines.{line_of_json}
@@ -102,15 +100,12 @@ pub record ServesMade {S R W : Type 0} (outside : Outside S R W) (seed count : �
   pub goes_on : GoesOn outside.disks outside.sink count serves.end served.report given.out summed end left.report
   pub tells : TellsEnd outside.sink.taken outside.sink.faults_of summed left.out left.status end
 
--- It ends before a slot is asked for: memory was wanting for the words, the lines or the script, or that is refused, of which its line tells.
+-- It ends before a slot is asked for, since memory was wanting for the words, the lines or the script.
 pub record ServesNone {S R W : Type 0} (outside : Outside S R W) (given : Given S R W) (left : Left S R W) : Type 0 where
-  pub statuses : (left.status ≡ 2) ⊎ (left.status ≡ 4) ⊎ (left.status ≡ 6)
+  pub wanting : left.status ≡ 4
   pub alone : LeavesInputAndReport given left
   pub asked : left.depot ≡ given.depot
-  pub refused : left.status ≡ 2 → TellsAll (Some gen_script) IsRefusalLine (outside.sink.taken given.out) (outside.sink.taken left.out)
-  pub in_part : left.status ≡ 6 → TellsFirst (Some gen_script) IsRefusalLine (outside.sink.taken given.out) (outside.sink.taken left.out)
-  pub silent : left.status ≡ 4 → outside.sink.taken left.out ≡ outside.sink.taken given.out
-  pub write_failed : left.status ≡ 6 → Rose (outside.sink.faults_of given.out) (outside.sink.faults_of left.out)
+  pub silent : outside.sink.taken left.out ≡ outside.sink.taken given.out
 
 -- `gen` of so many lines of this seed.
 abbrev pub GenRun : {S R W : Type 0} → Outside S R W → ℕ → ℕ → List ℕ → Given S R W → Left S R W → Type 0

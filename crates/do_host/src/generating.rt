@@ -1,5 +1,6 @@
 //! `gen`: the lines that a seed makes are served, and what they come to is printed.
 ghost use Rattle.std.specs.Prelude.{◌≡◌, ◌≤◌, ℕ, List, IfOk, length, string_bytes};
+ghost use Rattle.do_disk.specs.Slots.{most_slots};
 ghost use Rattle.do_tree.specs.Checked.{tree_of as script_in};
 ghost use Rattle.host_core.specs.Report.{IsEmpty};
 ghost use Rattle.command_words.specs.Asked as spoken;
@@ -157,7 +158,7 @@ fn go_on<S: Disk + Drop, W: Sink>(
     report: &mut Report<S>,
     out: &mut W,
 ) -> ServeEnd
-    requires { served ≡ ServeEnd.Finished → length report.old.slots.items ≤ 256 }
+    requires { served ≡ ServeEnd.Finished → length report.old.slots.items ≤ most_slots }
     ensures { spec.GoesOn (disks_of S.told S.image S.left_since S.moment_of S.faults_of) (sink_of W.taken W.faults_of)
         count served report.old out.old out.new result report.new }
 {
@@ -174,7 +175,7 @@ fn sum_up<S: Disk + Drop, W: Sink>(
     report: &mut Report<S>,
     out: &mut W,
 ) -> ServeEnd
-    requires { length report.old.slots.items ≤ 256 }
+    requires { length report.old.slots.items ≤ most_slots }
     ensures { SumsUp (disks_of S.told S.image S.left_since S.moment_of S.faults_of) (sink_of W.taken W.faults_of)
         count report.old out.old out.new result report.new }
 {

@@ -50,7 +50,7 @@ pub struct Ran<R, W> {
 /// | | `gen`: all lines were served, and `["summary",COUNT,replies,total]` is printed: how many lines there were, how many replies, |
 /// | | and the sum of what the slots have under `n` |
 /// | 1 | exactly where the words are none of the commands; prints `["usage"]` |
-/// | 2 | where the script is refused; prints `["script-refused",place,kind]`, its first fault |
+/// | 2 | where the script is refused; prints `["script-refused",place,kind]`, its first fault; `gen`, whose own script is accepted, never ends so |
 /// | 3 | only where the count of faults of the depot or of a slot's disk rose while the slots were opened, or read by `dump`, or mounted again by `gen` |
 /// | 4 | want of memory |
 /// | 5 | only where the source's count of faults rose |

@@ -2,20 +2,20 @@
 ghost use Rattle.std.specs.Prelude.{◌≡◌, ◌⊎◌, ◌≤◌, ◌+◌, ◌+ℤ◌, List, ℕ, ℤ, Ok, Err, IfOk, IfErr, Some, length};
 ghost use Rattle.batch_journal.specs.Frames.{Frame};
 ghost use Rattle.batch_journal.specs.Moments.{IsTold, LeavesOnly, OnlyReads};
-ghost use Rattle.batch_journal.specs.Mounting.{ImageOrSame, disk_left};
+ghost use Rattle.batch_journal.specs.Mounting.{ImageOrSame};
 ghost use Rattle.batch_journal.specs.Places.{Indexes};
 ghost use Rattle.batch_journal.specs.Rest.{IsAtRest, disk_in};
+ghost use Rattle.do_disk.specs.Slots.{most_slots};
 ghost use Rattle.do_value.specs.Limits.{IsSafe};
-ghost use Rattle.host_core.specs.Begun.{mounting_end};
 ghost use Rattle.do_host.specs.Storage.{ReadsValues};
 ghost use Rattle.do_host.specs.Sums as spec;
 ghost use Rattle.do_host.specs.Sums.{IsMountedAgain, IsNumberOf, IsSumOf, StopsAt, StopsUnread, Sums};
 
 use crate::mounting::{ANY, reading_end};
-use batch_journal::{Journal, MountFault, Mounted, ReadFault};
+use batch_journal::{Journal, Mounted, ReadFault};
 use do_disk::Disk;
 use do_value::Value;
-use host_core::{Bad, OpenEnd, SlotReport};
+use host_core::{OpenEnd, SlotReport, refused_mounting};
 use std::alloc::Global;
 use std::mem;
 use storage_map::Index;
@@ -25,7 +25,7 @@ pub(crate) fn sum_slots<D: Disk + Drop>(
     alloc: Global,
     rows: &mut Vec<SlotReport<D>>,
 ) -> Result<i64, OpenEnd>
-    requires { length rows.old.items ≤ 256 }
+    requires { length rows.old.items ≤ most_slots }
     ensures sums { Sums D.told D.image D.moment_of D.left_since D.faults_of rows.old.items rows.new.items result }
     ensures small { IfOk result (IsSumOf (length rows.old.items)) }
 {
@@ -52,7 +52,7 @@ fn sum_slot<D: Disk>(
     slot: u32,
     sum: Result<i64, OpenEnd>,
 ) -> (SlotReport<D>, Result<i64, OpenEnd>)
-    requires few { slot ≤ 256 }
+    requires few { slot ≤ most_slots }
     requires small { IfOk sum (IsSumOf slot) }
     ensures again { IsMountedAgain D.told D.image D.moment_of D.left_since row result.0 }
     ensures sum { IfOk result.1 (λ next. (so_far n : ℤ) × (sum ≡ Ok so_far) × IsNumberOf (D.told row.store) n × (next ≡ so_far +ℤ n)) }
@@ -92,7 +92,7 @@ fn mount_and_read<D: Disk>(alloc: Global, disk: D, slot: u32) -> (D, Result<i64,
     match Journal::mount(alloc, disk, ANY) {
         Ok(mounted) => read_mounted(mounted, slot),
         Err(fault) => {
-            let (disk, end) = refused(fault, slot);
+            let (disk, end) = refused_mounting(fault, slot);
             (disk, Err(end))
         }
     }
@@ -140,25 +140,5 @@ fn number_of(value: &Value) -> i64
     match value {
         Value::Num(number) => number.get(),
         _ => 0,
-    }
-}
-
-// The disk of a mounting that was refused, and why.
-fn refused<D>(fault: MountFault<D>, slot: u32) -> (D, OpenEnd)
-    ensures disk { result.0 ≡ disk_left fault }
-    ensures end { result.1 ≡ mounting_end slot fault }
-{
-    match fault {
-        MountFault::DiskFailed(disk) => (disk, OpenEnd::Failed),
-        MountFault::Foreign { disk, place } => {
-            (disk, OpenEnd::BadSlot(Bad::Foreign { slot, place }))
-        }
-        MountFault::Damaged { disk, place } => {
-            (disk, OpenEnd::BadSlot(Bad::Damaged { slot, place }))
-        }
-        MountFault::Mixed { disk, first, other } => {
-            (disk, OpenEnd::BadSlot(Bad::Mixed { slot, first, other }))
-        }
-        MountFault::NoMemory(disk) => (disk, OpenEnd::NoMemory),
     }
 }

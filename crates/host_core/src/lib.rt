@@ -15,6 +15,6 @@ mod settings;
 mod settling;
 
 pub use folder::{opening_end, serve};
-pub use opening::{OpenEnd, mount_slot};
+pub use opening::{OpenEnd, mount_slot, refused_mounting};
 pub use report::{Report, SlotReport};
 pub use settings::{Bad, ServeEnd, Served, Settings};

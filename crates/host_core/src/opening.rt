@@ -189,15 +189,15 @@ fn mount<D: Disk + Drop>(
     match Journal::mount(alloc, disk, limit) {
         Ok(mounted) => Ok(mounted),
         Err(fault) => {
-            let (disk, end) = refused(fault, slot);
+            let (disk, end) = refused_mounting(fault, slot);
             *unopened = Some(disk);
             Err(end)
         }
     }
 }
 
-// The disk of a mounting that was refused, and why.
-fn refused<D>(fault: MountFault<D>, slot: u32) -> (D, OpenEnd)
+/// The disk of a mounting that was refused, and why an opening ends at this slot by it. It takes no memory.
+pub fn refused_mounting<D>(fault: MountFault<D>, slot: u32) -> (D, OpenEnd)
     ensures disk { result.0 ≡ disk_left fault }
     ensures end { result.1 ≡ mounting_end slot fault }
 {

@@ -1,5 +1,5 @@
 //! The board under its lock, and the workers.
-ghost use Rattle.std.specs.Prelude.{◌≡◌, ◌<◌, ◌≤◌, ◌+◌, IfOk, OnErr};
+ghost use Rattle.std.specs.Prelude.{◌≡◌, ◌<◌, IfOk, IfSome, MatchOption, OnErr};
 ghost use Rattle.host_workers.specs.Board.{IsHeld, empty_places, held_count};
 
 use crate::board::{Board, Look};
@@ -59,22 +59,30 @@ impl<'s, L: Names, D: Disk + Drop, R: Source + Drop, W: Sink + Drop, T: Wait + C
         board.come();
     }
 
-    // Takes the next cell with something to do out of its place, and wakes one worker where more is left to do. It waits where another
-    // worker may still make some: as long as a cell that is there is marked, or a line may be read, one worker is awake and looks.
+    // Puts the cell that was worked on back at its place, if there is one, and takes the next cell with something to do out of its
+    // place, under one lock; it wakes one worker where more is left to do. It waits where another worker may still make some: as long
+    // as a cell that is there is marked, or a line may be read, one worker is awake and looks.
     fn next(
         &self,
         rt: &T,
         share: &mut Share<L>,
         me: u32,
+        done: Option<(Held<'s, D, R, W, T>, Found)>,
     ) -> Result<(Held<'s, D, R, W, T>, Bounds), WorkEnd>
-        requires { 0 < share.old.parts }
+        requires part { 0 < share.old.parts }
+        requires held { IfSome done (λ put.
+            IsHeld L.names D.moment_of D.left_since D.told D.image D.faults_of R.left R.faults_of W.taken W.faults_of put.0) }
+        requires out { MatchOption done (share.old.amount ≡ 0) (λ put. share.old.amount ≡ held_count put.0) }
         ensures parts { share.new.parts ≡ share.old.parts }
         ensures held { IfOk result (λ taken.
             IsHeld L.names D.moment_of D.left_since D.told D.image D.faults_of R.left R.faults_of W.taken W.faults_of taken.0) }
-        ensures amount { IfOk result (λ taken. share.new.amount ≡ share.old.amount + held_count taken.0) }
-        ensures ended { OnErr result (share.new.amount ≡ share.old.amount) }
+        ensures amount { IfOk result (λ taken. share.new.amount ≡ held_count taken.0) }
+        ensures ended { OnErr result (share.new.amount ≡ 0) }
     {
         let mut board = self.lock.lock(rt);
+        if let Some((held, found)) = done {
+            board.put_back(share, held, found);
+        }
         for _ in rt.forever() {
             match board.look(me) {
                 Look::Do(job) => {
@@ -99,17 +107,6 @@ impl<'s, L: Names, D: Disk + Drop, R: Source + Drop, W: Sink + Drop, T: Wait + C
             }
         }
         unreachable!()
-    }
-
-    // Puts a cell back at its place. Who puts it back looks on, and so wakes another where more is left to do.
-    fn put_back(&self, rt: &T, share: &mut Share<L>, held: Held<'s, D, R, W, T>, found: Found)
-        requires held { IsHeld L.names D.moment_of D.left_since D.told D.image D.faults_of R.left R.faults_of W.taken W.faults_of held }
-        requires out { held_count held ≤ share.old.amount }
-        ensures parts { share.new.parts ≡ share.old.parts }
-        ensures amount { share.new.amount + held_count held.entry ≡ share.old.amount }
-    {
-        let mut board = self.lock.lock(rt);
-        board.put_back(share, held, found);
     }
 }
 
@@ -136,12 +133,12 @@ pub fn work<
     ensures { (result.share.parts ≡ share.parts) × (result.share.amount ≡ 0) }
 {
     let mut share = share;
+    let mut done = None;
     shared.come(rt);
     for _ in rt.forever() {
-        match shared.next(rt, &mut share, me) {
+        match shared.next(rt, &mut share, me, done) {
             Ok((held, bounds)) => {
-                let (held, found) = work_on::<L, D, R, W, T, G>(alloc, gate, held, bounds);
-                shared.put_back(rt, &mut share, held, found);
+                done = Some(work_on::<L, D, R, W, T, G>(alloc, gate, held, bounds));
             }
             Err(end) => return Worked { end, share },
         }

@@ -1,26 +1,24 @@
 -- A storage stands for a map, after each of its calls.
-use Rattle.std.proofs.Common.{◌≡◌, ℕ, ◌<◌, ◌^◌, ◌+◌, List, [], ◌∷◌, ◌++◌, length, Option, Some, None, refl, sym, ap, ◌∙◌, subst, arith}
-use Rattle.std.specs.Prelude.{is_some, T, Result, Err}
+use Rattle.std.proofs.Common.{◌≡◌, ℕ, List, [], Option, sym, ◌∙◌, subst}
+use Rattle.std.specs.Prelude.{Result, Err}
 use Rattle.do_value.specs.declared.fault.NoMemory.{NoMemory}
 use Rattle.storage_map.specs.Limits.{Object}
-use Rattle.storage_map.specs.Contents.{Contents, nothing, apply}
-use Rattle.storage_map.specs.Indexed.{Indexed, values_put}
-use Rattle.storage_map.specs.declared.place.Place.{Place}
+use Rattle.storage_map.specs.Contents.{nothing, apply}
+use Rattle.storage_map.specs.Indexed.{Indexed}
 use Rattle.storage_map.specs.declared.op.Op.{Op}
-use Rattle.storage_cache.specs.Cached.{Cached, of_index, take_all, flush_all}
+use Rattle.storage_cache.specs.Cached.{Cached, of_index}
 use Rattle.storage_cache.proofs.Standing.{kept_index}
-use Rattle.batch_journal.specs.Frames.{Frame, journal_bytes, operations_in, Name}
-use Rattle.batch_journal.specs.Moments.{IsTold, TellsAsBefore}
-use Rattle.batch_journal.specs.Places.{IsPlaceIn, Indexes, ArePlaced}
+use Rattle.batch_journal.specs.Frames.{Frame, operations_in}
+use Rattle.batch_journal.specs.Moments.{IsTold}
+use Rattle.batch_journal.specs.Places.{IsPlaceIn, Indexes}
 use Rattle.batch_journal.specs.Rest.{disk_in, end_of, limit_of, IsAtRest, IsStaged}
-use Rattle.batch_journal.specs.Staged.{frame_of}
 use Rattle.batch_journal.specs.declared.journal.Journal.{Journal}
 use Rattle.object_storage.specs.Reads.{StaysStored}
 use Rattle.object_storage.specs.Steps.{Stages}
-use Rattle.object_storage.specs.Stored.{with_staged, HasStored, HasKept, HasSome}
+use Rattle.object_storage.specs.Stored.{HasStored, HasKept, HasSome}
 use Rattle.object_storage.specs.Storage.{journal_in, disk_of, cached_in, IsStorage, CanAnswer, StandsAsBefore}
 use Rattle.object_storage.specs.declared.storage.Storage.{Storage}
-use Rattle.object_storage.proofs.Going.{mounted, taken, appended, kept_grows, stored_same}
+use Rattle.object_storage.proofs.Going.{mounted, stored_same}
 
 module _ {D : Type 0} (told : D → Option (List ℕ)) (image : D → List ℕ → Type 0) where
   -- just mounted

@@ -26,7 +26,7 @@ use Rattle.output_gate.specs.declared.back.Mode.{Mode}
 use Rattle.output_gate.specs.declared.back.Mode.TheVariants.{Mounted as IsMountedMode, Wanted}
 use Rattle.output_gate.proofs.Mends.{found_one}
 use Rattle.output_gate.proofs.Remounts.{known}
-use Rattle.output_gate.proofs.Resting.{journal_recovers}
+use Rattle.batch_journal.proofs.Marking.{recovers_journal}
 use Rattle.output_gate.proofs.Stored.{same_disk}
 
 abbrev is_recovered : Verdict → Type 0
@@ -79,8 +79,8 @@ module _ {D : Type 0} (moment_of : D → ℕ) (left_since : D → ℕ → List �
   refused_rises old disk left ending wanted at why u tells =
       let k = known moment_of left_since told image faults_of reads_an_image counts_now start opening old disk ending wanted at u in
       let e : IsEnded moment_of left_since image start opening disk ending old = k.1 tells in
-      let no : IsRefusedFile tells.0 → ⊥ = λ refused. ⊎_elim (λ one. not_refused tells.0 e.frames (journal_recovers tells.0 e.frames one) refused)
-      (λ more. not_refused tells.0 (e.frames ++ holds e.flight ∷ []) (journal_recovers tells.0 (e.frames ++ holds e.flight ∷ []) more) refused)
+      let no : IsRefusedFile tells.0 → ⊥ = λ refused. ⊎_elim (λ one. not_refused tells.0 e.frames (recovers_journal tells.0 e.frames one) refused)
+      (λ more. not_refused tells.0 (e.frames ++ holds e.flight ∷ []) (recovers_journal tells.0 (e.frames ++ holds e.flight ∷ []) more) refused)
       (e.outcomes tells.0 (reads_an_image disk tells.0 tells.1)) in
       ⊎_elim (λ (rose : HasRisen (faults_of disk) (faults_of left)). rose) (λ refused. absurd (no (refused tells.0 tells.1))) why
 

@@ -42,7 +42,8 @@ use Rattle.output_gate.specs.declared.back.Back.{Back}
 use Rattle.output_gate.proofs.Gates.{calls, flies}
 use Rattle.output_gate.proofs.Histories.{stands, flies as history_flies, stops as history_stops, flies_fit, stops_fit}
 use Rattle.output_gate.proofs.Downs.{fails}
-use Rattle.output_gate.proofs.Resting.{journal_recovers, rests}
+use Rattle.batch_journal.proofs.Marking.{recovers_journal}
+use Rattle.output_gate.proofs.Resting.{rests}
 use Rattle.output_gate.proofs.Kept.{first_of, fewer}
 
 pub front_none : Fronted
@@ -125,9 +126,9 @@ module _ {D : Type 0} (moment_of : D → ℕ) (left_since : D → ℕ → List �
       let batches : batches_in frames ≡ start ++ (s.flown ++ s.staged) =
       flat_map-append batches_of s.frames (flight ∷ []) ∙ ap (λ bs. bs ++ (s.staged ++ [])) s.batches ∙ ap (λ bs. (start ++ s.flown) ++ bs) (append-nil s.staged) ∙ append_assoc start s.flown s.staged in
       subst (λ (both : List (List Op) × ℕ). RecoversToPrefix back.identity start both.0 both.1 c) (ap (λ bs. (bs, length s.flown)) (sym g.line) ∙ ap (λ n. (line h, n)) g.long)
-      (⊎_elim (λ past. first_of back.identity start s.flown s.staged s.frames c (journal_recovers c s.frames past) s.named s.batches)
+      (⊎_elim (λ past. first_of back.identity start s.flown s.staged s.frames c (recovers_journal c s.frames past) s.named s.batches)
       (λ whole. fewer back.identity start (s.flown ++ s.staged) (length s.flown) (length (s.flown ++ s.staged)) c (omega (arith, length-append s.flown s.staged))
-      (subst (λ bs. RecoversToPrefix back.identity start bs (length (s.flown ++ s.staged)) c) (append-nil (s.flown ++ s.staged)) (first_of back.identity start (s.flown ++ s.staged) [] frames c (journal_recovers c frames whole) named_all batches))) one)
+      (subst (λ bs. RecoversToPrefix back.identity start bs (length (s.flown ++ s.staged)) c) (append-nil (s.flown ++ s.staged)) (first_of back.identity start (s.flown ++ s.staged) [] frames c (recovers_journal c frames whole) named_all batches))) one)
 
   -- the append was good
   pub lands : (old new : Back D) (journal later_journal : Journal D) (cache : Cached) (s : IsServing moment_of left_since told image start opening sound journal old) → old.before ≢ old.durable

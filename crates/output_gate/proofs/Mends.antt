@@ -35,7 +35,7 @@ use Rattle.output_gate.specs.declared.back.Ending.{Ending}
 use Rattle.output_gate.specs.declared.back.Back.{Back}
 use Rattle.output_gate.proofs.Downs.{begins, calls_down}
 use Rattle.output_gate.proofs.Kept.{first_of, fewer}
-use Rattle.output_gate.proofs.Resting.{journal_recovers}
+use Rattle.batch_journal.proofs.Marking.{recovers_journal}
 
 abbrev is_yes : Bool → Type 0
 is_yes true = Unit {0}
@@ -70,14 +70,14 @@ module _ {D : Type 0} (moment_of : D → ℕ) (left_since : D → ℕ → List �
       → IfTold (told disk) (λ bytes. Recovers bytes found) → (found ≡ s.frames) ⊎ (found ≡ s.frames ++ holds s.flight ∷ [])
   found_one disk ending back s c found tells recovers =
       let now : Recovers c found = recovers c tells in
-      ⊎_elim (λ old. inl (one_list c found s.frames now (journal_recovers c s.frames old)))
-      (λ more. inr (one_list c found (s.frames ++ holds s.flight ∷ []) now (journal_recovers c (s.frames ++ holds s.flight ∷ []) more)))
+      ⊎_elim (λ old. inl (one_list c found s.frames now (recovers_journal c s.frames old)))
+      (λ more. inr (one_list c found (s.frames ++ holds s.flight ∷ []) now (recovers_journal c (s.frames ++ holds s.flight ∷ []) more)))
       (s.outcomes c (reads_an_image disk c tells))
 
   -- a full journal is found as it was
   pub found_old : (disk : D) (ending : Ending) (back : Back D) (s : IsEnded moment_of left_since image start opening disk ending back) (c : List ℕ) (found : List Frame) (needed limit : ℕ) → told disk ≡ Some c
       → ending.cause ≡ causes.Full needed limit → IfTold (told disk) (λ bytes. Recovers bytes found) → found ≡ s.frames
-  found_old disk ending back s c found needed limit tells full recovers = one_list c found s.frames (recovers c tells) (journal_recovers c s.frames (s.full needed limit full c (reads_an_image disk c tells)))
+  found_old disk ending back s c found needed limit tells full recovers = one_list c found s.frames (recovers c tells) (recovers_journal c s.frames (s.full needed limit full c (reads_an_image disk c tells)))
 
   -- whatever a mounting does, good or failed, a crash leaves one of the two
   pub mounting_leaves : (disk : D) (ending : Ending) (back : Back D) (s : IsEnded moment_of left_since image start opening disk ending back) (d : List ℕ)
@@ -107,9 +107,9 @@ module _ {D : Type 0} (moment_of : D → ℕ) (left_since : D → ℕ → List �
       let g = s.down front in
       let all : List (List Op) = s.flown ++ s.flight.batches in
       subst (λ (both : List (List Op) × ℕ). RecoversToPrefix back.identity start both.0 both.1 d) (ap (λ bs. (bs, length s.flown)) (sym g.line) ∙ ap (λ n. (line (s.last front ∷ s.rest front), n)) g.long)
-      (⊎_elim (λ old. first_of back.identity start s.flown s.flight.batches s.frames d (journal_recovers d s.frames old) s.named s.batches)
+      (⊎_elim (λ old. first_of back.identity start s.flown s.flight.batches s.frames d (recovers_journal d s.frames old) s.named s.batches)
       (λ more. fewer back.identity start all (length s.flown) (length all) d (omega (arith, length-append s.flown s.flight.batches))
-      (subst (λ bs. RecoversToPrefix back.identity start bs (length all) d) (append-nil all) (first_of back.identity start all [] (s.frames ++ holds s.flight ∷ []) d (journal_recovers d (s.frames ++ holds s.flight ∷ []) more)
+      (subst (λ bs. RecoversToPrefix back.identity start bs (length all) d) (append-nil all) (first_of back.identity start all [] (s.frames ++ holds s.flight ∷ []) d (recovers_journal d (s.frames ++ holds s.flight ∷ []) more)
       (All-push (NamesAs back.identity) s.frames (holds s.flight) s.named s.object) (flown_with disk ending back s)))) one)
 
   abbrev pub lists_of : (disk : D) (ending : Ending) (back : Back D) → IsEnded moment_of left_since image start opening disk ending back → Lists

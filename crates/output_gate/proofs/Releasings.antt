@@ -32,7 +32,8 @@ use Rattle.output_gate.proofs.Gates.{releases}
 use Rattle.output_gate.proofs.Counts.{counts_stay}
 use Rattle.output_gate.proofs.Endings.{logged_same}
 use Rattle.output_gate.proofs.Kept.{first_of}
-use Rattle.output_gate.proofs.Resting.{journal_recovers, rests}
+use Rattle.batch_journal.proofs.Marking.{recovers_journal}
+use Rattle.output_gate.proofs.Resting.{rests}
 use Rattle.output_gate.proofs.Places.{released_place}
 
 -- what is held is a message or isn't
@@ -111,7 +112,7 @@ module _ {D : Type 0} (moment_of : D → ℕ) (left_since : D → ℕ → List �
       let g = s.gate front in
       let h : History = history_at front (place_of front (backed back.log)) in
       subst (λ (both : List (List Op) × ℕ). RecoversToPrefix back.identity start both.0 both.1 c) (ap (λ bs. (bs, length s.flown)) (sym g.line) ∙ ap (λ n. (line h, n)) g.long)
-      (first_of back.identity start s.flown s.staged s.frames c (journal_recovers c s.frames (rests told image journal s.frames s.at_rest c (only_now (disk_in journal) c now))) s.named s.batches)
+      (first_of back.identity start s.flown s.staged s.frames c (recovers_journal c s.frames (rests told image journal s.frames s.at_rest c (only_now (disk_in journal) c now))) s.named s.batches)
 
   serves_release : (old : Back D) (log : BackLog) (held : VecDeque Held Global) (h : Held) (journal : Journal D) → IsServing moment_of left_since told image start opening sound journal old
       → old.held.items ≡ h ∷ held.items → h.needs ≤ old.durable

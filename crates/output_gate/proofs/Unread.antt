@@ -42,7 +42,8 @@ use Rattle.output_gate.proofs.Entered.{as_before}
 use Rattle.output_gate.proofs.Gates.{calls}
 use Rattle.output_gate.proofs.Helds.{true_false}
 use Rattle.output_gate.proofs.Kept.{first_of}
-use Rattle.output_gate.proofs.Resting.{journal_recovers, rests}
+use Rattle.batch_journal.proofs.Marking.{recovers_journal}
+use Rattle.output_gate.proofs.Resting.{rests}
 use Rattle.output_gate.proofs.Reading.{reading_stays, unread_none}
 use Rattle.output_gate.proofs.Stored.{in_it, keeps_limit, same_disk, same_journal, tells_as}
 use Rattle.output_gate.proofs.Takings.{HoldsMore, KeepsStored, free as none_held, has_some_of, may_some, some_object, mounted_same, mounted_silent, mounted_unread, safe_same, same_log, unread_held}
@@ -85,7 +86,7 @@ module _ {D : Type 0} (moment_of : D → ℕ) (left_since : D → ℕ → List �
     read_leaves journal back s front c now =
         let g = s.gate front in
         let h : History = history_at front (place_of front (backed back.log)) in
-        let past : Recovers c s.frames = journal_recovers c s.frames (rests told image journal s.frames s.at_rest c now) in
+        let past : Recovers c s.frames = recovers_journal c s.frames (rests told image journal s.frames s.at_rest c now) in
         subst (λ (both : List (List Op) × ℕ). RecoversToPrefix back.identity start both.0 both.1 c) (ap (λ bs. (bs, length s.flown)) (sym g.line) ∙ ap (λ n. (line h, n)) g.long)
         (first_of back.identity start s.flown s.staged s.frames c past s.named s.batches)
 

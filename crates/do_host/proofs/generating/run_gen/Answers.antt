@@ -22,4 +22,4 @@ returns-in-Err g c =
     let told = c.args.told in
     let text : c.as_bytes.result.now ≡ gen_script = c.as_bytes.ensures.value in
     none_runs _ _ _ c.in-Err.end c.as_bytes.result.now text c.in-Err.ensures.stopped c.end_early.ensures.ends c.in-Err.ensures.refused (record { input = c.end_early.ensures.input; report = refl }) refl
-    c.end_early.ensures.failed told.seed told.count (string_bytes told.folder) c.requires
+    told.seed told.count (string_bytes told.folder) c.requires

@@ -1,10 +1,24 @@
-use Rattle.std.proofs.Common.{◌≡◌, ◌+◌, ◌∙◌, ◌∷◌, [], ◌++◌, ℕ, List, ◌⊎◌, length, Err, rules, sym, ap, subst, arith, append_assoc}
+use Rattle.std.proofs.Common.{◌≡◌, ◌+◌, ◌∙◌, ◌∷◌, [], ◌++◌, ℕ, pos, List, ◌⊎◌, length, Ok, Err, rules, refl, sym, ap, subst, arith, append_assoc}
 use Rattle.std.specs.Prelude.{IfErr, vec_len}
+use Rattle.std.proofs.lemmas.Int.{ints}
 use Rattle.std.proofs.lemmas.List.{length-append}
 use Rattle.host_core.specs.declared.report.SlotReport.{SlotReport}
 use Rattle.do_host.specs.Sums.{StopsAt, Sums}
-use Rattle.do_host.proofs.Sums.{sums_more}
+use Rattle.do_host.proofs.Sums.{sums_none, sums_more}
 use Rattle.do_host.proofs.summing.sum_slots.Goals as goal
+
+pub loop-row-init : goal.loop-row-init
+loop-row-init g c =
+    let d = g.D.Disk in
+    let none : c.reserve.new.self.items ≡ [] = search rules in
+    record {
+      all = search rules;
+      slot = refl;
+      sums = subst (λ (rows : List (SlotReport g.row.D.Denot)). Sums d.told d.image d.moment_of d.left_since d.faults_of [] rows (Ok (pos 0))) (sym none)
+          (sums_none d.told d.image d.moment_of d.left_since d.faults_of);
+      small = (omega (arith, ints), omega (arith, ints));
+      room = search rules;
+    }
 
 pub loop-row-preserved : goal.loop-row-preserved
 loop-row-preserved g c =

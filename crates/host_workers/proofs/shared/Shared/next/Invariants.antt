@@ -3,4 +3,4 @@ use Rattle.host_workers.proofs.shared.Shared.next.Given as goal
 
 abbrev pub invariant-loop : goal.invariant-loop
 invariant-loop g l =
-    (goal.iterator-loop g).can_next l.iterator' × (l.share.parts ≡ l.fn.share.parts) × (l.share.amount ≡ l.fn.share.amount) × (goal.iterator-loop g).is_finite l.iterator'
+    (goal.iterator-loop g).can_next l.iterator' × (l.share.parts ≡ l.fn.share.parts) × (l.share.amount ≡ 0) × (goal.iterator-loop g).is_finite l.iterator'
