@@ -28,12 +28,19 @@ tell() {
 # what a run that served lines leaves to be done
 tell_served() {
     case "$1" in 0 | 4 | 5 | 6) ;; *) return ;; esac
-    if is_input_left; then
-        say "this run ended at line 1,048,576, to which a run reads, and what stands behind it in the input was left: give that to a next run, as by tail -n +1048577"
-    fi
+    tell_input
     tell_journals
     case " $seen" in *' start '*)
         say "a constructor threw, or a throw left its block ([\"start\"]): each call of that object runs it anew. Mend the script, or what it reads." ;;
+    esac
+}
+
+# where the run ended before its input, or may have
+tell_input() {
+    local next='as by tail -n +1048577'
+    case $(left_of_input) in
+        some) say "this run ended at line 1,048,576, to which a run reads, and what stands behind it in the input was left: give that to a next run, $next" ;;
+        perhaps) say "this run ended at line 1,048,576, to which a run reads: if the input has more, give what stands behind it to a next run, $next" ;;
     esac
 }
 
@@ -104,6 +111,18 @@ tell_opening() {
 
 file_of() { printf '%s/slot-%03d.journal' "$1" "$2"; }
 
+# Whether a journal that isn't taken is none but for a program that knows version 1 alone (docs/FORMATS.md): it is of version 2, or has the marker
+# where it is said to be damaged, as its first.
+is_newer() {
+    local version
+    version=$(head -c 14 "$1" 2>/dev/null | tail -c 13)
+    if [ "$2" = foreign ]; then [ "$version" = DO-JOURNAL-V2 ]; return; fi
+    [ "$2" = damaged ] && [ "$version" = DO-JOURNAL-V1 ] || return 1
+    [ "$(tail -c "+$(($3 + 2))" "$1" | head -c 12 | od -An -tx1 | tr -d ' \n')" = 00000008ffffffff00000002 ] || return 1
+    head -c "$3" "$1" | LC_ALL=C grep -qaP '\x00\x00\x00\x08\xff\xff\xff\xff\x00\x00\x00\x02'
+    [ $? = 1 ]
+}
+
 # which file is bad, and where: the folder is looked at again, with as many slots
 tell_bad_slot() {
     local told file
@@ -113,6 +132,10 @@ tell_bad_slot() {
         return
     fi
     file=$(file_of "$1" "${BASH_REMATCH[2]}")
+    if is_newer "$file" "${BASH_REMATCH[1]}" "${BASH_REMATCH[3]}"; then
+        say "$file was written by a newer program than this one, which can't read it: serve the folder with that one, or build it by ./durable --build. docs/RUNNING.md ('A folder of an older program') has more."
+        return
+    fi
     case "${BASH_REMATCH[1]}" in
         damaged) say "$file is damaged at byte ${BASH_REMATCH[3]}: behind the open gate there stands no whole frame. It was left as it was; take it from a copy." ;;
         foreign) say "$file is no journal: it differs from one at byte ${BASH_REMATCH[3]}. It was left as it was; take another folder, or the file from a copy." ;;

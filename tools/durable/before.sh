@@ -5,6 +5,7 @@
 see_words() {
     if [ -n "$fault" ]; then tell_words; exit 1; fi
     if tell_paths "$script" "$folder"; then exit 3; fi
+    if [ "$command" = dump ]; then see_journals "$folder"; fi
 }
 
 # the most bytes of a journal without an object: its header has 16, and the marker that one of version 1 gets has 45 (docs/FORMATS.md)

@@ -27,7 +27,9 @@ find_program() {
 day_of() { date -r "$1" '+%Y-%m-%d %H:%M'; }
 
 tell_version() {
-    if ! has_program; then
+    if [ -n "${DURABLE:-}" ] && ! has_program; then
+        say "DURABLE names $DURABLE, which is no program"
+    elif ! has_program; then
         say "there is no program yet: ./durable --build builds it"
     elif [ -z "${DURABLE:-}" ] && [ -r "$top/out/built" ]; then
         say "out/durable of $(day_of "$kept"), $(cat "$top/out/built")"
@@ -83,68 +85,51 @@ build_anew() {
 tell_start() {
     local free
     free=$(awk '$1 == "MemAvailable:" { printf "%.1f", $2 / 1048576 }' /proc/meminfo)
-    say "the program is to be proved and built now, ${#crates[@]} crates: about an hour on four processors (here are $(nproc)), and more than 8 GB of memory, so have 12 (here $free are free)"
+    say "the program is to be proved and built now, ${#crates[@]} crates: about an hour on four processors (here are $(nproc)). Have 12 GB of memory (here $free are free)"
     say "for a first look without any proof, in three minutes: cd '$top/crates/durable' && rt try -- check '$top/examples/counter/script.js'"
     say "what rt says goes to $log"
 }
 
+# Crate by crate, those below first: where libraries below are missing, rt would read the sources of all of them at once, which takes more than 13 GB.
 build() {
-    local builder began
-    began=$(date +%s)
-    mkdir -p "$top/out"
-    (cd "$top/crates/durable" && exec rt run) </dev/null >"$log" 2>&1 &
-    builder=$!
-    trap 'kill "$builder" 2>/dev/null; exit 130' INT TERM
-    tell_progress "$builder"
-    wait "$builder"
-    trap - INT TERM
-    # It ran with no words, so that its line of usage shows that it stands.
-    grep -qF '["usage"]' "$log" && [ -x "$top/crates/durable/out/durable" ] || return 1
+    local name began began_at before number=0
+    began=$(date +%s) began_at=$SECONDS
+    mkdir -p "$top/out" && : >"$log" || return 1
+    for name in "${crates[@]}"; do
+        number=$((number + 1))
+        if [ "$name" = durable ]; then continue; fi
+        work_at "$name" lib || return 1
+    done
+    # It runs with no words, so that its line of usage shows that it stands.
+    before=$(stat -c %s "$log")
+    work_at durable run
+    tail -c "+$((before + 1))" "$log" | grep -F '["usage"]' >/dev/null && [ -x "$top/crates/durable/out/durable" ] || return 1
     cp "$top/crates/durable/out/durable" "$kept.new" && touch -d "@$began" "$kept.new" && mv "$kept.new" "$kept" || return 1
     printf 'built from %s by %s\n' "$(git -C "$top" describe --always --dirty 2>/dev/null || echo 'these sources')" "$(rt version)" >"$top/out/built"
 }
 
-# tells what the build works at, as it changes and every two minutes, until it ends
+# has rt do its work at a crate: `lib` proves and keeps a library, `run` proves, builds and runs a program
+work_at() {
+    local builder
+    (cd "$top/crates/$1" && exec rt "$2") </dev/null >>"$log" 2>&1 &
+    builder=$!
+    trap 'kill "$builder" 2>/dev/null; exit 130' INT TERM
+    tell_progress "$builder" "$1"
+    wait "$builder"
+    local ended=$?
+    trap - INT TERM
+    return "$ended"
+}
+
+# tells which crate the build works at, where it takes more than a moment, and again every two minutes
 tell_progress() {
-    local at last='' said=-120 began=$SECONDS passed
+    local rounds=0 said=-120 passed
     while kill -0 "$1" 2>/dev/null; do
-        at=$(work_of_build)
-        passed=$((SECONDS - began))
-        if [ "$at" != "$last" ] || [ $((passed - said)) -ge 120 ]; then
-            say "$(printf '%d:%02d:%02d' $((passed / 3600)) $((passed / 60 % 60)) $((passed % 60))) since the start: $at"
-            last=$at said=$passed
+        passed=$((SECONDS - began_at))
+        if [ "$((rounds += 1))" -gt 8 ] && [ $((passed - said)) -ge 120 ]; then
+            say "$(printf '%d:%02d:%02d' $((passed / 3600)) $((passed / 60 % 60)) $((passed % 60))) since the start: proving $2, crate $number of ${#crates[@]}"
+            said=$passed
         fi
-        sleep 2
+        if [ "$rounds" -gt 8 ]; then sleep 2; else sleep 0.25; fi
     done
-}
-
-# the crates that the prover works at, by the folders and the words of its processes; where there are none, the last that it has named
-work_of_build() {
-    local name at='' number=0 busy
-    busy=" $({ names_by_folder; names_by_words; } | sort -u | tr '\n' ' ')"
-    if [ "$busy" = ' ' ] || [ "$busy" = ' durable ' ]; then busy=" $(name_in_log) "; fi
-    for name in "${crates[@]}"; do
-        number=$((number + 1))
-        if [[ $busy == *" $name "* && $name != durable ]]; then at+="${at:+, }proving $name, crate $number of ${#crates[@]}"; fi
-    done
-    if [ -z "$at" ] && [ -n "$(find "$top/crates/do_host/out" -name '*.rlib' -print -quit 2>/dev/null)" ]; then
-        at="proving durable, crate ${#crates[@]} of ${#crates[@]}"
-    fi
-    printf '%s' "${at:-reading the sources of all ${#crates[@]} crates}"
-}
-
-names_by_folder() {
-    find /proc/[0-9]*/cwd -maxdepth 0 -lname "$top/crates/*" -printf '%l\n' 2>/dev/null | sed 's#.*/##'
-}
-
-names_by_words() {
-    local file
-    grep -lsF -- "$top/crates/" /proc/[0-9]*/cmdline | while read -r file; do
-        tr '\0' '\n' <"$file" | awk 'last == "--crate-name" { print; exit } { last = $0 }'
-    done 2>/dev/null
-}
-
-name_in_log() {
-    grep -oE '^(rt: [a-z_]+: |checked [a-z_]+::|rt: chose .* for [a-z_]+$)' "$log" 2>/dev/null | tail -n 1 |
-        sed -E 's/^rt: chose .* for //; s/^(rt:|checked) //; s/:.*$//; s/ //g'
 }

@@ -21,6 +21,7 @@ END {
     } else if (kind == "BadChar") told = of_characters()
     else if (kind == "Unbound") told = of_name(p, a == "." ? token[f + 2] : "")
     else if (kind == "NotAwaited") told = of_unawaited()
+    else if (kind == "AwaitInSync" && a == "ctx" && token[f + 3] == "blockConcurrencyWhile") told = "take the await away: a constructor opens its block without one, as its last statement"
     else if (kind == "Form" || kind == "AwaitOfSync") told = of_call(f + (p == "await"))
     if (!told && kind == "AwaitOfSync" && a == "this" && token[f + 4] == "(") told = "take the await away, or write async in front of the method " token[f + 3]
     if (!told && kind in of_kinds) told = of_kinds[kind]

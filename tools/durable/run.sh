@@ -73,20 +73,20 @@ errors_of() {
         }'
 }
 
-# whether input was left behind the last line that a run reads, as far as that can be seen; a line has one answer at most, so as many answers
-# as a run reads lines are those of all of them
-is_input_left() {
-    [ "$command" = serve ] && [ -z "$fault" ] && [ "$status" = 0 ] || return 1
+# what of the input was left behind the last line that a run reads, as far as that can be seen: some, perhaps, or nothing. A line has one answer at
+# most, so as many answers as a run reads lines are those of all of them; where they are seen, a pipe's rest may have been read ahead.
+left_of_input() {
+    [ "$command" = serve ] && [ -z "$fault" ] && [ "$status" = 0 ] || return 0
     if [ -n "$input_from" ]; then
-        [ $(($(stat -L -c %s "/proc/$$/fd/0") - input_from)) -gt "$lines_of_run" ] || return 1
-        [ -n "$(tail -c "+$((input_from + 1))" "/proc/$$/fd/0" | tail -n "+$((lines_of_run + 1))" | head -c 1 | od -An -tx1)" ]
-    elif [[ " $seen" == *' lines '* ]]; then
-        return 0
+        [ $(($(stat -L -c %s "/proc/$$/fd/0") - input_from)) -gt "$lines_of_run" ] || return 0
+        if [ -n "$(tail -c "+$((input_from + 1))" "/proc/$$/fd/0" | tail -n "+$((lines_of_run + 1))" | head -c 1 | od -An -tx1)" ]; then echo some; fi
     elif [ -p /dev/stdin ] || [ -S /dev/stdin ]; then
         # Its end stands for ever, and is there at once. What is taken here is the rest of a line whose front is gone.
-        read -r -t 0 || return 0
-        IFS= read -r -N 1 -t 1
-    else
-        return 1
+        if ! read -r -t 0; then echo perhaps
+        elif IFS= read -r -N 1 -t 1; then echo some
+        elif [[ " $seen" == *' lines '* ]]; then echo perhaps
+        fi
+    elif [[ " $seen" == *' lines '* ]]; then
+        echo perhaps
     fi
 }
