@@ -80,7 +80,7 @@ module _ {S : Type 0} (moment_of : S → ℕ) (left_since : S → ℕ → List �
       → list_any (same_caller caller) (called_in (of_slot slot log.posts)) ≡ true
   row_replies slot row is caller has =
       let tells = are slot row is in
-      let owed : IsOwed (fronted row.front) (messages row.back.released.items) = tells.owed (tell slot row is) in
+      let owed : IsOwed (fronted row.front) (messages row.back.released.items) = (tells.answered (tell slot row is)).owed in
       let found : list_any (same_caller caller) (replied_in (messages row.back.released.items)) ≡ true =
       is_found (same_caller caller) (replied_in (messages row.back.released.items)) caller
       (replied_more (of_slot slot log.routed) (messages row.back.released.items) tells.routes caller has) (itself caller) in
@@ -106,7 +106,7 @@ module _ {S : Type 0} (moment_of : S → ℕ) (left_since : S → ℕ → List �
   all_asked : (slot : ℕ) (row : SlotReport S) → slice_get rows slot ≡ Some row → IsGivenUnasked (fronted row.front) (of_slot slot log.posts) → ⊥
   all_asked slot row is given =
       let tells = are slot row is in
-      given.unasked ((tells.owed (tell slot row is)).asked given.asked
+      given.unasked ((tells.answered (tell slot row is)).owed.asked given.asked
       (asked_more (of_slot slot log.routed) (messages row.back.released.items) tells.routes given.asked
       (law script named log after run replies_owed slot given.asked given.given)))
 

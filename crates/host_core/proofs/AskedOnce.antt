@@ -148,7 +148,7 @@ module _ {S : Type 0} (moment_of : S → ℕ) (left_since : S → ℕ → List �
       → (asked : ℕ × ℕ) → times_of asked (asked_in (of_slot slot log.routed)) ≤ 1
   routed_once slot row is is_told asked =
       let tells = are slot row is in
-      let owed : IsOwed (fronted row.front) (messages row.back.released.items) = tells.owed is_told in
+      let owed : IsOwed (fronted row.front) (messages row.back.released.items) = (tells.answered is_told).owed in
       omega (arith, owed.once asked, fewer_asked asked (of_slot slot log.routed) (messages row.back.released.items) tells.routes)
 
   -- what was routed from a slot without a row is nothing
@@ -161,7 +161,7 @@ module _ {S : Type 0} (moment_of : S → ℕ) (left_since : S → ℕ → List �
         → times c (replied_in (of_slot slot log.routed)) ≤ times c (called_in (of_slot slot log.posts))
     row_fewer slot row is c =
         let tells = are slot row is in
-        let owed : IsOwed (fronted row.front) (messages row.back.released.items) = tells.owed (tell slot row is) in
+        let owed : IsOwed (fronted row.front) (messages row.back.released.items) = (tells.answered (tell slot row is)).owed in
         omega (
           arith,
           fewer_replies c (of_slot slot log.routed) (messages row.back.released.items) tells.routes,

@@ -69,13 +69,13 @@ module _ {D : Type 0} (moment_of : D → ℕ) (left_since : D → ℕ → List �
         (served : Result (Unit {0}) Stop) (mid : Switch W) (stops : IfErr ran.end (λ f. (served ≡ stops_so f) × (mid ≡ ran.switch))) where
       -- Where all that was read is served, each slot has its object.
       pub none_apart : is_served (serving_end served) ≡ true → ran.apart.items ≡ []
-      none_apart sure = (came.ran_so.goes_on (went_by ran.end served (mid ≡ ran.switch) sure stops)).1
+      none_apart sure = (came.ran_so.ends.goes_on (went_by ran.end served (mid ≡ ran.switch) sure stops)).1
 
       -- Where a fault stopped the workers, nothing was logged since; where none did, no slot has halves alone.
       halves_by : (end : Result (Unit {0}) SwitchFault) → ran.end ≡ end → IfErr end (λ f. (served ≡ stops_so f) × (mid ≡ ran.switch))
           → AreHalves moment_of left_since told image faults_of limit script contents named (log_of mid) (length ran.cores.items) ran.apart.items
       halves_by (Ok tt) is so = λ at halves there.
-          none_there at halves _ (subst (λ (apart : List (Halves D)). slice_get apart at ≡ Some halves) (came.ran_so.goes_on is).1 there)
+          none_there at halves _ (subst (λ (apart : List (Halves D)). slice_get apart at ≡ Some halves) (came.ran_so.ends.goes_on is).1 there)
       halves_by (Err f) is so =
           subst (λ (s : Switch W). AreHalves moment_of left_since told image faults_of limit script contents named (log_of s) (length ran.cores.items) ran.apart.items) (sym so.1)
           (resumed_halves moment_of left_since told image faults_of left read_faults taken write_faults limit script contents named ran came)

@@ -171,8 +171,8 @@ module _ {S : Type 0} (moment_of : S → ℕ) (left_since : S → ℕ → List �
   row_tells_none slot row at =
       let is = are slot row at in
       let whole = unharmed slot row at in
-      let tells = is.tells whole.tells in
-      is.unended whole.tells (no_stops (backed row.back).stops (backed row.back).downs whole.ends
+      let tells = (is.kept whole.tells).tells in
+      (is.answered whole.tells).unended (no_stops (backed row.back).stops (backed row.back).downs whole.ends
       (subst (λ (n : ℕ). AreRising 0 (counts_in (backed row.back)) n) whole.steady tells.rising) tells.rose)
 
   -- So no routed message does.

@@ -32,7 +32,7 @@ module _ {S : Type 0} (moment_of : S → ℕ) (left_since : S → ℕ → List �
     (unposted : RowsTell told rows → (slot : ℕ) → IsOfNoClass script (object_at named slot) → of_slot slot (seen_log logged).posts ≡ []) where
   each_drops : (slot : ℕ) (row : SlotReport S) → slice_get rows slot ≡ Some row → HasItsClass script (object_at named slot) → IsTold (told row.store)
       → DropsOnly (of_slot slot (seen_log logged).posts) (fronted row.front) row.back.downs.items
-  each_drops slot row is has is_told = (are slot row is).drops is_told (posts_fit_in fit moments script named logged run slot has)
+  each_drops slot row is has is_told = ((are slot row is).answered is_told).drops (posts_fit_in fit moments script named logged run slot has)
 
   pub are_drops_only : AreDropsOnly told script named (seen_log logged) rows
   are_drops_only = record {

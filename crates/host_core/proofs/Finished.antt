@@ -120,7 +120,7 @@ module _ {S : Type 0} (moment_of : S → ℕ) (left_since : S → ℕ → List �
   no_calls : RowsTell told rows → DropNoCalls rows
   no_calls tell slot row at =
       by_class script (object_at named slot) (called_in (fronted row.front).dropped ≡ [])
-      (λ has. none_called (fronted row.front) row.back.downs.items (fronted row.front).dropped ((are slot row at).drops (tell slot row at) (fitting tell slot)).each)
+      (λ has. none_called (fronted row.front) row.back.downs.items (fronted row.front).dropped (((are slot row at).answered (tell slot row at)).drops (fitting tell slot)).each)
       (λ unknown. ap called_in (dropped_none (of_slot slot log.posts) row (are slot row at).served (none_posted tell slot unknown)))
 
   -- what a left call waits for is open

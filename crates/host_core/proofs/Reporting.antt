@@ -282,17 +282,17 @@ module _ {W : Type 0} (taken : W → Option (List ℕ)) (faults : W → ℕ) (ol
         are_asked_once moment_of left_since told faults_of limit script contents named (seen_log report.switch) report.slots.items are in_rows laws.few so_far in
         record {
           named = named;
-          many = refl;
-          one_each = one_each;
+          objects = record { many = refl; one_each = one_each; within = omega (arith, count) };
           rows = are;
-          within = omega (arith, count);
-          run = so_far;
-          there = in_rows;
-          drops = are_drops_only moment_of left_since told faults_of limit script contents named report.switch report.slots.items laws.fit laws.moments so_far are asked.posted
-              (λ tell slot unknown. unposted moment_of left_since told faults_of limit script contents named (seen_log report.switch) report.slots.items are in_rows
-              laws.few laws.alone so_far slot unknown tell);
-          asked = asked;
-          unended = are_unended moment_of left_since told faults_of limit laws.ends script contents named (seen_log report.switch) report.slots.items are so_far in_rows;
+          switched = record {
+            run = so_far;
+            there = in_rows;
+            drops = are_drops_only moment_of left_since told faults_of limit script contents named report.switch report.slots.items laws.fit laws.moments so_far are asked.posted
+                (λ tell slot unknown. unposted moment_of left_since told faults_of limit script contents named (seen_log report.switch) report.slots.items are in_rows
+                laws.few laws.alone so_far slot unknown tell);
+            asked = asked;
+            unended = are_unended moment_of left_since told faults_of limit laws.ends script contents named (seen_log report.switch) report.slots.items are so_far in_rows;
+          };
           finished = λ is. decided (is_served (so_ends served)) (IsFinished told limit script contents named (seen_log report.switch) report.slots.items)
               (λ sure.
               let run : IsSwitchRun script (opened named) (log_of mid) (state_of mid) = (serving sure).run in
@@ -389,21 +389,25 @@ pub reports_none : {S : Type 0} (moment_of : S → ℕ) (left_since : S → ℕ 
     → IsReport moment_of left_since told faults_of limit script contents slots ends.NoMemory report
 reports_none moment_of left_since told faults_of limit script contents slots report none log = record {
   named = replicate slots None;
-  many = length-replicate slots None;
-  one_each = λ a b object is other. absurd (nothing_named slots a object is);
-  rows = λ slot row is. none_there slot row _ (subst (λ (rows : List (SlotReport _)). slice_get rows slot ≡ Some row) none is);
-  within = omega (arith, ap length none);
-  run = subst (λ (l : SwitchLog). IsRunSoFar script (opened (replicate slots None)) l) (sym log) (whole (opened (replicate slots None)) begins);
-  there = subst (λ (l : SwitchLog). AreThere (length report.slots.items) l) (sym log) (All-nil (λ (sent : ℕ × Message). sent.0 < length report.slots.items));
-  drops = record {
-    each = λ slot row is has is_told. none_there slot row _ (subst (λ (rows : List (SlotReport _)). slice_get rows slot ≡ Some row) none is);
-    answers = λ tell slot row is. none_there slot row _ (subst (λ (rows : List (SlotReport _)). slice_get rows slot ≡ Some row) none is);
-    unposted = λ tell slot unknown. ap (λ (l : SwitchLog). of_slot slot l.posts) log;
+  objects = record {
+    many = length-replicate slots None;
+    one_each = λ a b object is other. absurd (nothing_named slots a object is);
+    within = omega (arith, ap length none);
   };
-  asked = asked_none told (seen_log report.switch) report.slots.items log;
+  rows = λ slot row is. none_there slot row _ (subst (λ (rows : List (SlotReport _)). slice_get rows slot ≡ Some row) none is);
+  switched = record {
+    run = subst (λ (l : SwitchLog). IsRunSoFar script (opened (replicate slots None)) l) (sym log) (whole (opened (replicate slots None)) begins);
+    there = subst (λ (l : SwitchLog). AreThere (length report.slots.items) l) (sym log) (All-nil (λ (sent : ℕ × Message). sent.0 < length report.slots.items));
+    drops = record {
+      each = λ slot row is has is_told. none_there slot row _ (subst (λ (rows : List (SlotReport _)). slice_get rows slot ≡ Some row) none is);
+      answers = λ tell slot row is. none_there slot row _ (subst (λ (rows : List (SlotReport _)). slice_get rows slot ≡ Some row) none is);
+      unposted = λ tell slot unknown. ap (λ (l : SwitchLog). of_slot slot l.posts) log;
+    };
+    asked = asked_none told (seen_log report.switch) report.slots.items log;
+    unended = unended_none told faults_of (seen_log report.switch) report.slots.items (ap (λ (l : SwitchLog). l.lines) log);
+  };
   finished = λ is. cc;
   quiet = λ is. cc;
-  unended = unended_none told faults_of (seen_log report.switch) report.slots.items (ap (λ (l : SwitchLog). l.lines) log);
   bad = λ bad is. cc;
 }
 
@@ -415,22 +419,22 @@ pub reports_opened : {S : Type 0} (moment_of : S → ℕ) (left_since : S → �
     → IsReport moment_of left_since told faults_of limit script contents slots (opening_end end) report
 reports_opened moment_of left_since told faults_of limit script contents named slots end report log rows many one_each few bad = record {
   named = named;
-  many = many;
-  one_each = one_each;
+  objects = record { many = many; one_each = one_each; within = omega (arith, few) };
   rows = subst (λ (l : SwitchLog). AreRows moment_of left_since told faults_of limit script contents named l report.slots.items) (sym log) rows;
-  within = omega (arith, few);
-  run = subst (λ (l : SwitchLog). IsRunSoFar script (opened named) l) (sym log) (whole (opened named) begins);
-  there = subst (λ (l : SwitchLog). AreThere (length report.slots.items) l) (sym log) (All-nil (λ (sent : ℕ × Message). sent.0 < length report.slots.items));
-  drops = record {
-    each = λ slot row is has is_told.
-        subst (λ (l : SwitchLog). DropsOnly (of_slot slot l.posts) (fronted row.front) row.back.downs.items) (sym log) ((rows slot row is).drops is_told tt);
-    answers = λ tell slot row is.
-        subst (λ (es : List Event). All (IsOfEnded (fronted row.front)) es) (sym (dropped_none [] row (rows slot row is).served refl)) (All-nil (IsOfEnded (fronted row.front)));
-    unposted = λ tell slot unknown. ap (λ (l : SwitchLog). of_slot slot l.posts) log;
+  switched = record {
+    run = subst (λ (l : SwitchLog). IsRunSoFar script (opened named) l) (sym log) (whole (opened named) begins);
+    there = subst (λ (l : SwitchLog). AreThere (length report.slots.items) l) (sym log) (All-nil (λ (sent : ℕ × Message). sent.0 < length report.slots.items));
+    drops = record {
+      each = λ slot row is has is_told.
+          subst (λ (l : SwitchLog). DropsOnly (of_slot slot l.posts) (fronted row.front) row.back.downs.items) (sym log) (((rows slot row is).answered is_told).drops tt);
+      answers = λ tell slot row is.
+          subst (λ (es : List Event). All (IsOfEnded (fronted row.front)) es) (sym (dropped_none [] row (rows slot row is).served refl)) (All-nil (IsOfEnded (fronted row.front)));
+      unposted = λ tell slot unknown. ap (λ (l : SwitchLog). of_slot slot l.posts) log;
+    };
+    asked = asked_none told (seen_log report.switch) report.slots.items log;
+    unended = unended_none told faults_of (seen_log report.switch) report.slots.items (ap (λ (l : SwitchLog). l.lines) log);
   };
-  asked = asked_none told (seen_log report.switch) report.slots.items log;
   finished = λ is. absurd (true_is_not (sym is ∙ never_served end));
-  unended = unended_none told faults_of (seen_log report.switch) report.slots.items (ap (λ (l : SwitchLog). l.lines) log);
   quiet = λ is. absurd (true_is_not (sym is ∙ never_served end));
   bad = λ why is. bad why (was_bad end why is);
 }

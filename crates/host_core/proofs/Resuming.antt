@@ -174,19 +174,19 @@ module _ {D R W : Type 0} (moment_of : D → ℕ) (left_since : D → ℕ → Li
       → (halves : Halves D) × HasBegun moment_of left_since told image faults_of limit script (contents slot) (object_at named slot) halves
       × IsRunOf moment_of left_since told image faults_of script halves (of_slot slot log.posts) (of_slot slot log.routed ++ of_slot slot (kept_in ran.kept)) core
   core_ran slot core is =
-      let begun = item_at came.all slot (omega (arith, slice_get_within ran.cores.items slot core is, so.many)) in
-      (begun.0, came.begun slot begun.0 begun.1, taken_of slot begun.0 core (so.cores slot begun.0 core begun.1 is))
+      let begun = item_at came.all slot (omega (arith, slice_get_within ran.cores.items slot core is, so.objects.many)) in
+      (begun.0, came.begun slot begun.0 begun.1, taken_of slot begun.0 core (so.objects.cores slot begun.0 core begun.1 is))
 
   half_ran : (at : ℕ) (halves : Halves D) → slice_get ran.apart.items at ≡ Some halves → (begun : Halves D)
       × (slice_get came.all (length ran.cores.items + at) ≡ Some begun)
-  half_ran at halves is = item_at came.all (length ran.cores.items + at) (omega (arith, slice_get_within ran.apart.items at halves is, so.many))
+  half_ran at halves is = item_at came.all (length ran.cores.items + at) (omega (arith, slice_get_within ran.apart.items at halves is, so.objects.many))
 
   -- The halves that weren't joined are those of objects.
   pub resumed_halves : AreHalves moment_of left_since told image faults_of limit script contents named log (length ran.cores.items) ran.apart.items
   resumed_halves = λ at halves is.
       let slot = length ran.cores.items + at in
       let begun = half_ran at halves is in
-      let of = so.apart at begun.0 halves begun.1 is in (
+      let of = so.objects.apart at begun.0 halves begun.1 is in (
         of.0,
         unused,
         unused,
@@ -237,14 +237,14 @@ module _ {D R W : Type 0} (moment_of : D → ℕ) (left_since : D → ℕ → Li
     served_by : ((slot : ℕ) (out : Both Message) → slice_get objects.outs.items slot ≡ Some out → (out.got ≡ []) × StartsWith (of_slot slot (kept_in ran.kept)) (sent_on out))
         → length objects.outs.items ≡ length objects.cores.items → Served
     served_by each many = record {
-      run = subst (λ (s : timeline.Switch). IsRunSoFar script s log) came.objects so.so_far;
+      run = subst (λ (s : timeline.Switch). IsRunSoFar script s log) came.objects so.logged.so_far;
       slots = with_queues _ many (λ slot core out is_core is_out.
           let of = core_ran slot core is_core in
           let queue = each slot out is_out in
           run_stands moment_of left_since told image faults_of limit script (contents slot) (object_at named slot) of.0 (of_slot slot log.posts) (of_slot slot log.routed)
           (of_slot slot (kept_in ran.kept)) core of.1 of.2 out queue.0 queue.1);
       there = subst (λ (n : ℕ). AreThere n log) (sym came.many)
-          (all_first (λ sent. sent.0 < length came.all) log.routed (kept_in ran.kept) so.there);
+          (all_first (λ sent. sent.0 < length came.all) log.routed (kept_in ran.kept) so.logged.there);
     }
 
     -- At any end the slots stand, whether or not what was kept is in its queue.
@@ -269,10 +269,10 @@ module _ {D R W : Type 0} (moment_of : D → ℕ) (left_since : D → ℕ → Li
     pub resumed_serves : ran.end ≡ Ok tt → KeepsMessage ran.kept (replicate (length objects.cores.items) unused) objects.outs.items
         → IsServing moment_of left_since told image faults_of limit script contents named ran.switch objects
     resumed_serves good keeps =
-        let goes = (so.goes_on good).0 in
-        let all_joined : length came.all ≡ length objects.cores.items = omega (arith, so.many, ap length (so.goes_on good).1, ap length cores) in
+        let goes = (so.ends.goes_on good).0 in
+        let all_joined : length came.all ≡ length objects.cores.items = omega (arith, so.objects.many, ap length (so.ends.goes_on good).1, ap length cores) in
         let fit : IsFitRun script (opened named) log (state_of ran.switch) =
-        subst (λ (s : timeline.Switch). IsFitRun script s log (state_of ran.switch)) came.objects (so.run goes) in
+        subst (λ (s : timeline.Switch). IsFitRun script s log (state_of ran.switch)) came.objects (so.logged.run goes) in
         record {
           run = fit_runs script (opened named) log (state_of ran.switch) fit;
           slots = with_queues _ (many_kept keeps) (λ slot core out is_core is_out.
@@ -280,8 +280,8 @@ module _ {D R W : Type 0} (moment_of : D → ℕ) (left_since : D → ℕ → Li
               let queue = kept_at keeps slot out is_out in
               run_goes moment_of left_since told image faults_of limit script (contents slot) (object_at named slot) of.0 (of_slot slot log.posts) (of_slot slot log.routed)
               (of_slot slot (kept_in ran.kept)) core of.1 of.2 out queue.0 queue.1);
-          there = subst (λ (n : ℕ). AreThere n log) all_joined (all_first (λ sent. sent.0 < length came.all) log.routed (kept_in ran.kept) so.there);
-          many = so.slots ∙ all_joined;
+          there = subst (λ (n : ℕ). AreThere n log) all_joined (all_first (λ sent. sent.0 < length came.all) log.routed (kept_in ran.kept) so.logged.there);
+          many = so.logged.slots ∙ all_joined;
           all = came.many ∙ all_joined;
           goes = goes;
           fit = λ tells. fit;

@@ -238,19 +238,25 @@ module _ {D : Type 0} (moment_of : D → ℕ) (left_since : D → ℕ → List �
     origin = slot.origin;
     begun = slot.begun;
     object = object_in limit script content named posts routed inbox out slot;
-    history = history_in limit script content named posts routed inbox out slot;
-    intake = intake_in limit script content named posts routed inbox out slot;
-    unbound = done_nothing limit script content named posts routed inbox out slot;
-    tells = tells_in limit script content named posts routed inbox out slot;
-    unwritten = unwritten_in limit script content named posts routed inbox out slot;
+    meaning = λ is_told. record {
+      history = history_in limit script content named posts routed inbox out slot is_told;
+      intake = intake_in limit script content named posts routed inbox out slot is_told;
+      unbound = done_nothing limit script content named posts routed inbox out slot is_told;
+    };
+    kept = λ is_told. record {
+      tells = tells_in limit script content named posts routed inbox out slot is_told;
+      unwritten = unwritten_in limit script content named posts routed inbox out slot is_told;
+      filled = filled_in limit script content named posts routed inbox out slot is_told;
+    };
+    answered = λ is_told. record {
+      owed = owed_in limit script content named posts routed inbox out slot is_told;
+      unended = unended_in limit script content named posts routed inbox out slot is_told;
+      drops = drops_in limit script content named posts routed inbox out slot is_told;
+      silent = silent_in limit script content named posts routed inbox out slot is_told;
+    };
     served = served_in limit script content named posts routed inbox out slot;
     routes = routes_in limit script content named posts routed inbox out slot;
-    owed = owed_in limit script content named posts routed inbox out slot;
     full = full_in limit script content named posts routed inbox out slot;
-    filled = filled_in limit script content named posts routed inbox out slot;
-    unended = unended_in limit script content named posts routed inbox out slot;
-    drops = drops_in limit script content named posts routed inbox out slot;
-    silent = silent_in limit script content named posts routed inbox out slot;
   }
 
 module _ {D : Type 0} (moment_of : D → ℕ) (left_since : D → ℕ → List ℕ → Type 0) (told : D → Option (List ℕ)) (image : D → List ℕ → Type 0) (faults_of : D → ℕ) where

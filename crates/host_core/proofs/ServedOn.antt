@@ -135,14 +135,14 @@ module _ {D R W : Type 0} (moment_of : D → ℕ) (left_since : D → ℕ → Li
       let many : length came.all ≡ length objects.outs.items =
       omega (
         arith,
-        so.many,
-        ap length (so.goes_on (was_good good)).1,
+        so.objects.many,
+        ap length (so.ends.goes_on (was_good good)).1,
         ap length resumes.cores,
         ap length resumes.outs ∙ length-replicate (length objects.cores.items) unused,
       ) in
       subst (λ (n : ℕ). All (λ (sent : ℕ × Message). sent.0 < n) (kept_in kept)) many
       (subst (λ (k : Option (ℕ × Message)). All (λ (sent : ℕ × Message). sent.0 < length came.all) (kept_in k)) resumes.kept_is
-      (all_last (λ (sent : ℕ × Message). sent.0 < length came.all) (log_of ran.switch).routed (kept_in ran.kept) so.there))
+      (all_last (λ (sent : ℕ × Message). sent.0 < length came.all) (log_of ran.switch).routed (kept_in ran.kept) so.logged.there))
 
   -- The run serves, once what was kept is put in.
   pub serves_now : (later : Objects D) → end ≡ Ok tt → later.cores ≡ objects.cores → later.inboxes ≡ objects.inboxes
@@ -160,45 +160,45 @@ module _ {D R W : Type 0} (moment_of : D → ℕ) (left_since : D → ℕ → Li
 
   -- ---- the lines
   -- Those that wait stand behind those that were accepted.
-  rest_now : end ≡ Ok tt → map seen_line so.sent ≡ with_rest (log_of switch).accepted rest
-  rest_now good = so.rest (was_good good) ∙ ap (λ (s : Switch W). (log_of s).accepted ++ map seen_line ran.rest.waiting) resumes.switch_is
+  rest_now : end ≡ Ok tt → map seen_line so.reading.sent ≡ with_rest (log_of switch).accepted rest
+  rest_now good = so.reading.rest (was_good good) ∙ ap (λ (s : Switch W). (log_of s).accepted ++ map seen_line ran.rest.waiting) resumes.switch_is
       ∙ ap (λ (queue : Both read.Line). (log_of switch).accepted ++ map seen_line queue.waiting) resumes.rest_is
 
   -- They are in order.
   pub order_now : end ≡ Ok tt → AreInOrder (with_rest (log_of switch).accepted rest)
-  order_now good = subst AreInOrder (rest_now good) so.order
+  order_now good = subst AreInOrder (rest_now good) so.reading.order
 
   -- None has a number above the count of those that were read.
   pub below_now : end ≡ Ok tt → AreUpTo (count_of lines) (with_rest (log_of switch).accepted rest)
   below_now good = subst (λ (ls : Lines R). AreUpTo (count_of ls) (with_rest (log_of switch).accepted rest)) resumes.lines_are
-      (subst (AreUpTo (count_of ran.lines)) (rest_now good) so.below)
+      (subst (AreUpTo (count_of ran.lines)) (rest_now good) so.reading.below)
 
   -- The source's count of faults went on from where it was before the workers.
   pub counted_now : HasCounted read_faults (read_faults (source_of came.lines)) lines
-  counted_now = subst (λ (ls : Lines R). HasCounted read_faults (read_faults (source_of came.lines)) ls) resumes.lines_are so.counted
+  counted_now = subst (λ (ls : Lines R). HasCounted read_faults (read_faults (source_of came.lines)) ls) resumes.lines_are so.reading.counted
 
   module _ (whole : List ℕ) (reading : IsReading left whole [] came.lines) where
-    abbrev passed : HasPassedOn left whole (map seen so.sent) (ran.end ≡ Ok tt) ran.lines
-    passed = so.reads whole reading
+    abbrev passed : HasPassedOn left whole (map seen so.reading.sent) (ran.end ≡ Ok tt) ran.lines
+    passed = so.reading.reads whole reading
 
     -- Where nothing stopped the workers, those that were accepted and those that wait are what the reader gave.
     pub has_read_now : end ≡ Ok tt → HasRead left whole (read_lines (with_rest (log_of switch).accepted rest)) lines
     has_read_now good =
-        let given : map seen so.sent ++ passed.lost ≡ read_lines (with_rest (log_of switch).accepted rest) =
-        ap (λ (ls : List SeenLine). map seen so.sent ++ ls) (passed.none_lost (was_good good)) ∙ append-nil (map seen so.sent)
-        ∙ sym (read_sent so.sent) ∙ ap read_lines (rest_now good) in
-        let all : HasRead left whole (map seen so.sent ++ passed.lost) ran.lines = record { goes = passed.goes; first = passed.first; looked = passed.looked; exact = passed.exact } in
+        let given : map seen so.reading.sent ++ passed.lost ≡ read_lines (with_rest (log_of switch).accepted rest) =
+        ap (λ (ls : List SeenLine). map seen so.reading.sent ++ ls) (passed.none_lost (was_good good)) ∙ append-nil (map seen so.reading.sent)
+        ∙ sym (read_sent so.reading.sent) ∙ ap read_lines (rest_now good) in
+        let all : HasRead left whole (map seen so.reading.sent ++ passed.lost) ran.lines = record { goes = passed.goes; first = passed.first; looked = passed.looked; exact = passed.exact } in
         subst (λ (ls : Lines R). HasRead left whole (read_lines (with_rest (log_of switch).accepted rest)) ls) resumes.lines_are
-        (has_read_as left whole ran.lines (map seen so.sent ++ passed.lost) (read_lines (with_rest (log_of switch).accepted rest)) (sym given) all)
+        (has_read_as left whole ran.lines (map seen so.reading.sent ++ passed.lost) (read_lines (with_rest (log_of switch).accepted rest)) (sym given) all)
 
     -- At any end the accepted ones are the first of what it gave.
     accepts_ran : Accepts whole (left (source_of ran.lines)) (log_of ran.switch).accepted (count_of ran.lines)
     accepts_ran =
-        let back = read_lines so.accepted.0 in
-        let split : map seen so.sent ++ passed.lost ≡ read_lines (log_of ran.switch).accepted ++ (back ++ passed.lost) =
-        ap (λ (ls : List SeenLine). ls ++ passed.lost) (sym (read_sent so.sent) ∙ ap read_lines so.accepted.1 ∙ map-append read_line (log_of ran.switch).accepted so.accepted.0)
+        let back = read_lines so.reading.accepted.0 in
+        let split : map seen so.reading.sent ++ passed.lost ≡ read_lines (log_of ran.switch).accepted ++ (back ++ passed.lost) =
+        ap (λ (ls : List SeenLine). ls ++ passed.lost) (sym (read_sent so.reading.sent) ∙ ap read_lines so.reading.accepted.1 ∙ map-append read_line (log_of ran.switch).accepted so.reading.accepted.0)
         ∙ append_assoc (read_lines (log_of ran.switch).accepted) back passed.lost in
-        accepts_given left whole ran.lines (map seen so.sent ++ passed.lost) (log_of ran.switch).accepted (back ++ passed.lost) (most_at (line_fault ran.lines)) split
+        accepts_given left whole ran.lines (map seen so.reading.sent ++ passed.lost) (log_of ran.switch).accepted (back ++ passed.lost) (most_at (line_fault ran.lines)) split
         passed.first passed.looked
 
     -- So by the switch and the reader as they are called now.
@@ -231,15 +231,15 @@ module _ {D R W : Type 0} (moment_of : D → ℕ) (left_since : D → ℕ → Li
       → ServesOn moment_of left_since told image faults_of left read_faults taken write_faults limit script contents named came.switch came.lines lines switch objects
       (stopped (switch_stop f))
   stops_at_fault f is = stops_here (switch_stop f) (no_read_stop f)
-      (printed_fault taken write_faults came.switch ran.switch (no_lines came.switch came.blank) so.printed f
-      (λ failed. so.write_failed (resumes.end_is ∙ is ∙ failed)) (λ failed. sym is ∙ sym resumes.end_is ∙ so.failed_write failed))
+      (printed_fault taken write_faults came.switch ran.switch (no_lines came.switch came.blank) so.logged.printed f
+      (λ failed. so.ends.write_failed (resumes.end_is ∙ is ∙ failed)) (λ failed. sym is ∙ sym resumes.end_is ∙ so.ends.failed_write failed))
 
   -- Memory was wanting for what was kept.
   pub stops_unkept : end ≡ Ok tt
       → ServesOn moment_of left_since told image faults_of left read_faults taken write_faults limit script contents named came.switch came.lines lines switch objects
       (stopped stops.NoMemory)
   stops_unkept good = stops_here stops.NoMemory (no_read_stop fault.NoMemory)
-      (printed_so_far taken write_faults came.switch ran.switch (no_lines came.switch came.blank) so.printed (stopped stops.NoMemory) (so.goes_on (was_good good)).0
+      (printed_so_far taken write_faults came.switch ran.switch (no_lines came.switch came.blank) so.logged.printed (stopped stops.NoMemory) (so.ends.goes_on (was_good good)).0
       no_write_memory)
 
   -- ---- where it serves on
@@ -277,7 +277,7 @@ module _ {D R W : Type 0} (moment_of : D → ℕ) (left_since : D → ℕ → Li
     all = on_ok_weaker result (λ all whole is. all whole (has_read_now whole (came.reading whole is) good)) goes.all;
     read_all = λ failed whole is. goes.read_all failed whole (has_read_now whole (came.reading whole is) good);
     prints = printed_then taken write_faults came.switch switch (no_lines came.switch came.blank)
-        (subst (λ (s : Switch W). HasPrinted taken write_faults (taken (out_of came.switch)) (write_faults (out_of came.switch)) s) resumes.switch_is so.printed)
-        new_switch result (ap (λ (s : Switch W). fault_of s) (sym resumes.switch_is) ∙ (so.goes_on (was_good good)).0) goes.prints;
+        (subst (λ (s : Switch W). HasPrinted taken write_faults (taken (out_of came.switch)) (write_faults (out_of came.switch)) s) resumes.switch_is so.logged.printed)
+        new_switch result (ap (λ (s : Switch W). fault_of s) (sym resumes.switch_is) ∙ (so.ends.goes_on (was_good good)).0) goes.prints;
     read_failed = λ failed. goes.read_failed failed (read_faults (source_of came.lines)) counted_now;
   }

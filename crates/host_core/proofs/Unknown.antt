@@ -134,7 +134,7 @@ module _ {S : Type 0} (moment_of : S → ℕ) (left_since : S → ℕ → List �
           (λ less.
           let row = item_at rows slot less in
           let tells = are slot row.0 row.1 in
-          asks_none (of_slot slot log.routed) (messages row.0.back.released.items) tells.routes (tells.silent (tell slot row.0 row.1) unknown (posts_alone run)))
+          asks_none (of_slot slot log.routed) (messages row.0.back.released.items) tells.routes ((tells.answered (tell slot row.0 row.1)).silent unknown (posts_alone run)))
           (λ behind. ap asked_in (of_behind (length rows) slot log.routed behind there))
           (cases_lt slot (length rows))
 

@@ -59,26 +59,32 @@ pub record IsFinished {S : Type 0} (told : S → Option (List ℕ)) (limit : ℕ
   pub calls : AreCallsInOrder after rows
   pub once : AreCallsAnswered told before log after left rows
 
--- The report has the one actual history. The slots had these objects at the opening, each in one slot. Each row tells of its slot; the
--- switch's log is that of a run; each message that was routed came from a slot of a row; and no call that was posted was dropped. Each slot's journal
--- may have so many bytes.
-pub record IsReport {S : Type 0} (moment_of : S → ℕ) (left_since : S → ℕ → List ℕ → Type 0) (told : S → Option (List ℕ)) (faults_of : S → ℕ)
-    (limit : ℕ) (script : Script) (contents : ℕ → Option (List ℕ)) (slots : ℕ) (end : ServeEnd) (report : Report S) : Type 0 where
-  pub named : Slots
+-- The slots had these objects at the opening, each in one slot; and the rows are those of the first of them.
+pub record AreNamed {S : Type 0} (slots : ℕ) (named : Slots) (report : Report S) : Type 0 where
   pub many : length named ≡ slots
   pub one_each : IsOneEach named
-  pub rows : AreRows moment_of left_since told faults_of limit script contents named (seen_log report.switch) report.slots.items
   pub within : length report.slots.items ≤ slots
+
+-- The switch's log is that of a run; each message that was routed came from a slot of a row; no call that was posted was dropped; nobody was asked
+-- or answered twice; and where nothing was the cause of an end, no line says `Reset` or `Down`.
+pub record HasSwitched {S : Type 0} (told : S → Option (List ℕ)) (faults_of : S → ℕ) (script : Script) (named : Slots) (report : Report S) : Type 0 where
   pub run : IsRunSoFar script (opened named) (seen_log report.switch)
   pub there : AreThere (length report.slots.items) (seen_log report.switch)
   pub drops : AreDropsOnly told script named (seen_log report.switch) report.slots.items
   pub asked : AreAskedOnce told (seen_log report.switch) report.slots.items
-  pub finished : is_served end ≡ true → IsFinished told limit script contents named (seen_log report.switch) report.slots.items
-  -- where all was served that was read, nothing is held back
-  pub quiet : is_served end ≡ true → AreLetGo told script named (seen_log report.switch) report.slots.items
-  -- where nothing was the cause of an end, no line says `Reset` or `Down`
   pub unended : AreUnended told faults_of (seen_log report.switch) report.slots.items
-  -- why a slot is bad, which is the one behind those that were mounted
+
+-- The report has the one actual history: the slots had these objects, each row tells of its slot, and the switch's log tells of the lines and
+-- messages. Where all was served that was read, it is whole, and nothing is held back. A bad slot is the one behind those that were mounted. Each
+-- slot's journal may have so many bytes.
+pub record IsReport {S : Type 0} (moment_of : S → ℕ) (left_since : S → ℕ → List ℕ → Type 0) (told : S → Option (List ℕ)) (faults_of : S → ℕ)
+    (limit : ℕ) (script : Script) (contents : ℕ → Option (List ℕ)) (slots : ℕ) (end : ServeEnd) (report : Report S) : Type 0 where
+  pub named : Slots
+  pub objects : AreNamed slots named report
+  pub rows : AreRows moment_of left_since told faults_of limit script contents named (seen_log report.switch) report.slots.items
+  pub switched : HasSwitched told faults_of script named report
+  pub finished : is_served end ≡ true → IsFinished told limit script contents named (seen_log report.switch) report.slots.items
+  pub quiet : is_served end ≡ true → AreLetGo told script named (seen_log report.switch) report.slots.items
   pub bad : (bad : Bad) → end ≡ ends.BadSlot bad → IsBad contents named (length report.slots.items) bad
 
 -- The lines that were read and accepted, from what the source had left before and what it has after.

@@ -56,39 +56,49 @@ pub record AreServed {S : Type 0} (posts : List Event) (row : SlotReport S) : Ty
 abbrev pub RecoversAsOpened : {S : Type 0} (left_since : S → ℕ → List ℕ → Type 0) → Origin → SlotReport S → Type 0
 RecoversAsOpened left_since origin row = (c : List ℕ) → left_since row.store origin.opening c → RecoversTo row.identity origin.start c
 
+-- What the object said is what its script tells over the delivered events, each incarnation over the map with which it starts, and events were
+-- delivered through the input gate. As long as none of the delivered events gave it a class, it has done nothing.
+pub record HasMeaning {S : Type 0} (script : Script) (named : Option Object) (origin : Origin) (row : SlotReport S) : Type 0 where
+  pub history : (class : ℕ) → IsClass (class_by script (class_in script named) (fronted row.front)) class
+      → IsHistory script class (opened_map origin.start) (fronted row.front) (backed row.back)
+  pub intake : (class : ℕ) → IsClass (class_by script (class_in script named) (fronted row.front)) class
+      → HasIntake script class (opened_map origin.start) (fronted row.front)
+  pub unbound : class_by script (class_in script named) (fronted row.front) ≡ None → HasDoneNothing (fronted row.front) (backed row.back)
+
+-- What a crash leaves, now or at any moment since the opening, recovers to a prefix of the object's whole batches, which since a release holds
+-- what the release needs, and where nothing was taken to what it recovered to at the opening. At an end by a full journal the frame of what was
+-- taken and had not flown would have passed the limit, and the end tells the bytes that were needed.
+pub record HasKept {S : Type 0} (moment_of : S → ℕ) (left_since : S → ℕ → List ℕ → Type 0) (faults_of : S → ℕ) (limit : ℕ) (origin : Origin)
+    (row : SlotReport S) : Type 0 where
+  pub tells : HasTold moment_of left_since faults_of row.identity origin.start origin.opening (fronted row.front) row.store (backed row.back)
+  pub unwritten : (backed row.back).taken ≡ [] → RecoversAsOpened left_since origin row
+  pub filled : (object : Object) → MayBe row.identity object
+      → AreFilled limit origin.extent.end object (logged (fronted row.front) (backed row.back))
+
+-- Nobody was replied to more often than he called, and each call and fetch that left was sent; where no incarnation has stopped, no message that
+-- left tells of an end; where what was posted fits, no call and no binding of it was dropped; and an object of no class of the script, to which
+-- nothing but answers was posted, asked nothing.
+pub record HasAnswered {S : Type 0} (script : Script) (named : Option Object) (posts : List Event) (row : SlotReport S) : Type 0 where
+  pub owed : IsOwed (fronted row.front) (messages row.back.released.items)
+  pub unended : (backed row.back).stops ≡ [] → TellNoEnd (messages row.back.released.items)
+  pub drops : AreFitting script (class_in script named) posts → DropsOnly posts (fronted row.front) row.back.downs.items
+  pub silent : IsOfNoClass script named → AreAnswers posts → asked_in (messages row.back.released.items) ≡ []
+
 -- What one row tells of its slot, whose file had this content, to which these events were posted, and from which these messages were routed.
--- While its disk tells its content: what the object said is what its script tells over the delivered events, each incarnation over the map
--- with which it starts, and events were delivered through the input gate; as long as none of the delivered events gave it a class, it has done
--- nothing; what a crash leaves, now or at any moment since the opening, recovers to a prefix of its whole batches, which since a release
--- holds what the release needs, and where nothing was taken to what it recovered to at the opening; nobody was replied to more often than he
--- called, and each call and fetch that left was sent; where no incarnation has stopped, no message that left tells of an end; at an end by a
--- full journal the frame of what was taken and had not flown would have passed the limit, and the end tells the bytes that were needed; where
--- what was posted fits, no call and no binding of it was dropped; and an object of no class of the script, to which nothing but answers was
--- posted, asked nothing. Over any disk: an end by a full journal names this number of bytes, and tells more than these.
+-- While its disk tells its content, the object did what its script says, its storage is kept, and it answered whom it had to. Over any disk an
+-- end by a full journal names this number of bytes, and tells more than these.
 pub record IsRow {S : Type 0} (moment_of : S → ℕ) (left_since : S → ℕ → List ℕ → Type 0) (told : S → Option (List ℕ)) (faults_of : S → ℕ)
     (limit : ℕ) (script : Script) (content : Option (List ℕ)) (named : Option Object) (posts : List Event) (routed : List Message)
     (row : SlotReport S) : Type 0 where
   pub origin : Origin
   pub begun : IsBegun limit content named origin
   pub object : IsObjectIn named row
-  pub history : IsTold (told row.store) → (class : ℕ) → IsClass (class_by script (class_in script named) (fronted row.front)) class
-      → IsHistory script class (opened_map origin.start) (fronted row.front) (backed row.back)
-  pub intake : IsTold (told row.store) → (class : ℕ) → IsClass (class_by script (class_in script named) (fronted row.front)) class
-      → HasIntake script class (opened_map origin.start) (fronted row.front)
-  pub unbound : IsTold (told row.store) → class_by script (class_in script named) (fronted row.front) ≡ None
-      → HasDoneNothing (fronted row.front) (backed row.back)
-  pub tells : IsTold (told row.store)
-      → HasTold moment_of left_since faults_of row.identity origin.start origin.opening (fronted row.front) row.store (backed row.back)
-  pub unwritten : IsTold (told row.store) → (backed row.back).taken ≡ [] → RecoversAsOpened left_since origin row
+  pub meaning : IsTold (told row.store) → HasMeaning script named origin row
+  pub kept : IsTold (told row.store) → HasKept moment_of left_since faults_of limit origin row
+  pub answered : IsTold (told row.store) → HasAnswered script named posts row
   pub served : AreServed posts row
   pub routes : IsPrefix routed (messages row.back.released.items)
-  pub owed : IsTold (told row.store) → IsOwed (fronted row.front) (messages row.back.released.items)
-  pub unended : IsTold (told row.store) → (backed row.back).stops ≡ [] → TellNoEnd (messages row.back.released.items)
   pub full : (stop : Stop) → Contains (backed row.back).stops stop → IsFullAt limit stop.cause
-  pub filled : IsTold (told row.store) → (object : Object) → MayBe row.identity object
-      → AreFilled limit origin.extent.end object (logged (fronted row.front) (backed row.back))
-  pub drops : IsTold (told row.store) → AreFitting script (class_in script named) posts → DropsOnly posts (fronted row.front) row.back.downs.items
-  pub silent : IsTold (told row.store) → IsOfNoClass script named → AreAnswers posts → asked_in (messages row.back.released.items) ≡ []
 
 -- Each row tells this of its own slot.
 abbrev pub AreRows : {S : Type 0} (moment_of : S → ℕ) (left_since : S → ℕ → List ℕ → Type 0) (told : S → Option (List ℕ)) (faults_of : S → ℕ)

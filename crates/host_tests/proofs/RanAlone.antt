@@ -41,6 +41,6 @@ module _ {D : Type 0} (moment_of : D → ℕ) (left_since : D → ℕ → List �
       → All (CanRun moment_of left_since told image faults_of script) ran.cores.items
   can_run_on left read_faults taken write_faults slots switch lines ran fresh run =
       all_at (CanRun moment_of left_since told image faults_of script) ran.cores.items (λ slot core is.
-      let there = there_too slots ran.cores.items (length ran.apart.items) slot core run.many is in
+      let there = there_too slots ran.cores.items (length ran.apart.items) slot core run.objects.many is in
       let mounted = (fresh slot there.0 there.1).some in
-      (mounted_at mounted.0 mounted.1 there.0.back, (run.cores slot there.0 core there.1 is).one mounted.0 mounted.1 mounted.2))
+      (mounted_at mounted.0 mounted.1 there.0.back, (run.objects.cores slot there.0 core there.1 is).one mounted.0 mounted.1 mounted.2))

@@ -152,25 +152,33 @@ module _ {D R W T : Type 0} (moment_of : D → ℕ) (left_since : D → ℕ → 
       as_run : HasRun moment_of left_since told image faults_of left read_faults taken write_faults script all switch lines
           (record ran { switch = w.switch_cell.switch; kept = w.switch_cell.kept; lines = w.lines_cell.lines })
       as_run = record {
-        many = many_of;
-        cores = each_core;
-        apart = each_apart;
-        there = all_there;
-        slots = sym is_switch.each_out ∙ w.each_out;
-        so_far = is_switch.so_far;
-        run = is_switch.run;
-        printed = w.printed;
-        counted = w.counted;
-        sent = w.lines_cell.send.sent;
-        accepted = starts_with seen_line w.lines_cell.send.sent w.switch_cell.lines.got (log_of w.switch_cell.switch).accepted is_switch.lost closed.first is_switch.accepted;
-        rest = λ ok. goes_on_with seen_line w.lines_cell.send.sent w.switch_cell.lines.got ran.rest.waiting (log_of w.switch_cell.switch).accepted is_switch.lost
-            (closed.passed ok).1 is_switch.accepted (is_switch.none_lost (closed.free ok));
-        order = w.numbered.order;
-        below = w.numbered.below;
-        reads = passed_on;
-        goes_on = λ ok. (closed.free ok, closed.whole ok);
-        write_failed = closed.failed;
-        failed_write = closed.fails;
+        objects = record {
+          many = many_of;
+          cores = each_core;
+          apart = each_apart;
+        };
+        logged = record {
+          there = all_there;
+          slots = sym is_switch.each_out ∙ w.each_out;
+          so_far = is_switch.so_far;
+          run = is_switch.run;
+          printed = w.printed;
+        };
+        reading = record {
+          sent = w.lines_cell.send.sent;
+          counted = w.counted;
+          accepted = starts_with seen_line w.lines_cell.send.sent w.switch_cell.lines.got (log_of w.switch_cell.switch).accepted is_switch.lost closed.first is_switch.accepted;
+          rest = λ ok. goes_on_with seen_line w.lines_cell.send.sent w.switch_cell.lines.got ran.rest.waiting (log_of w.switch_cell.switch).accepted is_switch.lost
+              (closed.passed ok).1 is_switch.accepted (is_switch.none_lost (closed.free ok));
+          order = w.numbered.order;
+          below = w.numbered.below;
+          reads = passed_on;
+        };
+        ends = record {
+          goes_on = λ ok. (closed.free ok, closed.whole ok);
+          write_failed = closed.failed;
+          failed_write = closed.fails;
+        };
       }
 
       -- and so is what is the same.

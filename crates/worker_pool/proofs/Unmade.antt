@@ -108,23 +108,31 @@ module _ {D : Type 0} (moment_of : D → ℕ) (left_since : D → ℕ → List �
     -- what is left is a run that did nothing
     pub unmade_run : HasRun moment_of left_since told image faults_of left read_faults taken write_faults script ran.apart.items ran.switch ran.lines ran
     unmade_run = record {
-      many = let zero : length ran.cores.items ≡ 0 = ap (λ (l : List (Core D)). length l) none in omega (arith, zero);
-      cores = λ slot begun core begun_at there. absurd (no_core slot core there);
-      apart = are_apart;
-      there = subst (λ (l : List (ℕ × Message)). All (λ (sent : ℕ × Message). sent.0 < length ran.apart.items) l) (sym none_routed)
-          (All-nil (λ (sent : ℕ × Message). sent.0 < length ran.apart.items));
-      slots = fresh_switch.many;
-      so_far = subst (λ (l : timeline.SwitchLog). IsRunSoFar script (state_of ran.switch) l) (sym fresh_switch.log) (whole_run (state_of ran.switch) timeline.begins);
-      run = λ goes. subst (λ (l : timeline.SwitchLog). IsFitRun script (state_of ran.switch) l (state_of ran.switch)) (sym fresh_switch.log) begins_fit;
-      printed = begins_printed taken write_faults ran.switch fresh_switch.log fresh_switch.free;
-      counted = begins_counted read_faults ran.lines fresh_lines.free;
-      sent = [];
-      accepted = ([], sym (ap (λ (l : timeline.SwitchLog). l.accepted ++ []) fresh_switch.log));
-      rest = λ ended. absurd (not_ended ended);
-      order = tt;
-      below = tt;
-      reads = reads_none;
-      goes_on = λ ended. absurd (not_ended ended);
-      write_failed = λ failed. let no : Err NoMemory ≡ Err WriteFailed = sym end ∙ failed in absurd cc;
-      failed_write = λ failed. let no : None ≡ Some WriteFailed = sym fresh_switch.free ∙ failed in absurd cc;
+      objects = record {
+        many = let zero : length ran.cores.items ≡ 0 = ap (λ (l : List (Core D)). length l) none in omega (arith, zero);
+        cores = λ slot begun core begun_at there. absurd (no_core slot core there);
+        apart = are_apart;
+      };
+      logged = record {
+        there = subst (λ (l : List (ℕ × Message)). All (λ (sent : ℕ × Message). sent.0 < length ran.apart.items) l) (sym none_routed)
+            (All-nil (λ (sent : ℕ × Message). sent.0 < length ran.apart.items));
+        slots = fresh_switch.many;
+        so_far = subst (λ (l : timeline.SwitchLog). IsRunSoFar script (state_of ran.switch) l) (sym fresh_switch.log) (whole_run (state_of ran.switch) timeline.begins);
+        run = λ goes. subst (λ (l : timeline.SwitchLog). IsFitRun script (state_of ran.switch) l (state_of ran.switch)) (sym fresh_switch.log) begins_fit;
+        printed = begins_printed taken write_faults ran.switch fresh_switch.log fresh_switch.free;
+      };
+      reading = record {
+        sent = [];
+        counted = begins_counted read_faults ran.lines fresh_lines.free;
+        accepted = ([], sym (ap (λ (l : timeline.SwitchLog). l.accepted ++ []) fresh_switch.log));
+        rest = λ ended. absurd (not_ended ended);
+        order = tt;
+        below = tt;
+        reads = reads_none;
+      };
+      ends = record {
+        goes_on = λ ended. absurd (not_ended ended);
+        write_failed = λ failed. let no : Err NoMemory ≡ Err WriteFailed = sym end ∙ failed in absurd cc;
+        failed_write = λ failed. let no : None ≡ Some WriteFailed = sym fresh_switch.free ∙ failed in absurd cc;
+      };
     }

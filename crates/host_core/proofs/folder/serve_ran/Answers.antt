@@ -35,7 +35,7 @@ close-closed-requires-clause-can g c = ((tree_of c.args.checked.now), c.serve_on
 pub close-closed-requires-clause-few : goal.close-closed-requires-clause-few
 close-closed-requires-clause-few g c =
     let came = c.requires.came.3 in
-    omega (arith, came.few, came.ran_so.many, c.serve_on-served.ensures.many, ap (λ (v : Vec (Core g.row.D.Denot) Global). length v.items) c.of-objects.ensures.cores)
+    omega (arith, came.few, came.ran_so.objects.many, c.serve_on-served.ensures.many, ap (λ (v : Vec (Core g.row.D.Denot) Global). length v.items) c.of-objects.ensures.cores)
 
 pub close_apart-requires-clause-room : goal.close_apart-requires-clause-room
 close_apart-requires-clause-room g c =
@@ -91,7 +91,7 @@ returns-clause-report g c = λ limit contents named one_each came.
     (c.close_apart.ensures.rows limit (tree_of c.args.checked.now) contents named (log_of c.serve_on-served.new.switch)
     (halves_now g.D.Disk.moment_of g.D.Disk.left_since g.D.Disk.told g.D.Disk.image g.D.Disk.faults_of limit (tree_of c.args.checked.now) contents named g.R.Source.left g.R.Source.faults_of g.W.Sink.taken g.W.Sink.faults_of c.args.ran came c.serve_on-served.result c.serve_on-served.new.switch c.serve_on-served.ensures.stops (length first) many)
     (c.close-closed.ensures.rows limit (tree_of c.args.checked.now) contents named (log_of c.serve_on-served.new.switch) on.served.slots))
-    (c.close_apart.ensures.many ∙ omega (arith, many, came.ran_so.many, came.many)) one_each c.finish-end.ensures.late
+    (c.close_apart.ensures.many ∙ omega (arith, many, came.ran_so.objects.many, came.many)) one_each c.finish-end.ensures.late
     (record {
       asked = c.answers_are_asked.ensures;
       order = c.calls_come_in_order.ensures;

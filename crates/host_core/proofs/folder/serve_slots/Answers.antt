@@ -27,7 +27,7 @@ run_workers-ran-requires-clause-lines g c = λ _ _.
 
 pub serve_ran-requires-clause-room : goal.serve_ran-requires-clause-room
 serve_ran-requires-clause-room g c =
-    let many = c.run_workers-ran.ensures.many in
+    let many = c.run_workers-ran.ensures.objects.many in
     let room = c.requires.room in
     (omega (arith, room.0, many), record { inboxes = omega (arith, room.1.inboxes, many); outs = omega (arith, room.1.outs, many) })
 
@@ -50,7 +50,7 @@ returns-clause-report g c = λ limit contents one_each begun.
     begun c.requires.many c.requires.few c.new-switch.ensures.state c.new-switch.ensures.log c.new-lines.ensures.source c.new-lines.ensures.reading c.run_workers-ran.ensures)
 
 pub returns-clause-many : goal.returns-clause-many
-returns-clause-many g c = c.serve_ran.ensures.many ∙ c.run_workers-ran.ensures.many
+returns-clause-many g c = c.serve_ran.ensures.many ∙ c.run_workers-ran.ensures.objects.many
 
 pub returns-clause-lines : goal.returns-clause-lines
 returns-clause-lines g c =

@@ -3,7 +3,7 @@ use Rattle.batch_journal.proofs.Nameless.{marker_at_most}
 use Rattle.batch_journal.specs.Frames.{header_end}
 use Rattle.storage_map.specs.Limits.{Object}
 use Rattle.timeline.specs.History.{history}
-use Rattle.timeline.specs.Logs.{Backed, fronted, backed}
+use Rattle.timeline.specs.Logs.{Backed, fronted}
 use Rattle.output_gate.proofs.Unfilled.{fills_nothing}
 use Rattle.output_gate.specs.Examples.{some_object}
 use Rattle.output_gate.specs.Kept.{MayBe}
@@ -16,4 +16,4 @@ returns g c script content posts routed row is_told is named row_is =
     let short : row_is.origin.extent.end ≤ header_end + 45 = omega (arith, row_is.begun.end, few) in
     let may : MayBe row.identity some_object = subst (λ (o : Option Object). MayBe o some_object) (sym named) refl in
     fills_nothing (fronted row.front) row_is.origin.extent.end short
-    (subst (λ (log : Backed). AreFilled 4096 row_is.origin.extent.end some_object (history (fronted row.front) log)) is (row_is.filled is_told some_object may))
+    (subst (λ (log : Backed). AreFilled 4096 row_is.origin.extent.end some_object (history (fronted row.front) log)) is ((row_is.kept is_told).filled some_object may))
