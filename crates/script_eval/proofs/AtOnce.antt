@@ -14,12 +14,12 @@ use Rattle.script_steps.specs.declared.focus.Move.{Move}
 use Rattle.script_steps.specs.declared.focus.Move.TheVariants as move
 use Rattle.script_steps.specs.declared.focus.Outcome.{Outcome}
 use Rattle.script_vars.specs.Seen.{env_of}
-use Rattle.script_eval.proofs.Charged.{charged_exceeds, charged_takes}
+use Rattle.script_paths.proofs.Charged.{charged_exceeds, charged_takes}
 use Rattle.script_eval.specs.Acts.{Changes}
 use Rattle.script_eval.specs.Charging.{Charges}
 use Rattle.script_eval.specs.Leads as leads
 use Rattle.script_eval.specs.Leads.{Leads}
-use Rattle.script_eval.specs.Machines.{Applies, Finishes, GoesOnBelow, LeadsTo, Steps, StepsFrom, calls_in, leads_of, next_in, to_go}
+use Rattle.script_eval.specs.Machines.{Applies, Finishes, GoesOnBelow, Steps, StepsFrom, calls_in, leads_of, next_in, to_go}
 use Rattle.script_eval.specs.declared.act.Act.TheVariants as act
 use Rattle.script_eval.specs.declared.machine.Machine.{Machine}
 use Rattle.script_eval.specs.declared.machine.Progress.{Progress}

@@ -1,6 +1,6 @@
--- Steps that are charged, and steps that are left.
-use Rattle.std.proofs.Common.{◌≡◌, ℕ, zero, suc, ◌-◌, ◌<◌, ◌≤◌, nat_le, Bool, true, false, List, [], ◌∷◌, refl, sym, ap, ◌∙◌, arith}
-use Rattle.std.proofs.lemmas.Bool.{leb-true, le-leb, lt-leb}
+-- Steps that are left.
+use Rattle.std.proofs.Common.{◌≡◌, suc, ◌≤◌, nat_le, Bool, true, false, List, [], ◌∷◌, refl, sym, ap, ◌∙◌, arith}
+use Rattle.std.proofs.lemmas.Bool.{leb-true, le-leb}
 use Rattle.std.proofs.lemmas.List.{append-nil}
 use Rattle.script_mean.proofs.Keeps.{NextKeeps, PartKeeps, grow}
 use Rattle.script_mean.proofs.Loops.{same_turns}
@@ -11,23 +11,8 @@ use Rattle.script_mean.specs.Turn.{Next, Run, budget, either, exceed, on_value, 
 use Rattle.script_state.specs.Ends.{Goes}
 use Rattle.script_state.specs.Seen.{state_of}
 use Rattle.script_state.specs.declared.state.State.{State}
-use Rattle.script_steps.specs.Seen.{charged}
 use Rattle.script_steps.specs.declared.focus.Outcome.{Outcome as Ending}
 use Rattle.script_vars.specs.Seen.{env_of}
-
--- Steps that are left are taken.
-pub charged_takes : (n : ℕ) (part : Run) (env : Env) (next : Next) (st : turn.State) → n ≤ st.left
-    → charged n part env next st ≡ part env next (record st { left = st.left - n })
-charged_takes zero part env next st h = let same : st.left ≡ st.left - 0 = omega arith in ap (λ k. part env next (record st { left = k })) same
-charged_takes (suc n) part env next st h =
-    ap (λ b. either b pass exceed env (on_value (λ _. part) next) (record st { left = st.left - suc n })) (le-leb (suc n) st.left h)
-
--- More steps than are left end the turn.
-pub charged_exceeds : (n : ℕ) (part : Run) (env : Env) (next : Next) (st : turn.State) → st.left < n
-    → charged n part env next st ≡ task.exceeded st.closed ∷ []
-charged_exceeds zero part env next st h = absurd (omega (arith, h))
-charged_exceeds (suc n) part env next st h =
-    ap (λ b. either b pass exceed env (on_value (λ _. part) next) (record st { left = st.left - suc n })) (lt-leb (suc n) st.left h)
 
 -- One turn or none.
 shut : Bool → List Segment

@@ -37,7 +37,8 @@ use Rattle.script_steps.specs.declared.path.Await.{Await}
 use Rattle.script_steps.specs.declared.path.Root.{Root}
 use Rattle.script_vars.specs.Seen.{env_of}
 use Rattle.script_vars.specs.declared.bound.Bound.{Bound}
-use Rattle.script_eval.proofs.Charged.{charged_exceeds, charged_takes, left_kept}
+use Rattle.script_eval.proofs.Charged.{left_kept}
+use Rattle.script_paths.proofs.Charged.{charged_exceeds, charged_takes}
 use Rattle.script_eval.specs.Acts.{Changes, IsLess, Unfolds}
 use Rattle.script_eval.specs.Machines.{Reads}
 use Rattle.script_eval.specs.declared.act.Act.TheVariants as act

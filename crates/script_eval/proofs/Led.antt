@@ -41,7 +41,7 @@ use Rattle.script_steps.specs.declared.path.PathFrame.{PathFrame}
 use Rattle.script_steps.specs.declared.path.PathFrame.TheVariants as path
 use Rattle.script_vars.specs.Seen.{env_of}
 use Rattle.script_vars.specs.declared.bound.Bound.{Bound}
-use Rattle.script_eval.proofs.Charged.{charged_exceeds, charged_takes}
+use Rattle.script_paths.proofs.Charged.{charged_exceeds, charged_takes}
 use Rattle.script_eval.specs.Acts.{Acts, IsLess, IsReadyAct, act_turns}
 use Rattle.script_eval.specs.Machines.{Applies, Calls, Finishes, IsBelow, IsDeep, LeadsTo, Steps, calls_in, frames_of, frames_weight, next_in, to_go, turns_of}
 use Rattle.script_eval.specs.declared.act.Act.{Act}

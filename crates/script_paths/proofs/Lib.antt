@@ -1,4 +1,7 @@
 mod Args
+mod AtOnce
+mod Chains
+pub mod Charged
 pub mod Counted
 mod Framed
 mod Found

@@ -5,7 +5,6 @@ use Rattle.std.specs.declared.sync.Arc.{Arc}
 use Rattle.std.specs.declared.alloc.Global.{Global}
 use Rattle.std.specs.declared.vec.Vec.{Vec}
 use Rattle.do_tree.proofs.Rows.{hidden_links}
-use Rattle.do_value.specs.Tree.{Tree}
 use Rattle.do_tree.specs.Nodes.{links_in as list_in}
 use Rattle.do_tree.specs.Seen.{expr_of}
 use Rattle.do_tree.specs.Tree as tree

@@ -15,6 +15,7 @@ ghost use Rattle.script_steps.specs.Weight.{LeavesLess};
 ghost use Rattle.script_vars.specs.Seen.{bound_of, env_of};
 
 use crate::counts::{parts_from, parts_of_push, parts_of_value, pushes};
+use crate::leaf::begin_chain;
 use do_tree::{Expr, Link};
 use do_value::{Mem, Text};
 use script_steps::{
@@ -34,7 +35,7 @@ pub fn begin(alloc: Global, awaited: Await, expr: Arc<Expr>, vars: &Vars) -> Mem
 }
 
 /// The same where the expression has something of its own.
-#[tactic(auto, using(crate::proofs::Links::path_links))]
+#[tactic(auto, using(crate::proofs::Links::path_links, script_steps::proofs::Parts::strict_operands))]
 fn begin_bare(alloc: Global, awaited: Await, expr: Arc<Expr>, vars: &Vars) -> Mem<Move>
     requires { IsBare (expr_of expr.value) }
     ensures same { IfOk result (UnfoldsIn (env_of vars.now) (λ calls. value (is_present awaited) calls (expr_of expr.value))) }
@@ -42,6 +43,7 @@ fn begin_bare(alloc: Global, awaited: Await, expr: Arc<Expr>, vars: &Vars) -> Me
 {
     match &*expr {
         Expr::Path { base, links, .. } => begin_path(alloc, awaited, &expr, base, links, vars),
+        Expr::Strict { first, rest, .. } => begin_chain(alloc, &expr, first, rest, vars),
         _ => begin_plain(alloc, awaited, &expr),
     }
 }

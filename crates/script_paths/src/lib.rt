@@ -8,6 +8,7 @@ mod called;
 mod classes;
 mod counts;
 mod itself;
+mod leaf;
 mod link;
 mod places;
 mod pushed;

@@ -1,26 +1,28 @@
 //! Places of writes.
 ghost use Rattle.std.specs.Prelude.{◌≡◌, ℕ, false, option_map, IfOk};
 ghost use Rattle.do_value.specs.Keyed.{value_at};
+ghost use Rattle.do_value.specs.Seen.{tree_of};
 ghost use Rattle.do_tree.specs.Nodes.{simple_of};
 ghost use Rattle.do_tree.specs.Seen.{expr_of};
 ghost use Rattle.do_tree.specs.Tree.{path, this};
 ghost use Rattle.script_mean.specs.Calls.{Calls};
-ghost use Rattle.script_mean.specs.Frames.{written};
+ghost use Rattle.script_mean.specs.Frames.{to_assign, to_update, written};
 ghost use Rattle.script_mean.specs.Meaning.{moved_by, place, to_place, updated, value};
 ghost use Rattle.script_mean.specs.Places.{moved, or_undefined, part_at, ◌then◌};
 ghost use Rattle.script_mean.specs.Turn.{bound};
 ghost use Rattle.script_ops.specs.Answers.{Answers};
 ghost use Rattle.script_paths.specs.Bases.{base_of};
-ghost use Rattle.script_paths.specs.Reading.{UnfoldsWith};
+ghost use Rattle.script_paths.specs.Reading.{UnfoldsIn, UnfoldsWith};
 ghost use Rattle.script_paths.specs.Standing.{or_nowhere, place_in};
 ghost use Rattle.script_places.specs.Steps.{steps_in};
 ghost use Rattle.script_steps.specs.Parts.{links_in};
 ghost use Rattle.script_steps.specs.Paths.{root_of, writing_of};
-ghost use Rattle.script_steps.specs.Seen.{move_run, writing};
+ghost use Rattle.script_steps.specs.Seen.{framed, move_run, writing};
 ghost use Rattle.script_steps.specs.Weight.{LeavesLess};
 ghost use Rattle.script_vars.specs.Seen.{env_of, value_of};
 
-use crate::resumed::add_step;
+use crate::leaf::leaf;
+use crate::resumed::{add_step, update_on};
 use crate::walked::nowhere;
 use do_tree::{Expr, Link, Simple, Write};
 use do_value::{BinOp, Fields, Mem, NoMemory, Value};
@@ -160,10 +162,7 @@ pub fn written(
     ensures less { IfOk result (LeavesLess 10) }
 {
     match writing {
-        Writing::Assigns(value) => {
-            let frame = path_frame(alloc, PathFrame::Assign(root, steps))?;
-            Ok(Move::Inside(0, frame, Focus::Value(Await::Absent, value)))
-        }
+        Writing::Assigns(value) => assigned(alloc, root, steps, value, vars),
         Writing::Updates(op, right) => update(alloc, root, steps, op, right, vars, fields),
         Writing::Moves(by) => move_by(alloc, root, steps, by, vars, fields),
     }
@@ -185,12 +184,47 @@ fn update(
     ensures less { IfOk result (LeavesLess 10) }
 {
     match place_value(alloc, &root, &steps, vars, fields) {
-        Ok(old) => {
+        Ok(old) => update_from(alloc, root, steps, op, old, right, vars),
+        Err(OpFault::Throw(error)) => Ok(Move::Then(0, Focus::Ended(Outcome::Threw(error)))),
+        Err(OpFault::NoMemory) => Err(NoMemory),
+    }
+}
+
+/// The same, whose place has been read.
+fn update_from(
+    alloc: Global,
+    root: Root,
+    steps: Vec<Step>,
+    op: BinOp,
+    old: Value,
+    right: Arc<Expr>,
+    vars: &Vars,
+) -> Mem<Move>
+    ensures same { IfOk result (UnfoldsIn (env_of vars.now)
+        (λ calls. framed calls (to_update (root_of root) (steps_in steps.items) op (tree_of old)) (value false calls (expr_of right.value)))) }
+    ensures less { IfOk result (LeavesLess 10) }
+{
+    match leaf(&right, vars)? {
+        Some(value) => Ok(Move::Then(1, update_on(alloc, root, steps, op, &old, &value)?)),
+        None => {
             let frame = path_frame(alloc, PathFrame::Update(root, steps, op, old))?;
             Ok(Move::Inside(0, frame, Focus::Value(Await::Absent, right)))
         }
-        Err(OpFault::Throw(error)) => Ok(Move::Then(0, Focus::Ended(Outcome::Threw(error)))),
-        Err(OpFault::NoMemory) => Err(NoMemory),
+    }
+}
+
+/// `=`: the right side is evaluated.
+fn assigned(alloc: Global, root: Root, steps: Vec<Step>, right: Arc<Expr>, vars: &Vars) -> Mem<Move>
+    ensures same { IfOk result (UnfoldsIn (env_of vars.now)
+        (λ calls. framed calls (to_assign (root_of root) (steps_in steps.items)) (value false calls (expr_of right.value)))) }
+    ensures less { IfOk result (LeavesLess 10) }
+{
+    match leaf(&right, vars)? {
+        Some(value) => Ok(Move::Then(1, Focus::Assign(root, steps, value))),
+        None => {
+            let frame = path_frame(alloc, PathFrame::Assign(root, steps))?;
+            Ok(Move::Inside(0, frame, Focus::Value(Await::Absent, right)))
+        }
     }
 }
 

@@ -1,5 +1,5 @@
 //! What the frames of paths and of writes do with the value of the part inside them.
-ghost use Rattle.std.specs.Prelude.{◌≡◌, ◌+◌, ◌++◌, ◌∷◌, [], IfOk, OnOk};
+ghost use Rattle.std.specs.Prelude.{◌≡◌, ◌+◌, ◌++◌, ◌<◌, ◌∷◌, [], IfOk, OnOk};
 ghost use Rattle.do_tree.specs.Seen.{expr_of};
 ghost use Rattle.do_value.specs.Seen.{tree_of, trees_in};
 ghost use Rattle.script_mean.specs.Answers.{gave};
@@ -8,8 +8,8 @@ ghost use Rattle.script_mean.specs.Frames.{to_index, to_update};
 ghost use Rattle.script_places.specs.Steps.{step_of, steps_in};
 ghost use Rattle.script_steps.specs.Parts.{links_in};
 ghost use Rattle.script_steps.specs.Paths.{is_present, path_frame_of, root_of};
-ghost use Rattle.script_steps.specs.Seen.{handed, move_run};
-ghost use Rattle.script_steps.specs.Weight.{LeavesLess, path_frame_weight};
+ghost use Rattle.script_steps.specs.Seen.{focus_run, handed, move_run};
+ghost use Rattle.script_steps.specs.Weight.{LeavesLess, focus_weight, path_frame_weight};
 
 use do_tree::Expr;
 use do_value::{BinOp, Mem, NoMemory, Value};
@@ -48,7 +48,9 @@ pub fn hand_path(alloc: Global, frame: PathFrame, value: Value) -> Mem<Move>
             Ok(Move::Then(0, Focus::Place(writing, root, steps, node, place)))
         }
         PathFrame::Assign(root, steps) => Ok(Move::Then(0, Focus::Assign(root, steps, value))),
-        PathFrame::Update(root, steps, op, old) => update_on(alloc, root, steps, op, &old, &value),
+        PathFrame::Update(root, steps, op, old) => {
+            Ok(Move::Then(0, update_on(alloc, root, steps, op, &old, &value)?))
+        }
     }
 }
 
@@ -76,21 +78,21 @@ fn part_on(
 
 /// What an operator makes of the old value of a place and of a right side is to be written there.
 #[tactic(auto, using(crate::proofs::Handed::update_writes, crate::proofs::Handed::update_fails))]
-fn update_on(
+pub(crate) fn update_on(
     alloc: Global,
     root: Root,
     steps: Vec<Step>,
     op: BinOp,
     old: &Value,
     right: &Value,
-) -> Mem<Move>
-    ensures same { IfOk result (λ m. (calls : Calls)
-        → handed calls (to_update (root_of root) (steps_in steps.items) op (tree_of old.now)) (gave (tree_of right.now)) ≡ move_run calls m) }
-    ensures less { IfOk result (LeavesLess 10) }
+) -> Mem<Focus>
+    ensures same { IfOk result (λ f. (calls : Calls)
+        → handed calls (to_update (root_of root) (steps_in steps.items) op (tree_of old.now)) (gave (tree_of right.now)) ≡ focus_run calls f) }
+    ensures less { IfOk result (λ f. focus_weight f < 10) }
 {
     match binary(alloc, op, old, right) {
-        Ok(new) => Ok(Move::Then(0, Focus::Assign(root, steps, new))),
-        Err(OpFault::Throw(error)) => Ok(Move::Then(0, Focus::Ended(Outcome::Threw(error)))),
+        Ok(new) => Ok(Focus::Assign(root, steps, new)),
+        Err(OpFault::Throw(error)) => Ok(Focus::Ended(Outcome::Threw(error))),
         Err(OpFault::NoMemory) => Err(NoMemory),
     }
 }

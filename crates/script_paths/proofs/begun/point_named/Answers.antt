@@ -1,4 +1,4 @@
-use Rattle.std.proofs.Common.{◌≡◌, sym, ap, ◌∙◌}
+use Rattle.std.proofs.Common.{sym, ap, ◌∙◌}
 use Rattle.script_mean.specs.Paths.{begun_by}
 use Rattle.script_mean.specs.Turn.{bound}
 use Rattle.script_steps.proofs.Begun.{if_ok}
