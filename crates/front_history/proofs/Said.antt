@@ -17,6 +17,7 @@ use Rattle.timeline.specs.declared.entry.Entry.{Entry}
 use Rattle.timeline.specs.declared.notice.Notice.{Notice}
 use Rattle.front_half.specs.Standing.{Stood}
 use Rattle.front_half.specs.declared.half.Half.{Half}
+use Rattle.object_history.proofs.Readings.{phase_now}
 use Rattle.object_history.proofs.Alike.{same_halted}
 use Rattle.object_history.proofs.Entries.{all_front}
 use Rattle.object_history.proofs.OlderFronts.{AreSameTo, entries_other, older_same, said_same}
@@ -125,7 +126,7 @@ module _ (tells : TellingTells) (k : Kind) (opened : Contents) (f : Front) (log 
   by_phase (inr behind) = said_at (suc pair.below) behind.0 next_said
 
   pub all_said : AreSaid k.script k.class opened log rear.log (history log rear.log)
-  all_said = by_phase pair.phase
+  all_said = by_phase (phase_now pair)
 
 pub is_said : {T : Type 0} (tells : TellingTells) (pair_said : PairIsSaid) (k : Kind) (opened : Contents) (st : Stood) (half : Half T) (rear : Rear)
     (line : List Entry) (notices : List Notice) → IsRear opened rear → ArePaired k opened st half rear line notices

@@ -203,10 +203,10 @@ module _ {D : Type 0} (moment_of : D → ℕ) (left_since : D → ℕ → List �
       take_as false false on is (Err fault) by now = err_not fault (by.barred on is).nothing
       take_as false true on is (Ok Did) by now =
           let t = by.took refl in
-          entered t.entry (one.none_lost (free_of old.stuck _ _ is) on) by.disk t.took on is now t.failed t.answer (is_unfit (fit_of old t.entry)) refl t.enters (λ goes. t.sends) t.unfit
+          entered t.entry (one.none_lost (free_of old.stuck _ _ _ is) on) by.disk t.took on is now t.failed t.answer (is_unfit (fit_of old t.entry)) refl t.enters (λ goes. t.sends) t.unfit
       take_as false true on is (Err fault) by now =
           let l = by.lost on in
-          loses l.entry (one.none_lost (free_of old.stuck _ _ is) on) by.disk l.took on is now by.stops.wanting l.entered
+          loses l.entry (one.none_lost (free_of old.stuck _ _ _ is) on) by.disk l.took on is now by.stops.wanting l.entered
 
       -- A take keeps it.
       pub take_alone : (result : Result Stepped NoMemory) → Takes result → After

@@ -34,7 +34,7 @@ use Rattle.object_history.proofs.GateReleasing as releasing
 use Rattle.object_history.proofs.GateStepping as stepping
 use Rattle.object_history.proofs.GateTaking as taking
 use Rattle.object_history.specs.Stepping.{BackSteps}
-use Rattle.object_core.proofs.Due.{AnswersSo, alarm_due, alarm_released, answers_due, unfit_closes}
+use Rattle.object_core.proofs.Due.{AnswersSo, alarm_due, alarm_released, answers_due}
 use Rattle.object_core.proofs.Rebuilding.{seen_same}
 use Rattle.object_core.specs.One.{messages}
 use Rattle.object_core.specs.Seen.{due_map, seen_of}
@@ -42,9 +42,9 @@ use Rattle.host_workers.proofs.Stepping.{disk_of, earlier, heard, none_is_few, o
 use Rattle.host_workers.specs.Backs.{IsBackOver}
 use Rattle.host_workers.specs.Runs.{Tells}
 
-pub free_of : (stuck waits few : Bool) → (not stuck && waits && few) ≡ true → stuck ≡ false
-free_of true waits few is = absurd cc
-free_of false waits few is = refl
+pub free_of : (stuck waits failed few : Bool) → (not stuck && waits && failed && few) ≡ true → stuck ≡ false
+free_of true waits failed few is = absurd cc
+free_of false waits failed few is = refl
 
 abbrev answer : Stepped → Result Stepped NoMemory
 answer stepped = Ok stepped
@@ -141,8 +141,8 @@ module _ {D : Type 0} (moment_of : D → ℕ) (left_since : D → ℕ → List �
 
     -- It isn't logged, and nothing else that is seen changes.
     unlogged : backed new.log ≡ backed old.log → new.held.items ≡ old.held.items → new.mode ≡ old.mode → new.before ≡ old.before → new.durable ≡ old.durable
-        → new.closed ≡ old.closed → (new.stuck ≡ false → is_stopped new ≡ false → ⊥) → later ≡ notices → After
-    unlogged log held mode before durable closed bad said = record {
+        → (new.stuck ≡ false → is_stopped new ≡ false → ⊥) → later ≡ notices → After
+    unlogged log held mode before durable bad said = record {
       stands = known;
       lost = e ∷ [];
       few = one_is_few;
@@ -151,7 +151,7 @@ module _ {D : Type 0} (moment_of : D → ℕ) (left_since : D → ℕ → List �
       left = left_as (ap (λ (x : Backed). x.released) log);
       tells = unseen_by moment_of left_since told image faults_of start opening old new one.stands known telling []
           (ap (λ (x : Backed). x.taken) log ∙ sym (append-nil old.log.taken.items)) notices later refl (λ goes. on)
-          (seen_same (opened_map start) old new log held mode before durable closed) said one.tells;
+          (seen_same (opened_map start) old new log held mode before durable) said one.tells;
     }
 
     unfit_enters : (failed : Failed) → Enters failed old new e → is_unfit (fit_of old e) ≡ true → later ≡ notices → After
@@ -159,7 +159,7 @@ module _ {D : Type 0} (moment_of : D → ℕ) (left_since : D → ℕ → List �
         unlogged (enters.log ∙ unfit_log (fit_of old e) (backed old.log) e is)
         (enters.held ∙ ap (λ (x : List BackHeld). old.held.items ++ x) (unfit_holds failed old e enters.may is) ∙ append-nil old.held.items)
         (enters.mode ∙ unfit_mode (fit_of old e) old.mode e.body is) (enters.before ∙ unfit_before (fit_of old e) old.before e.body is) enters.durable
-        (enters.closed ∙ unfit_closes failed old e enters.may is) (λ free goes. true≢false (sym is ∙ sym enters.stuck ∙ free)) said
+        (λ free goes. true≢false (sym is ∙ sym enters.stuck ∙ free)) said
 
     -- It is logged.
     logs : (failed : Failed) → Enters failed old new e → is_unfit (fit_of old e) ≡ false
@@ -210,7 +210,7 @@ module _ {D : Type 0} (moment_of : D → ℕ) (left_since : D → ℕ → List �
 
     -- Memory was wanting.
     loses : may_take old ≡ true → is_stopped new ≡ true → (IsAsBefore old new ⊎ ((failed : Failed) × Enters failed old new e)) → later ≡ notices → After
-    loses may off (inl same) said = unlogged same.log same.held same.mode same.before same.durable same.closed (λ free goes. true≢false (sym off ∙ goes)) said
+    loses may off (inl same) said = unlogged same.log same.held same.mode same.before same.durable (λ free goes. true≢false (sym off ∙ goes)) said
     loses may off (inr (failed, enters)) said = unheard_as failed (is_unfit (fit_of old e)) refl enters may off said
 
   -- What the back's own contract says of a take.
@@ -231,11 +231,11 @@ module _ {D : Type 0} (moment_of : D → ℕ) (left_since : D → ℕ → List �
   taken_as false may on known (Err fault) by = err_not fault (by.barred on may).nothing
   taken_as true may on known (Ok Did) by =
       let t = by.took refl in
-      entered_as t.entry (one.none_lost (free_of old.stuck _ _ may) on) known by.disk t.took on by.same_out t.failed t.answer (is_unfit (fit_of old t.entry)) refl t.enters may
+      entered_as t.entry (one.none_lost (free_of old.stuck _ _ _ may) on) known by.disk t.took on by.same_out t.failed t.answer (is_unfit (fit_of old t.entry)) refl t.enters may
       by.stops.good t.sends t.unfit t.answers
   taken_as true may on known (Err fault) by =
       let l = by.lost on in
-      loses l.entry (one.none_lost (free_of old.stuck _ _ may) on) known by.disk l.took on by.same_out may by.stops.wanting l.entered l.told
+      loses l.entry (one.none_lost (free_of old.stuck _ _ _ may) on) known by.disk l.took on by.same_out may by.stops.wanting l.entered l.told
 
   take_as : (off : Bool) → is_stopped old ≡ off → (result : Result Stepped NoMemory) → TakesBy result → After
   take_as true off result by = let s = by.stopped off in idle s.1 s.2 s.3 by.same_out
@@ -304,7 +304,7 @@ module _ {D : Type 0} (moment_of : D → ℕ) (left_since : D → ℕ → List �
       no_entry known taken by.line (λ free goes. absurd (true≢false (sym by.stops.wanting ∙ goes))) (ap (λ (x : Backed). messages x.released) s.log ∙ one.left ∙ sym s.left)
       (unseen_by moment_of left_since told image faults_of start opening old new one.stands known (still_tells told old.store new.store by.disk) []
       (taken ∙ sym (append-nil old.log.taken.items)) notices later refl (λ goes. on)
-      (seen_same (opened_map start) old new s.log (ap (λ h. h.items) s.held) s.mode s.before s.durable s.closed) s.told one.tells)
+      (seen_same (opened_map start) old new s.log (ap (λ h. h.items) s.held) s.mode s.before s.durable) s.told one.tells)
 
   release_as : (off : Bool) → is_stopped old ≡ off → (result : Result Stepped NoMemory) → ReleasesBy result → After
   release_as true off result by = let s = by.stopped off in idle s.1 by.line s.2 s.3
@@ -357,7 +357,7 @@ module _ {D : Type 0} (moment_of : D → ℕ) (left_since : D → ℕ → List �
       let taken = ap (λ (x : Backed). x.taken) same.log in
       no_entry known taken by.line (λ free goes. absurd (true≢false (sym off ∙ goes))) (ap (λ (x : Backed). messages x.released) same.log ∙ one.left ∙ sym by.same_out)
       (unseen_by moment_of left_since told image faults_of start opening old new one.stands known by.tells [] (taken ∙ sym (append-nil old.log.taken.items)) notices later refl
-      (λ goes. on) (seen_same (opened_map start) old new same.log same.held same.mode same.before same.durable same.closed) said one.tells)
+      (λ goes. on) (seen_same (opened_map start) old new same.log same.held same.mode same.before same.durable) said one.tells)
   loses_mend on known result by off said (inr lost) = unheard_mend on known result by off said lost.0 lost.1 lost.2 lost.3
 
   mended_as : is_stopped old ≡ false → Known → (result : Result Stepped NoMemory) → MendsBy result → After

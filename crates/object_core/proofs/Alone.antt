@@ -107,7 +107,7 @@ module _ {D : Type 0} (moment_of : D → ℕ) (left_since : D → ℕ → List �
         subst (λ (f : Front). DownFits f.mode f.said) t.1.at (down_said k t.0 1 [] [] (serves (idle (begun are.alarm))) tt t.1.gate) in
         sym at.unfit
         ∙ next_fits moment_of left_since told image faults_of origin.start origin.opening (not (is_stopped at.before)) at.before at.stands k opening_map
-        are.front_alone.st.front (fronted front.log) e line.waiting notices.waiting pair first all_fits down (not_wanted at.before.stuck (is_wanted at.before.mode) _ at.may)
+        are.front_alone.st.front (fronted front.log) e line.waiting notices.waiting pair first all_fits down (not_wanted at.before.stuck (is_wanted at.before.mode) _ _ at.may)
         (at.knows (subst (λ (entries : List Entry). AreFit first None entries) (sym at.taken) taken_fits))
 
     unstuck_as : (tells : TellsNow told back) → is_stopped back ≡ false → (stuck : Bool) → back.stuck ≡ stuck → back.stuck ≡ false

@@ -32,6 +32,7 @@ use Rattle.front_half.specs.Taking.{Led, IsLedBy, fits, sticks_at, at_down, at_m
 use Rattle.front_half.specs.Turning.{IsEntered, IsTaken}
 use Rattle.object_front.specs.declared.evaluated.Evaluated.{Evaluated}
 use Rattle.front_half.specs.declared.half.Half.{Half}
+use Rattle.object_history.proofs.Readings.{phase_now}
 use Rattle.object_history.specs.Pair.{Held, IsPair, IsSilentAt, Rear, Stand, Together, answered, falls, halts, mends, misses, read_fails, silent, syncs, unreached, wants}
 use Rattle.front_half.specs.Kinds.{is_call}
 use Rattle.object_core.proofs.Sticking.{first_there}
@@ -356,7 +357,7 @@ module _ (k : Kind) (opened_map : Contents) (f : Front) (front : Fronted) (rear 
   pub pair_silent : (s : State) → f.mode ≡ serves s → f.said ≡ [] → rear.log.stops ≡ [] → notices ≡ []
   pair_silent s mode said none =
       ⊎_elim (λ t. together_silent pair.start f front rear.log pair.lined.unread rear.before rear.stand rear.held notices s mode said t.1)
-      (λ b. absurd (no_stops (length rear.log.stops) pair.below (ap (λ (stops : List Stop). length stops) none) b.0)) pair.phase
+      (λ b. absurd (no_stops (length rear.log.stops) pair.below (ap (λ (stops : List Stop). length stops) none) b.0)) (phase_now pair)
     where
       no_stops : (n below : ℕ) → n ≡ 0 → n ≡ suc below → ⊥
       no_stops n below zero_n more = omega (arith, zero_n, more)
@@ -364,12 +365,12 @@ module _ (k : Kind) (opened_map : Contents) (f : Front) (front : Fronted) (rear 
   pair_missed : f.mode ≡ down None → rear.log.downs ≢ []
   pair_missed mode =
       ⊎_elim (λ t. together_missed pair.start f front rear.log pair.lined.unread rear.before rear.stand rear.held notices mode t.1)
-      (λ b. serves_not b.1.state None (sym b.1.mode ∙ mode)) pair.phase
+      (λ b. serves_not b.1.state None (sym b.1.mode ∙ mode)) (phase_now pair)
 
   -- As many ends are known to it as there are incarnations before its own.
   pub pair_ends : suc (length front.ends) ≡ f.incarnation
   pair_ends =
-      let below : pair.below ≤ length rear.log.stops = ⊎_elim (λ t. omega (arith, t.0)) (λ b. omega (arith, b.0)) pair.phase in
+      let below : pair.below ≤ length rear.log.stops = ⊎_elim (λ t. omega (arith, t.0)) (λ b. omega (arith, b.0)) (phase_now pair) in
       ap (λ (n : ℕ). suc n) (ap (λ (ends : List Cause). length ends) pair.ends ∙ length-map (take pair.below rear.log.stops) (λ (stop : Stop). stop.cause)
       ∙ length-take-le pair.below rear.log.stops below) ∙ sym pair.number
 

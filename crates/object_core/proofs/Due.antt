@@ -13,7 +13,7 @@ use Rattle.timeline.specs.declared.notice.Notice.{Notice}
 use Rattle.front_half.specs.Standing.{nothing_logged}
 use Rattle.output_gate.proofs.Noted.{sound_as}
 use Rattle.output_gate.proofs.Telling.{map_is}
-use Rattle.output_gate.specs.Entering.{Failed, HasMap, MayFail, StandsForMap, closed_with, is_unfit, notice_with}
+use Rattle.output_gate.specs.Entering.{Failed, HasMap, MayFail, StandsForMap, is_unfit, notice_with}
 use Rattle.output_gate.specs.Releasing.{Releases}
 use Rattle.output_gate.specs.Serving.{alarm_of, IsBack, is_stopped}
 use Rattle.output_gate.specs.Standing.{own_entries}
@@ -52,12 +52,6 @@ alarm_released moment_of old new sent_before sent out_before out releases = ap (
 abbrev pub AnswersSo : {D : Type 0} → (D → Option (List ℕ)) → (D → List ℕ → Type 0) → Back D → Failed → Entry → Option Notice → Type 0
 AnswersSo {D} told image back failed e answer = (disk : D) → IsDiskOf back.store disk → IsTold (told disk) → (m : Contents) → HasMap told image m back
     → answer ≡ notice_with failed (fit_of back e) e m
-
--- No read fails of an entry that is unfit.
-pub unfit_closes : {D : Type 0} (failed : Failed) (back : Back D) (e : Entry) → MayFail failed back e → is_unfit (fit_of back e) ≡ true
-    → closed_with failed back ≡ back.closed
-unfit_closes None back e may is = refl
-unfit_closes (Some counts) back e may is = absurd (true≢false (sym is ∙ ap is_unfit may.0))
 
 module _ {D : Type 0} (moment_of : D → ℕ) (left_since : D → ℕ → List ℕ → Type 0) (told : D → Option (List ℕ)) (image : D → List ℕ → Type 0) (faults_of : D → ℕ)
     (start : List (List Op)) (opening : ℕ) where

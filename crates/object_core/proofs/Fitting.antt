@@ -45,10 +45,10 @@ begins_fitted class known alarm same = record {
   bound = λ none waits. absurd waits;
 }
 
-pub not_wanted : (stuck wanted few : Bool) → (not stuck && not wanted && few) ≡ true → wanted ≡ false
-not_wanted false false few is = refl
-not_wanted false true few is = absurd cc
-not_wanted true wanted few is = absurd cc
+pub not_wanted : (stuck wanted failed few : Bool) → (not stuck && not wanted && failed && few) ≡ true → wanted ≡ false
+not_wanted false false failed few is = refl
+not_wanted false true failed few is = absurd cc
+not_wanted true wanted failed few is = absurd cc
 
 module _ {D : Type 0} (moment_of : D → ℕ) (left_since : D → ℕ → List ℕ → Type 0) (told : D → Option (List ℕ)) (image : D → List ℕ → Type 0) (faults_of : D → ℕ)
     (script : Script) (origin : Origin) (front : Half Evaluated) (inbox : Both Event) (back : Back D) (line : Both Entry) (notices : Both Notice) (out : Both Sent)
@@ -73,7 +73,7 @@ module _ {D : Type 0} (moment_of : D → ℕ) (left_since : D → ℕ → List �
       (begins_fitted (class_in script origin.object) first one.alarm has) t.1.gate t.2) in
       let down : DownFits one.st.front.mode one.st.front.said =
       subst (λ (f : Front). DownFits f.mode f.said) t.1.at (down_said k t.0 1 [] [] (serves (idle (begun one.alarm))) tt t.1.gate) in
-      let free : is_wanted back.mode ≡ false = not_wanted back.stuck (is_wanted back.mode) _ may in
+      let free : is_wanted back.mode ≡ false = not_wanted back.stuck (is_wanted back.mode) _ _ may in
       let object = (one.fits has tells on goes).1 in (
         next_fits moment_of left_since told image faults_of origin.start origin.opening (not (is_stopped back)) back one.back_stands k opening_map one.st.front (fronted front.log)
             e rest notices.waiting pair first fits down free object,

@@ -165,7 +165,6 @@ rear_holding opened rear held known = record {
   followed = known.followed;
   begun = known.begun;
   map = known.map;
-  closed = known.closed;
   owns = known.owns;
   kept = known.kept;
 }

@@ -22,6 +22,7 @@ use Rattle.output_gate.specs.Taking.{notice_of}
 use Rattle.object_history.proofs.Asked.{is_asked_for}
 use Rattle.object_history.proofs.Entries.{entries_own, said_numbered}
 use Rattle.object_history.specs.Laws.{StepsSayWell}
+use Rattle.object_history.proofs.Readings.{phase_now}
 use Rattle.object_history.specs.Pair.{Held, Stand, mounted, fallen, Rear, newest, IsUnread, IsLine, Together, unreached, answered, syncs, halts, read_fails, falls, wants, mends, misses, silent, IsPair, IsPhase}
 use Rattle.object_history.specs.Saying.{is_asked}
 use Rattle.object_history.specs.Stepping.{BackSteps, holds, stands_after, takes_own, read_fails as fails_read, takes_down, takes_late, flies, stops, sends, syncs as gives_sync, halts as gives_halt, begins, misses as gives_miss}
@@ -197,7 +198,7 @@ module _ (well : StepsSayWell) (k : Kind) (opened : Contents) (f : Front) (front
           ahead (e ∷ line) later told heard (λ same. omega (arith, same, behind.0, pair.number)) (λ want. absurd (subst IsWanted stand want))
 
       own_as : (own : List Entry) → entries_of f.incarnation line ≡ own → IsUnderWay f later line (notices ++ told)
-      own_as [] none = own_by none pair.phase
+      own_as [] none = own_by none (phase_now pair)
       own_as (x ∷ own) some = by_entry (λ none. not_none x own (sym some ∙ none))
 
       pub own_answer : IsUnderWay f r (e ∷ line) notices → IsUnderWay f later line (notices ++ told)
@@ -223,7 +224,7 @@ module _ (well : StepsSayWell) (k : Kind) (opened : Contents) (f : Front) (front
           ahead (e ∷ line) later [] heard (λ same. omega (arith, same, behind.0, pair.number)) (λ want. absurd (subst IsWanted stand want))
 
       down_as : (own : List Entry) → entries_of f.incarnation line ≡ own → IsUnderWay f later line (notices ++ [])
-      down_as [] none = down_by none pair.phase
+      down_as [] none = down_by none (phase_now pair)
       down_as (x ∷ own) some = by_entry (λ none. not_none x own (sym some ∙ none))
 
       pub down_answer : IsUnderWay f r (e ∷ line) notices → IsUnderWay f later line (notices ++ [])
@@ -245,7 +246,7 @@ module _ (well : StepsSayWell) (k : Kind) (opened : Contents) (f : Front) (front
       late_answer (by_notice some) = by_notice (some_first notices [] some)
       late_answer (by_hold some) = by_hold (λ none. some (sym held ∙ none))
       late_answer (by_mounting want) = by_mounting (subst IsWanted (sym stands) want)
-      late_answer (by_entry some) = late_by some pair.phase
+      late_answer (by_entry some) = late_by some (phase_now pair)
 
   -- nothing of the line is taken, and nothing that the front hears of is gone
   still_answer : (later : Rear) (more : List Notice) → later.held ≡ r.held → later.stand ≡ r.stand → IsUnderWay f r line notices

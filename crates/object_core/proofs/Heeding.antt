@@ -26,6 +26,7 @@ use Rattle.timeline.specs.Intake.{answer_in}
 use Rattle.front_half.specs.Taking.{waits, waits_in}
 use Rattle.object_history.proofs.Entries.{entries_own}
 use Rattle.object_history.specs.Laws.{StepsSayWell}
+use Rattle.object_history.proofs.Readings.{phase_now}
 use Rattle.object_history.specs.Pair.{Held, Stand, Rear, newest, Together, unreached, answered, syncs, halts, read_fails, falls, wants, mends, misses, silent, IsPair, IsPhase}
 use Rattle.object_history.specs.Saying.{LeadTo}
 use Rattle.object_history.specs.Stepping.{notices_with, said_before}
@@ -162,8 +163,8 @@ module _ (k : Kind) (f : Front) where
         heard.news (λ same. differs (same ∙ sym (stored_number f.mode (answer.Read (reading.Count count)))))
     news_left (noticed (notice.Synced number)) pair heard differs =
         heard.news (λ same. differs (same ∙ sym (stored_number f.mode (answer.Value value.Undefined))))
-    news_left (noticed (notice.Fresh i alarm cause)) pair heard differs = absurd (differs (fresh_by alarm cause i pair pair.phase))
-    news_left (noticed (notice.Down cause before after)) pair heard differs = absurd (differs (down_by cause before after pair pair.phase))
+    news_left (noticed (notice.Fresh i alarm cause)) pair heard differs = absurd (differs (fresh_by alarm cause i pair (phase_now pair)))
+    news_left (noticed (notice.Down cause before after)) pair heard differs = absurd (differs (down_by cause before after pair (phase_now pair)))
 
     -- What it takes it takes off the notices, and what it says stands behind the line.
     pub front_heard : (well : StepsSayWell) (t : Taken) (more : List Body) (number : ℕ) → IsPair k opened f front rear line (notices_with t rest) → MayTake f t

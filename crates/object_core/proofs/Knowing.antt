@@ -97,10 +97,6 @@ comes_least : (last : Option Entry) (e : Entry) → comes_behind last e ≡ true
 comes_least None e comes = omega arith
 comes_least (Some x) e comes = behind_least (x.incarnation == e.incarnation) x e refl comes
 
-second : (a b : Bool) → (a && b) ≡ true → b ≡ true
-second true b is = is
-second false b is = absurd (true≢false (sym is))
-
 not_less : (b : Bool) → not b ≡ true → b ≡ false
 not_less true is = absurd (true≢false (sym is))
 not_less false is = refl
@@ -120,7 +116,7 @@ module _ {D : Type 0} (moment_of : D → ℕ) (left_since : D → ℕ → List �
   comes : comes_behind (last_of taken) e ≡ true
   comes = ap (λ (last : Option Entry). comes_behind last e) (sym (last_is taken)) ∙ here.comes
 
-  parts : Fits (comes_behind (last_of taken) e && nat_lt back.closed e.incarnation) (not (nat_lt back.number e.incarnation))
+  parts : Fits (comes_behind (last_of taken) e) (not (nat_lt back.number e.incarnation))
       (fits_so (e.incarnation == back.number) (is_mounted_mode back.mode) (is_some back.identity) e.body)
   parts = fits_parts _ _ _ (e.incarnation == back.number) (is_mounted_mode back.mode) fits
 
@@ -130,10 +126,9 @@ module _ {D : Type 0} (moment_of : D → ℕ) (left_since : D → ℕ → List �
       let stops : length back.log.stops.items ≡ e.incarnation =
       between (length back.log.stops.items) e.incarnation back.number (newest_of taken) number (ltb-false back.number e.incarnation (not_less _ parts.is_within)) differs
       (in_order moment_of left_since told image faults_of start opening sound nothing_logged back known).newest (comes_least (last_of taken) e comes) in
-      let goes : back.closed < e.incarnation = ltb-true back.closed e.incarnation (second (comes_behind (last_of taken) e) (nat_lt back.closed e.incarnation) parts.is_behind) in
       never_late (backed back.log) e first here.first comes (subst (λ (b : Body). FitsKnown (known_over first taken) b) is here.knows)
       (in_order moment_of left_since told image faults_of start opening sound nothing_logged back known)
-      (ends_by_halt moment_of left_since told image faults_of start opening sound nothing_logged back known e goes stops) (marks_of back) nothing_logged
+      (ends_by_halt moment_of left_since told image faults_of start opening sound nothing_logged back known) (marks_of back) nothing_logged
       (has_ended moment_of left_since told image faults_of start opening sound nothing_logged back known) stops
     where
       between : (stops i n newest : ℕ) → n ≡ suc stops → i ≤ n → (i ≡ n → ⊥) → stops ≤ newest → newest ≤ i → stops ≡ i

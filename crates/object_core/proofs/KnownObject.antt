@@ -1,7 +1,9 @@
 -- The object that is bound is bound by an entry of the incarnation that is mounted.
 use Rattle.std.proofs.Common.{◌≡◌, ◌∙◌, ap, sym, subst, refl, inl, inr, ⊎_elim, true≢false, ℕ, zero, suc, ◌-◌, ◌<◌, List, [], ◌∷◌, ◌++◌, length, arith, Option, Some, None}
 use Rattle.std.proofs.lemmas.Bool.{eqb-true, ltb-true}
+use Rattle.std.proofs.lemmas.List.Elements.{All-nil, All-cons, All-contains}
 use Rattle.std.specs.Prelude.{Bool, true, false, not, cond, ◌==◌, nat_lt, if◌then◌else◌, slice_get}
+use Rattle.std.specs.List.{All}
 use Rattle.storage_map.specs.declared.op.Op.{Op}
 use Rattle.timeline.specs.History.{entries_of, incarnation_at, incarnations, batches_in}
 use Rattle.timeline.specs.Logs.{Fronted, Backed, backed}
@@ -11,9 +13,8 @@ use Rattle.timeline.specs.declared.back_log.Stop.{Stop}
 use Rattle.timeline.specs.declared.entry.Body.{Body}
 use Rattle.timeline.specs.declared.entry.Body.TheVariants as body
 use Rattle.timeline.specs.declared.entry.Entry.{Entry}
-use Rattle.output_gate.proofs.Orderly.{is_ordered}
 use Rattle.output_gate.specs.Ended.{AreInOrder, Marks, HasEnded, HaveEnded, IsEnding, AreEnding, halts_as, last_stop, newest_as, newest_of}
-use Rattle.output_gate.specs.Fits.{comes_behind, is_halt, last_of}
+use Rattle.output_gate.specs.Fits.{IsAsk, comes_behind, is_halt, last_of}
 use Rattle.output_gate.specs.Serving.{IsBackAs, marks_of}
 use Rattle.output_gate.specs.declared.back.Back.{Back}
 use Rattle.object_core.specs.Fitting.{known_by, known_over, FitsKnown, AreFit}
@@ -65,6 +66,37 @@ unwritten false i last (e ∷ entries) fit unknown =
     (λ same. unwritten false i (Some e) entries (subst (λ (k : Bool). AreFit k (Some e) entries) same fit.2)
     (ap (λ (k : Bool). known_over k entries) (sym same) ∙ unknown))
 
+-- Nor was anything read.
+no_ask : (b : Body) → FitsKnown false b → IsAsk b → ⊥
+no_ask (body.Ask ask free) fits asks = true≢false (sym fits)
+no_ask (body.Bind identity) fits asks = asks
+no_ask (body.Batch ops tail confirmed) fits asks = asks
+no_ask body.Sync fits asks = asks
+no_ask (body.Message sent) fits asks = asks
+no_ask (body.Halt c) fits asks = asks
+no_ask body.Mend fits asks = asks
+
+abbrev AsksNothing : Entry → Type 0
+AsksNothing e = IsAsk e.body → ⊥
+
+all_here : (here : Bool) (e : Entry) (rest : List Entry) → AsksNothing e → All AsksNothing rest → All AsksNothing (cond here (e ∷ rest) rest)
+all_here true e rest none all = All-cons AsksNothing e rest none all
+all_here false e rest none all = all
+
+unasked : (known : Bool) (i : ℕ) (last : Option Entry) (entries : List Entry) → AreFit known last entries → known_over known entries ≡ false
+    → All AsksNothing (entries_of i entries)
+unasked known i last [] fit unknown = All-nil AsksNothing
+unasked true i last (e ∷ entries) fit unknown =
+    absurd (true≢false (sym (known_on entries) ∙ ap (λ (k : Bool). known_over k entries) (sym (known_still e.body)) ∙ unknown))
+unasked false i last (e ∷ entries) fit unknown =
+    by_known (known_by e.body false) refl (λ is. unasked false i (Some e) entries (subst (λ (k : Bool). AreFit k (Some e) entries) is fit.2)
+    (sym (ap (λ (k : Bool). known_over k entries) is) ∙ unknown))
+  where
+    by_known : (known : Bool) → known_by e.body false ≡ known → (known_by e.body false ≡ false → All AsksNothing (entries_of i entries))
+        → All AsksNothing (entries_of i (e ∷ entries))
+    by_known true is rest = absurd (true≢false (sym (ap (λ (k : Bool). known_over k entries) is ∙ known_on entries) ∙ unknown))
+    by_known false is rest = all_here (e.incarnation == i) e (entries_of i entries) (no_ask e.body fit.1) (rest is)
+
 not_so : (b : Bool) → not b ≡ true → b ≡ true → ⊥
 not_so true is so = true≢false (sym is)
 not_so false is so = true≢false (sym so)
@@ -84,14 +116,19 @@ EndsByHalt log = (stop : Stop) → last_stop log.stops ≡ Some stop → discard
 module _ (log : Backed) (e : Entry) (first : Bool) (fit : AreFit first None log.taken) (comes : comes_behind (last_of log.taken) e ≡ true)
     (unknown : known_over first log.taken ≡ false) (ordered : AreInOrder log.taken log.stops) (halts : EndsByHalt log) (marks : Marks) (front : Fronted)
     (ended : (m : ℕ) → length log.stops ≡ suc m → HasEnded marks (incarnation_at front log m) (incarnations front log m)) where
-  -- The incarnation before the newest isn't that of an entry behind which nothing is known: it ended by a halt, or wrote.
+  -- The incarnation before the newest isn't that of an entry behind which nothing is known: it ended by a halt, or wrote, or read.
   end_is : (m : ℕ) (x : Entry) → length log.stops ≡ suc m → last_of log.taken ≡ Some x → x.incarnation ≡ suc m → not (is_halt x.body) ≡ true → ⊥
   end_is m x stops last own goes = by_stop (discards (ended m stops).stop.cause (ended m stops).stop.read) refl
     where
       by_stop : (d : Bool) → discards (ended m stops).stop.cause (ended m stops).stop.read ≡ d → ⊥
-      by_stop true is =
-          let less = (ended m stops).discarded is in
-          absurd (omega (arith, less.0, ap (λ (bs : List (List Op)). length bs) (unwritten first (suc m) None log.taken fit unknown)))
+      by_stop true is = by_read (ended m stops).stop.read refl
+        where
+          by_read : (read : Bool) → (ended m stops).stop.read ≡ read → ⊥
+          by_read false append =
+              absurd (omega (arith, (ended m stops).lost is append, ap (λ (bs : List (List Op)). length bs) (unwritten first (suc m) None log.taken fit unknown)))
+          by_read true read =
+              let a = (ended m stops).asked read in
+              All-contains AsksNothing (entries_of (suc m) log.taken) a.0 (unasked first (suc m) None log.taken fit unknown) a.1 a.2
       by_stop false is =
           let at : length log.stops - 1 ≡ m = omega (arith, stops) in
           not_so (is_halt x.body) goes
@@ -137,11 +174,6 @@ module _ {D : Type 0} (moment_of : D → ℕ) (left_since : D → ℕ → List �
   number_is (inl m) = m.safe.room.number
   number_is (inr u) = u.safe.number
 
-  -- An entry of the incarnation that has ended last, of which no read has failed, finds it ended by a halt, where it discarded nothing.
-  pub ends_by_halt : IsBackAs moment_of left_since told image faults_of start opening sound back → (e : Entry) → back.closed < e.incarnation
-      → length log.stops ≡ e.incarnation → EndsByHalt log
-  ends_by_halt known e goes stops stop last none newest =
-      ⊎_elim (λ (halts : halts_as (last_of log.taken) ≡ true). halts)
-      (λ (read : stop.read ≡ true).
-      absurd (omega (arith, goes, stops, (is_ordered moment_of left_since told image faults_of start opening sound back known).read stop last read)))
-      ((in_order known).halted stop last none newest)
+  -- The incarnation that has ended last, where it discards nothing, ended by a halt.
+  pub ends_by_halt : IsBackAs moment_of left_since told image faults_of start opening sound back → EndsByHalt log
+  ends_by_halt known stop last none newest = (in_order known).halted stop last none newest

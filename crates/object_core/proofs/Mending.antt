@@ -139,7 +139,7 @@ module _ {D : Type 0} (moment_of : D → ℕ) (left_since : D → ℕ → List �
       → After
   loses off known finds rests telling own got said (inl same) =
       unseen moment_of left_since told image faults_of script origin front inbox keeps old new line notices later out out one known telling same.identity
-      (λ free on. absurd (true≢false (sym off ∙ on))) (λ on. absurd (true≢false (sym off ∙ on))) same.log same.held same.mode same.before same.durable same.closed got said refl off
+      (λ free on. absurd (true≢false (sym off ∙ on))) (λ on. absurd (true≢false (sym off ∙ on))) same.log same.held same.mode same.before same.durable got said refl off
       (limited_as_before moment_of left_since told image faults_of origin.start origin.opening (not (is_stopped old)) origin.extent old new one.back_stands telling one.limited
       same own (λ mounted. still_end old.store new.store (ap (λ (b : Back D). b.store) (rests mounted))))
   loses off known finds rests telling own got said (inr lost) = unheard off known finds telling own got said lost.0 lost.1 lost.2 lost.3

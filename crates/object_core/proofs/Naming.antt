@@ -100,5 +100,5 @@ module _ {D : Type 0} (object : Option Object) (old new : Back D) (e : Entry) (t
       ⊎_elim
       (λ same. named_more object old new (e ∷ []) (enters.identity ∙ same) taken named)
       (λ bound. binds bound.0 bound.1 bound.2 (enters.identity ∙ bound.3))
-      (same_or_named (comes_behind (last_of old.log.taken.items) e && nat_lt old.closed e.incarnation) (not (nat_lt old.number e.incarnation)) (e.incarnation == old.number) (is_mounted_mode old.mode)
+      (same_or_named (comes_behind (last_of old.log.taken.items) e) (not (nat_lt old.number e.incarnation)) (e.incarnation == old.number) (is_mounted_mode old.mode)
       old.identity e.body)

@@ -25,9 +25,9 @@ use Rattle.output_gate.specs.declared.back.Mode.{Mode as BackMode}
 use Rattle.output_gate.specs.declared.back.Mode.TheVariants.{Mounted, Wanted, Down}
 use Rattle.object_history.proofs.Asked.{is_asked_for}
 use Rattle.object_history.proofs.Heads.{Head, is_own, is_late, head_of}
-use Rattle.object_history.proofs.OpenLines.{line_is_open}
 use Rattle.object_history.proofs.WellSaid.{delivers_well, answers_well}
 use Rattle.object_history.proofs.Wishes.{IsNoWish, none_wished}
+use Rattle.object_history.proofs.Readings.{phase_now}
 use Rattle.object_history.specs.Pair.{Held, Stand, mounted, wanted, fallen, IsUnread, Together, unreached, answered, syncs, halts, read_fails, falls, wants, mends, misses, silent, IsPair, IsPhase}
 use Rattle.object_history.specs.Saying.{is_asked}
 use Rattle.object_history.specs.Seen.{stand_of}
@@ -127,10 +127,6 @@ module _ {D : Type 0} (moment_of : D → ℕ) (left_since : D → ℕ → List �
   asks : (o : Seen) (t : OpenTask) (x : Body) → f.mode ≡ serves (waiting o t x) → is_asked x ≡ true
   asks o t x mode = is_asked_for (record { on_event = delivers_well; on_answer = answers_well }) k _ pair.start f front (backed back.log) pair.newest_said o t x mode
 
-  -- No read of the incarnation that it is of has failed.
-  is_open : back.closed < e.incarnation
-  is_open = line_is_open k opened f front (seen_of opened back) e rest notices pair
-
   abbrev Next : Type 0
   Next = NextIs back.number (stand_of back.mode) e
 
@@ -153,7 +149,7 @@ module _ {D : Type 0} (moment_of : D → ℕ) (left_since : D → ℕ → List �
   next : Next
   next =
       next_by pair.lined.late pair.lined.unread (head_of f.incarnation (suc (length pair.lined.read)) e rest pair.lined.late pair.lined.unread pair.lined.is_line)
-      pair.lined.said pair.lined.lates pair.lined.no_wish pair.phase
+      pair.lined.said pair.lined.lates pair.lined.no_wish (phase_now pair)
 
   -- By how the back stands.
   own_so : (m : BackMode) → is_wanted m ≡ false → OwnFits (stand_of m) e.body → fits_so true (is_mounted_mode m) (is_some back.identity) e.body ≡ true
@@ -172,18 +168,15 @@ module _ {D : Type 0} (moment_of : D → ℕ) (left_since : D → ℕ → List �
   within (own is fits) = ap not (le-ltb back.number e.incarnation (omega (arith, is)))
   within (late is fits) = ap not (le-ltb back.number e.incarnation (omega (arith, is)))
 
-  goes : (comes_behind (last_of taken) e && nat_lt back.closed e.incarnation) ≡ true
-  goes = two (comes_behind (last_of taken) e) (nat_lt back.closed e.incarnation) comes (lt-ltb back.closed e.incarnation is_open)
-
   abbrev fits_all : Bool
-  fits_all = (comes_behind (last_of taken) e && nat_lt back.closed e.incarnation) && not (nat_lt back.number e.incarnation)
+  fits_all = comes_behind (last_of taken) e && not (nat_lt back.number e.incarnation)
       && fits_so (e.incarnation == back.number) (is_mounted_mode back.mode) (is_some back.identity) e.body
 
   pub next_fits : is_unfit (fit_of back e) ≡ false
   next_fits =
       fit_true fits_all (e.incarnation == back.number) (is_mounted_mode back.mode)
-      (three (comes_behind (last_of taken) e && nat_lt back.closed e.incarnation) (not (nat_lt back.number e.incarnation))
-      (fits_so (e.incarnation == back.number) (is_mounted_mode back.mode) (is_some back.identity) e.body) goes (within next) (body_fits next))
+      (three (comes_behind (last_of taken) e) (not (nat_lt back.number e.incarnation))
+      (fits_so (e.incarnation == back.number) (is_mounted_mode back.mode) (is_some back.identity) e.body) comes (within next) (body_fits next))
 
   -- Behind it the object is known where it was, or is bound by it.
   bound_on : (bound : Object) → e.body ≡ body.Bind bound → (m : BackMode) → OwnFits (stand_of m) e.body → is_wanted m ≡ false → is_mounted_mode m ≡ true
@@ -196,7 +189,7 @@ module _ {D : Type 0} (moment_of : D → ℕ) (left_since : D → ℕ → List �
   bound_own bound is (late before fits) =
       absurd (never_late (backed back.log) e first here.first comes (subst (λ (b : Body). FitsKnown (known_over first taken) b) is here.knows)
       (in_order moment_of left_since told image faults_of start opening sound front back known)
-      (ends_by_halt moment_of left_since told image faults_of start opening sound front back known e is_open (omega (arith, before, number))) (marks_of back) front
+      (ends_by_halt moment_of left_since told image faults_of start opening sound front back known) (marks_of back) front
       (has_ended moment_of left_since told image faults_of start opening sound front back known) (omega (arith, before, number)))
 
   pub known_behind : is_some (identity_after (fit_of back e) back.identity e.body) ≡ known_by e.body (known_over first taken)

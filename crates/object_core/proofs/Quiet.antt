@@ -36,6 +36,7 @@ use Rattle.front_half.specs.Taking.{may_enter, waits}
 use Rattle.output_gate.proofs.Stored.{head_same}
 use Rattle.output_gate.specs.Releasing.{is_ready}
 use Rattle.output_gate.specs.Serving.{is_stopped}
+use Rattle.output_gate.specs.Held.{has_failed_read}
 use Rattle.output_gate.specs.Taking.{is_wanted, may_take, most_unflushed}
 use Rattle.output_gate.specs.Telling.{opened_map}
 use Rattle.output_gate.specs.declared.back.Back.{Back}
@@ -45,6 +46,7 @@ use Rattle.output_gate.specs.declared.held.Held.{Held as BackHeld}
 use Rattle.object_history.proofs.Entries.{said_numbered}
 use Rattle.object_history.proofs.SaidSoFar.{entries_now, events_now}
 use Rattle.object_history.proofs.StateAtRest.{pair_state}
+use Rattle.object_history.proofs.Readings.{phase_now}
 use Rattle.object_history.specs.Pair.{Held, Stand, Rear, Together, unreached, answered, syncs, halts, read_fails, falls, wants, mends, misses, silent, IsPair, IsPhase, newest}
 use Rattle.object_history.specs.Seen.{held_of, stand_of}
 use Rattle.front_history.specs.Turns.{HalvesAreWhole}
@@ -69,10 +71,11 @@ and_free : (a b : Bool) → a ≡ false → (not a && b) ≡ false → b ≡ fal
 and_free true b free is = absurd (true≢false free)
 and_free false b free is = is
 
-all_free : (stuck wanted few : Bool) → stuck ≡ false → wanted ≡ false → few ≡ true → (not stuck && not wanted && few) ≡ true
-all_free true wanted few free none so = absurd (true≢false free)
-all_free false true few free none so = absurd (true≢false none)
-all_free false false few free none so = so
+all_free : (stuck wanted failed few : Bool) → stuck ≡ false → wanted ≡ false → failed ≡ false → few ≡ true → (not stuck && not wanted && not failed && few) ≡ true
+all_free true wanted failed few free none fails so = absurd (true≢false free)
+all_free false true failed few free none fails so = absurd (true≢false none)
+all_free false false true few free none fails so = absurd (true≢false fails)
+all_free false false false few free none fails so = so
 
 none_wanted : (m : BackMode) → is_wanted m ≡ false → IsWanted (stand_of m) → ⊥
 none_wanted Mounted none want = want
@@ -167,10 +170,17 @@ module _ {D : Type 0} (moment_of : D → ℕ) (left_since : D → ℕ → List �
   no_mounting : is_wanted back.mode ≡ false
   no_mounting = and_free back.stuck (is_wanted back.mode) fits_back nothing.mend
 
+  -- Nothing is held.
+  held_none : back.held.items ≡ []
+  held_none =
+      holds_nothing moment_of left_since told image faults_of origin.start origin.opening (not (is_stopped back)) front back tells.0 tells.1 tells.2 one.back_stands even
+      (pair_needs (kind_in script class) opened one.st.front front rear (one.lost ++ core.line.waiting) core.notices.waiting is_pair (phase_now is_pair))
+      (and_free back.stuck (is_ready back.held.items back.durable) fits_back nothing.release)
+
   -- All that was sent was taken.
   takes_all : may_take back ≡ true
   takes_all =
-      all_free back.stuck (is_wanted back.mode) (nat_lt back.unflushed most_unflushed) fits_back no_mounting
+      all_free back.stuck (is_wanted back.mode) (has_failed_read back.held.items) (nat_lt back.unflushed most_unflushed) fits_back no_mounting (ap has_failed_read held_none)
       (lt-ltb back.unflushed most_unflushed
       (omega (arith, all_flushed moment_of left_since told image faults_of origin.start origin.opening (not (is_stopped back)) front back one.back_stands even)))
 
@@ -184,13 +194,6 @@ module _ {D : Type 0} (moment_of : D → ℕ) (left_since : D → ℕ → List �
   taken_is_sent =
       sym (append-nil log.taken) ∙ ap (λ (entries : List Entry). log.taken ++ entries) (sym nothing_under_way)
       ∙ sym (append_assoc log.taken one.lost core.line.waiting) ∙ sym one.is_line
-
-  -- Nothing is held.
-  held_none : back.held.items ≡ []
-  held_none =
-      holds_nothing moment_of left_since told image faults_of origin.start origin.opening (not (is_stopped back)) front back tells.0 tells.1 tells.2 one.back_stands even
-      (pair_needs (kind_in script class) opened one.st.front front rear (one.lost ++ core.line.waiting) core.notices.waiting is_pair is_pair.phase)
-      (and_free back.stuck (is_ready back.held.items back.durable) fits_back nothing.release)
 
   is_durable : AreDurable (history front log)
   is_durable = all_durable moment_of left_since told image faults_of origin.start origin.opening (not (is_stopped back)) front back one.back_stands even

@@ -43,20 +43,18 @@ use Rattle.object_core.specs.Limited.{IsLimitedBy}
 use Rattle.object_core.specs.One.{FitsItsBack, HearsOfBack, IsNamed, IsOneOf, Origin, TellsNow, class_in, messages}
 use Rattle.object_core.specs.Seen.{due_map, seen_of}
 
-abbrev looks : Contents → ℕ → Backed → Stand → List Held → ℕ → ℕ → Rear
-looks opened closed log stand held before durable =
-    record { log = log; stand = stand; held = held; before = before; durable = durable; map = due_map opened log; closed = closed }
+abbrev looks : Contents → Backed → Stand → List Held → ℕ → ℕ → Rear
+looks opened log stand held before durable = record { log = log; stand = stand; held = held; before = before; durable = durable; map = due_map opened log }
 
 -- backs that look alike
 pub seen_same : {D : Type 0} (opened : Contents) (old new : Back D) → backed new.log ≡ backed old.log → new.held.items ≡ old.held.items → new.mode ≡ old.mode
-    → new.before ≡ old.before → new.durable ≡ old.durable → new.closed ≡ old.closed → seen_of opened new ≡ seen_of opened old
-seen_same opened old new log held mode before durable closed =
-    ap (λ (x : Backed). looks opened new.closed x (stand_of new.mode) (flat_map held_of new.held.items) new.before new.durable) log
-    ∙ ap (λ (x : Mode). looks opened new.closed (backed old.log) (stand_of x) (flat_map held_of new.held.items) new.before new.durable) mode
-    ∙ ap (λ (x : List BackHeld). looks opened new.closed (backed old.log) (stand_of old.mode) (flat_map held_of x) new.before new.durable) held
-    ∙ ap (λ (x : ℕ). looks opened new.closed (backed old.log) (stand_of old.mode) (flat_map held_of old.held.items) x new.durable) before
-    ∙ ap (λ (x : ℕ). looks opened new.closed (backed old.log) (stand_of old.mode) (flat_map held_of old.held.items) old.before x) durable
-    ∙ ap (λ (x : ℕ). looks opened x (backed old.log) (stand_of old.mode) (flat_map held_of old.held.items) old.before old.durable) closed
+    → new.before ≡ old.before → new.durable ≡ old.durable → seen_of opened new ≡ seen_of opened old
+seen_same opened old new log held mode before durable =
+    ap (λ (x : Backed). looks opened x (stand_of new.mode) (flat_map held_of new.held.items) new.before new.durable) log
+    ∙ ap (λ (x : Mode). looks opened (backed old.log) (stand_of x) (flat_map held_of new.held.items) new.before new.durable) mode
+    ∙ ap (λ (x : List BackHeld). looks opened (backed old.log) (stand_of old.mode) (flat_map held_of x) new.before new.durable) held
+    ∙ ap (λ (x : ℕ). looks opened (backed old.log) (stand_of old.mode) (flat_map held_of old.held.items) x new.durable) before
+    ∙ ap (λ (x : ℕ). looks opened (backed old.log) (stand_of old.mode) (flat_map held_of old.held.items) old.before x) durable
 
 pub same_queue : {X : Type 0} (old new : Both X) → new.got ≡ old.got → new.waiting ≡ old.waiting → new ≡ old
 same_queue {X} old new got waiting =
@@ -190,16 +188,16 @@ module _ {D : Type 0} (moment_of : D → ℕ) (left_since : D → ℕ → List �
 
     -- Nothing that is seen has changed where memory was wanting.
     pub unseen : backed new.log ≡ backed old.log → new.held.items ≡ old.held.items → new.mode ≡ old.mode → new.before ≡ old.before → new.durable ≡ old.durable
-        → new.closed ≡ old.closed → later.got ≡ notices.got → sent_on later ≡ sent_on notices → later_out ≡ out → is_stopped new ≡ true → IsLimitedBy told origin.extent new
+        → later.got ≡ notices.got → sent_on later ≡ sent_on notices → later_out ≡ out → is_stopped new ≡ true → IsLimitedBy told origin.extent new
         → One new line later later_out
-    unseen log held mode before durable closed got said left off limited =
+    unseen log held mode before durable got said left off limited =
         rebuilt old new line line notices later out later_out one known telling
         (named_still origin.object old new same (ap (λ (x : Backed). x.taken) log) one.named) one.lost none (still_line (ap (λ (x : Backed). x.taken) log))
         (ap (λ (x : Backed). messages x.released) log ∙ one.left ∙ ap (λ (x : Both Sent). origin.left ++ sent_on x) (sym left))
         (λ tells k paired.
         paired_as k (opened_map origin.start) one.st front (seen_of (opened_map origin.start) old) (seen_of (opened_map origin.start) new)
         (one.lost ++ line.waiting) (one.lost ++ line.waiting) notices.waiting later.waiting
-        (seen_same (opened_map origin.start) old new log held mode before durable closed) refl (sym (took_none notices later got said)) paired)
+        (seen_same (opened_map origin.start) old new log held mode before durable) refl (sym (took_none notices later got said)) paired)
         (λ tells on goes. absurd (true≢false (sym off ∙ goes)))
         (fits_still old new line notices out one telling was same (ap (λ (x : Backed). x.taken) log)) limited
         (λ tells some none. some (ap (λ (x : Backed). x.downs) (sym log) ∙ none))

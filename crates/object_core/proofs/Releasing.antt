@@ -117,7 +117,7 @@ module _ {D : Type 0} (moment_of : D → ℕ) (left_since : D → ℕ → List �
   may_as may is on known (Err fault) by =
       let s = by.stays in
       unseen moment_of left_since told image faults_of script origin front inbox keeps old new line notices later out later_out one known (still_tells told old.store new.store by.disk) s.identity
-      (λ free off. absurd (true≢false (sym by.stops.wanting ∙ off))) (λ off. absurd (true≢false (sym by.stops.wanting ∙ off))) s.log (ap (λ h. h.items) s.held) s.mode s.before s.durable s.closed by.outlet s.told
+      (λ free off. absurd (true≢false (sym by.stops.wanting ∙ off))) (λ off. absurd (true≢false (sym by.stops.wanting ∙ off))) s.log (ap (λ h. h.items) s.held) s.mode s.before s.durable by.outlet s.told
       (same_queue out later_out by.left (sym (took_none out later_out by.left s.left))) by.stops.wanting
       (limited_stays moment_of left_since told image faults_of origin.start origin.opening (not (is_stopped old)) origin.extent old new one.back_stands
       (still_tells told old.store new.store by.disk) one.limited (sent_on notices) (sent_on later) (sent_on out) (sent_on later_out) s)

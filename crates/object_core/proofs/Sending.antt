@@ -105,7 +105,7 @@ inner_easy body.Mend is = absurd (true≢false (sym is))
 asked_easy : (b : Body) → is_asked b ≡ true → Easy true b
 asked_easy (body.Batch ops (Some tail) confirmed) is = record { fits = refl; same = refl; goes = refl }
 asked_easy (body.Batch ops None confirmed) is = absurd (true≢false (sym is))
-asked_easy (body.Ask ask free) is = record { fits = tt; same = refl; goes = refl }
+asked_easy (body.Ask ask free) is = record { fits = refl; same = refl; goes = refl }
 asked_easy body.Sync is = record { fits = tt; same = refl; goes = refl }
 asked_easy (body.Message sent) is = absurd (true≢false (sym is))
 asked_easy (body.Bind identity) is = absurd (true≢false (sym is))

@@ -27,7 +27,7 @@ use Rattle.object_history.proofs.GateTaking as gate
 use Rattle.object_history.specs.Stepping.{BackSteps}
 use Rattle.front_history.specs.Turns.{BackStepsKeep}
 use Rattle.object_core.proofs.Dropping.{steps_downs}
-use Rattle.object_core.proofs.Due.{AnswersSo, answers_due, seen_is_rear, unfit_closes}
+use Rattle.object_core.proofs.Due.{AnswersSo, answers_due, seen_is_rear}
 use Rattle.object_core.proofs.Fitting.{one_fits}
 use Rattle.object_core.proofs.Lanes.{took_first, took_none, sent_last}
 use Rattle.object_core.proofs.Limiting.{limited_as_before, limited_enters}
@@ -54,9 +54,9 @@ pub record TakesBy {D : Type 0} (moment_of : D → ℕ) (left_since : D → ℕ 
   pub disk : ReadsDisk told old.store new.store
   pub back : KeepsBack moment_of left_since told image faults_of old new
 
-free_of : (stuck wanted few : Bool) → (not stuck && wanted && few) ≡ true → stuck ≡ false
-free_of true wanted few is = absurd cc
-free_of false wanted few is = refl
+free_of : (stuck wanted failed few : Bool) → (not stuck && wanted && failed && few) ≡ true → stuck ≡ false
+free_of true wanted failed few is = absurd cc
+free_of false wanted failed few is = refl
 
 abbrev pub did_so : Result Stepped NoMemory
 did_so = Ok Did
@@ -124,18 +124,18 @@ module _ {D : Type 0} (moment_of : D → ℕ) (left_since : D → ℕ → List �
 
     -- The entry isn't logged, and nothing else that is seen changes.
     unlogged : backed new.log ≡ backed old.log → new.held.items ≡ old.held.items → new.mode ≡ old.mode → new.before ≡ old.before → new.durable ≡ old.durable
-        → new.closed ≡ old.closed → new.identity ≡ old.identity → (new.stuck ≡ false → is_stopped new ≡ false → ⊥) → FitsItsBack told script origin.object front new
+        → new.identity ≡ old.identity → (new.stuck ≡ false → is_stopped new ≡ false → ⊥) → FitsItsBack told script origin.object front new
         → sent_on later ≡ sent_on notices → IsLimitedBy told origin.extent new → After
-    unlogged log held mode before durable closed same bad fits told_same limited =
+    unlogged log held mode before durable same bad fits told_same limited =
         rebuilt moment_of left_since told image faults_of script origin front inbox old new line later_line notices later out out one known telling
         (named_still origin.object old new same (ap (λ (x : Backed). x.taken) log) one.named) (e ∷ [])
         (λ free on. absurd (bad free on))
         (sent_so ∙ sym (append_assoc old.log.taken.items (e ∷ []) later_line.waiting) ∙ ap (λ (x : Backed). x.taken ++ e ∷ [] ++ later_line.waiting) (sym log))
         (ap (λ (x : Backed). messages x.released) log ∙ one.left)
         (λ tells k paired. paired_as k opened one.st front (seen_of opened old) (seen_of opened new) (one.lost ++ line.waiting) (e ∷ later_line.waiting)
-        notices.waiting later.waiting (seen_same opened old new log held mode before durable closed) (sym waits_first) (sym (took_none notices later kept told_same)) paired)
+        notices.waiting later.waiting (seen_same opened old new log held mode before durable) (sym waits_first) (sym (took_none notices later kept told_same)) paired)
         (hears_as moment_of left_since told image faults_of script origin front inbox old new line notices out one telling (λ goes. on) (e ∷ later_line.waiting) later.waiting
-        (seen_same opened old new log held mode before durable closed) (sym waits_first) (sym (took_none notices later kept told_same))) fits limited
+        (seen_same opened old new log held mode before durable) (sym waits_first) (sym (took_none notices later kept told_same))) fits limited
         (λ tells some none. some (ap (λ (x : Backed). x.downs) (sym log) ∙ none))
 
     limited_so : (failed : Failed) → Enters failed old new e → IsLimitedBy told origin.extent new
@@ -147,7 +147,7 @@ module _ {D : Type 0} (moment_of : D → ℕ) (left_since : D → ℕ → List �
         unlogged (enters.log ∙ unfit_log (fit_of old e) (backed old.log) e is)
         (enters.held ∙ ap (λ (x : List BackHeld). old.held.items ++ x) (unfit_holds failed old e enters.may is) ∙ append-nil old.held.items)
         (enters.mode ∙ unfit_mode (fit_of old e) old.mode e.body is) (enters.before ∙ unfit_before (fit_of old e) old.before e.body is) enters.durable
-        (enters.closed ∙ unfit_closes failed old e enters.may is) (enters.identity ∙ unfit_identity (fit_of old e) old.identity e.body is)
+        (enters.identity ∙ unfit_identity (fit_of old e) old.identity e.body is)
         (λ free on. true≢false (sym is ∙ sym enters.stuck ∙ free))
         (λ has tells goes_on goes. absurd (true≢false (sym is ∙ (fits_so has tells goes_on may).0))) told_same (limited_so failed enters)
 
@@ -221,13 +221,13 @@ module _ {D : Type 0} (moment_of : D → ℕ) (left_since : D → ℕ → List �
     loses : LosesEntry old new line.got later_line.got (sent_on notices) (sent_on later) → may_take old ≡ true → is_stopped new ≡ true
         → (IsAsBefore old new ⊎ ((failed : Failed) × Enters failed old new e)) → sent_on later ≡ sent_on notices → After
     loses lost may off (inl same) said =
-        unlogged same.log same.held same.mode same.before same.durable same.closed same.identity (λ free on. true≢false (sym off ∙ on))
+        unlogged same.log same.held same.mode same.before same.durable same.identity (λ free on. true≢false (sym off ∙ on))
         (λ has tells goes_on goes. absurd (true≢false (sym off ∙ goes))) said (limited_as_before moment_of left_since told image faults_of origin.start origin.opening (not (is_stopped old)) origin.extent old new one.back_stands telling one.limited
         same (same_disk.limit old.limit) (λ mounted. same_disk.end))
     loses lost may off (inr (failed, enters)) said = unheard_as failed (is_unfit (fit_of old e)) refl enters may off said
 
   may_not : may_take old ≡ true → old.stuck ≡ false
-  may_not may = free_of old.stuck _ _ may
+  may_not may = free_of old.stuck _ _ _ may
 
   -- A take keeps the object one.
   may_as : (may : Bool) → may_take old ≡ may → is_stopped old ≡ false → Known → (result : Result Stepped NoMemory)

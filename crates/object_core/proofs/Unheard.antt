@@ -10,8 +10,10 @@ use Rattle.timeline.specs.declared.notice.Notice.{Notice}
 use Rattle.front_half.specs.Standing.{Stood}
 use Rattle.object_front.specs.declared.evaluated.Evaluated.{Evaluated}
 use Rattle.front_half.specs.declared.half.Half.{Half}
+use Rattle.std.proofs.lemmas.List.Elements.{All-nil}
 use Rattle.object_history.proofs.Entries.{all_front}
-use Rattle.object_history.specs.Pair.{Held, Stand, mounted, wanted, fallen, Rear, IsEnd, IsSilentAt, IsNews, IsLeftOver, Behind, Together, unreached, answered, syncs, halts, read_fails, falls, wants, mends, misses, silent, IsPair}
+use Rattle.object_history.proofs.Readings.{phase_now}
+use Rattle.object_history.specs.Pair.{Held, Stand, mounted, wanted, fallen, Rear, IsSilentAt, IsNews, IsLeftOver, Behind, Together, unreached, answered, syncs, halts, read_fails, falls, wants, mends, misses, silent, IsPair, IsReading}
 use Rattle.front_history.specs.Paired.{ArePaired, logged_with}
 use Rattle.object_core.proofs.Hearing.{some_last}
 
@@ -112,31 +114,21 @@ pair_unheard k opened f front rear line notices n pair = record {
   number = pair.number;
   logged = pair.logged;
   lined = pair.lined;
-  closed_to = record {
-    within = pair.closed_to.within;
-    waits = λ by.
-        let w = pair.closed_to.waits by in
-        record {
-          object = w.object;
-          task = w.task;
-          ask = w.ask;
-          free = w.free;
-          mode = w.mode;
-          none_unread = w.none_unread;
-          no_answer = all_front IsEnd notices (n ∷ []) w.no_answer;
-        };
-    open_late = pair.closed_to.open_late;
-  };
   ends = pair.ends;
   older_said = pair.older_said;
   older_halted = pair.older_halted;
   start = pair.start;
   starts = pair.starts;
   newest_said = pair.newest_said;
+  gated = pair.gated;
+  readings = [];
+  rest = notices;
+  under_way = refl;
+  are_readings = All-nil (IsReading pair.start f);
   phase =
       ⊎_elim
       (λ together. inl (together.0, together_less pair.start f front rear.log pair.lined.unread rear.before n rear.stand rear.held (notices ++ n ∷ []) notices together.1 refl))
-      (λ behind. inr (behind.0, behind_less pair.start _ pair.below f pair.lined.unread pair.lined.late rear n notices behind.1)) pair.phase;
+      (λ behind. inr (behind.0, behind_less pair.start _ pair.below f pair.lined.unread pair.lined.late rear n notices behind.1)) (phase_now pair);
 }
 
 -- So is a front, whether it goes on or was stopped.

@@ -16,6 +16,7 @@ use Rattle.timeline.specs.declared.event.Event.{Event}
 use Rattle.timeline.specs.declared.notice.Notice.{Notice}
 use Rattle.timeline.specs.declared.notice.Notice.TheVariants as notice
 use Rattle.front_half.specs.Taking.{waits}
+use Rattle.object_history.proofs.Readings.{phase_now}
 use Rattle.object_history.specs.Pair.{Held, Stand, mounted, wanted, fallen, sync, halt, Rear, newest, awaited, IsSilentAt, Together, unreached, answered, syncs, halts, read_fails, falls, wants, mends, misses, silent, IsPair, IsPhase}
 use Rattle.object_core.proofs.Hearing.{not_none}
 use Rattle.object_core.proofs.Serving.{takes_on}
@@ -183,7 +184,7 @@ module _ (k : Kind) (opened : Contents) (f : Front) (front : Fronted) (r : Rear)
           ))
 
   pub holds_answer : IsPair k opened f front r [] [] → HoldsAnswer r n
-  holds_answer pair = by_phase pair (unread_none pair) pair.phase
+  holds_answer pair = by_phase pair (unread_none pair) (phase_now pair)
     where
       none_numbered : (i number : ℕ) (bodies : List Body) → numbered i number bodies ≡ [] → bodies ≡ []
       none_numbered i number [] is = refl

@@ -25,10 +25,11 @@ abbrev pub last_over : Option Entry → List Entry → Option Entry
 last_over last [] = last
 last_over last (e ∷ entries) = last_over (Some e) entries
 
--- An entry fits an object that is known, or isn't: it is bound once and then writes, and a halt names a cause of a front.
+-- An entry fits an object that is known, or isn't: it is bound once, and then writes and reads, and a halt names a cause of a front.
 abbrev pub FitsKnown : Bool → Body → Type 0
 FitsKnown known (body.Bind identity) = known ≡ false
 FitsKnown known (body.Batch ops tail confirmed) = known ≡ true
+FitsKnown known (body.Ask ask free) = known ≡ true
 FitsKnown known (body.Halt c) = is_halting c ≡ true
 FitsKnown known b = Unit {0}
 

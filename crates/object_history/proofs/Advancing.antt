@@ -1,7 +1,6 @@
 -- A step of its object keeps a front and a back a pair: at an event that is delivered, and at an answer of the storage.
-use Rattle.std.proofs.Common.{◌≡◌, ◌∙◌, ap, sym, subst, refl, ℕ, suc, ◌<◌, List, [], ◌∷◌, ◌++◌, append-nil, append_assoc, length}
+use Rattle.std.proofs.Common.{◌≡◌, ◌∙◌, ap, sym, subst, refl, ℕ, suc, List, [], ◌∷◌, ◌++◌, append-nil, append_assoc, length}
 use Rattle.std.proofs.lemmas.List.{append_cancel_left}
-use Rattle.std.proofs.lemmas.List.Elements.{All-head}
 use Rattle.storage_map.specs.Contents.{Contents}
 use Rattle.script_mean.specs.declared.answer.Answer.{Answer}
 use Rattle.timeline.specs.History.{History, of_number, incarnations}
@@ -14,12 +13,13 @@ use Rattle.timeline.specs.declared.entry.Body.{Body}
 use Rattle.timeline.specs.declared.entry.Entry.{Entry}
 use Rattle.timeline.specs.declared.event.Event.{Event}
 use Rattle.timeline.specs.declared.notice.Notice.{Notice}
-use Rattle.object_history.proofs.Closing.{open_unless}
+use Rattle.std.specs.List.{All}
 use Rattle.object_history.proofs.Frames.{now, GoesOn, own_calls, down_same, kept}
-use Rattle.object_history.proofs.Ready.{end_answers_none, is_idle, is_serving, same_state, IsReady, ready_steps, idle_ready, IsTheMaps, waiting_ready}
+use Rattle.object_history.proofs.Ready.{is_serving, same_state, IsReady, ready_steps, idle_ready, IsTheMaps, waiting_ready}
 use Rattle.object_history.specs.Laws.{TellingGoesOn, StepsSayWell}
-use Rattle.object_history.specs.Pair.{Rear, IsEnd, IsUnread, IsNewest, serving, falling, IsPair}
-use Rattle.object_history.specs.Saying.{LeadTo}
+use Rattle.object_history.proofs.Readings.{phase_now, step_gated}
+use Rattle.object_history.specs.Pair.{Rear, IsUnread, IsNewest, serving, falling, IsPair}
+use Rattle.object_history.specs.Saying.{LeadTo, IsGated}
 use Rattle.object_history.specs.Stepping.{Grows}
 use Rattle.object_history.specs.Telling.{Tells}
 
@@ -42,13 +42,13 @@ newest_steps k older start f front new back es said state was is same goes (fall
 -- A step where one may come.
 stepped : (k : Kind) (opened : Contents) (f : Front) (front new : Fronted) (rear : Rear) (line : List Entry) (notices left : List Notice)
     (pair : IsPair k opened f front rear line notices) (more : List Body) (events : List Event) → GoesOn f front new more events []
-    → (es : List Event) (said : List Body) (state was : State) → f.mode ≡ serves was → rear.closed < f.incarnation → es ≡ f.events ++ events → said ≡ f.said ++ more
-    → IsUnread (serves state) more
+    → (es : List Event) (said : List Body) (state was : State) → f.mode ≡ serves was → es ≡ f.events ++ events → said ≡ f.said ++ more
+    → IsUnread (serves state) more → All IsGated more
     → ((before : List Body) → Tells k pair.start before f → Tells k pair.start before (now f es said (serves state)))
     → IsReady opened pair.below f front rear pair.lined.unread pair.lined.late left
     → IsPair k opened (now f es said (serves state)) new rear (line ++ numbered f.incarnation (suc (length f.said)) more) left
-stepped k opened f front new rear line notices left pair more events goes es said state was is unclosed all_events all_said unread tells ready =
-    kept k opened f front new rear line notices pair more events [] goes es said (serves state) left unclosed all_events all_said
+stepped k opened f front new rear line notices left pair more events goes es said state was is all_events all_said unread gated tells ready =
+    kept k opened f front new rear line notices pair more events [] goes es said (serves state) left gated all_events all_said
     (newest_steps k (incarnations front rear.log pair.below) pair.start f front new rear.log es said state was is
     (own_calls f front new more events [] goes ∙ append-nil (of_number f.incarnation front.downed)) tells pair.newest_said)
     (ready_steps opened pair.below pair.start f front new rear pair.lined.unread more pair.lined.late left es said state unread ready)
@@ -70,10 +70,11 @@ on_event goes_on well k opened i es said o e old new rear line left pair grows =
     let goes : GoesOn f old new grows.more (e ∷ []) [] =
     record { sent = grows.sent; delivered = grows.delivered; downed = grows.downed; ends = grows.ends ∙ append-nil old.ends } in
     stepped k opened f old new rear line left left pair grows.more (e ∷ []) goes (es ++ e ∷ []) ((said ++ step.says) ++ asking step.state) step.state (idle o)
-    refl (open_unless rear.closed f pair.lined.late pair.lined.unread left pair.closed_to (λ w. is_idle f.mode o _ refl w.mode)) refl grows.said
+    refl refl grows.said
     (subst (λ (x : List Body). IsUnread (serves step.state) x) (sym more_is) (step_unread step.says step.state (well.on_event (life k i) o e)))
+    (subst (λ (x : List Body). All IsGated x) (sym more_is) (step_gated step.says step.state (well.on_event (life k i) o e)))
     (λ before tells. goes_on.on_event k pair.start before f o e tells refl)
-    (idle_ready opened pair.below pair.start f old rear pair.lined.unread pair.lined.late left o refl pair.phase)
+    (idle_ready opened pair.below pair.start f old rear pair.lined.unread pair.lined.late left o refl (phase_now pair))
 
 -- The last of what was said is the entry that is waited for.
 abbrev last_of : Body → List Body → Body
@@ -111,13 +112,13 @@ on_answer well k opened i es said o t b n a old new rear line left gives pair mo
     let step : Step = answers (life k i) o t a in
     let more_is : more ≡ step.says ++ asking step.state =
     append_cancel_left said more (step.says ++ asking step.state) (sym all_said ∙ append_assoc said step.says (asking step.state)) in
-    let ready = waiting_ready opened pair.below pair.start f old rear pair.lined.unread pair.lined.late n left o t b a refl gives pair.phase in
+    let ready = waiting_ready opened pair.below pair.start f old rear pair.lined.unread pair.lined.late n left o t b a refl gives (phase_now pair) in
     let is : IsTheMaps pair.start f n = ready.1 in
     stepped k opened f old new rear line (n ∷ left) left pair more [] goes es ((said ++ step.says) ++ asking step.state) step.state (waiting o t b)
     refl
-    (open_unless rear.closed f pair.lined.late pair.lined.unread (n ∷ left) pair.closed_to (λ w. end_answers_none n a (All-head IsEnd n left w.no_answer) gives))
     (sym (append-nil es)) all_said
     (subst (λ (x : List Body). IsUnread (serves step.state) x) (sym more_is) (step_unread step.says step.state (well.on_answer (life k i) o t a)))
+    (subst (λ (x : List Body). All IsGated x) (sym more_is) (step_gated step.says step.state (well.on_answer (life k i) o t a)))
     (λ before tells.
     let same : is.asked ≡ b = asked_is k pair.start before f o t b refl tells is.first is.asked is.said in
     tells_on before is.first tells (is.said ∙ ap (λ (x : Body). is.first ++ x ∷ []) same)

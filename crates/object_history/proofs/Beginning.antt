@@ -15,13 +15,12 @@ use Rattle.timeline.specs.declared.entry.Body.{Body}
 use Rattle.timeline.specs.declared.entry.Entry.{Entry}
 use Rattle.timeline.specs.declared.event.Event.{Event}
 use Rattle.timeline.specs.Passed.{is_mend, is_said_down}
-use Rattle.object_history.proofs.Closing.{open_to}
-use Rattle.object_history.specs.Pair.{Held, Stand, mounted, Rear, IsLogged, IsLine, IsUnread, IsCall, failures, SaysDown, serving, Together, unreached, IsPair}
-use Rattle.object_history.specs.Saying.{is_plain}
+use Rattle.object_history.specs.Pair.{Held, Stand, mounted, Rear, IsLogged, IsLine, IsUnread, IsCall, failures, SaysDown, serving, Together, unreached, IsPair, IsReading}
+use Rattle.object_history.specs.Saying.{is_plain, IsGated}
 use Rattle.object_history.specs.Telling.{Tells}
 
 module _ (k : Kind) (opened : Contents) (front : Fronted) (rear : Rear)
-    (stand : rear.stand ≡ mounted) (held : rear.held ≡ []) (closed : rear.closed ≡ 0) (taken : rear.log.taken ≡ []) (stops : rear.log.stops ≡ [])
+    (stand : rear.stand ≡ mounted) (held : rear.held ≡ []) (taken : rear.log.taken ≡ []) (stops : rear.log.stops ≡ [])
     (delivered : front.delivered ≡ []) (downed : front.downed ≡ []) (sent : front.sent ≡ []) (ends : front.ends ≡ []) where
   abbrev first : Front
   first = intake.opened opened.alarm
@@ -88,12 +87,16 @@ module _ (k : Kind) (opened : Contents) (front : Fronted) (rear : Rear)
     number = refl;
     logged = logged;
     lined = lined;
-    closed_to = open_to rear.closed first [] [] [] (omega (arith, closed)) refl;
     ends = ends;
     older_said = tt;
     older_halted = tt;
     start = opened;
     starts = refl;
     newest_said = serving [] tells says_none;
+    gated = All-nil IsGated;
+    readings = [];
+    rest = [];
+    under_way = refl;
+    are_readings = All-nil (IsReading opened first);
     phase = inl (ap (λ (all : List Stop). length all) stops, together);
   }

@@ -2,7 +2,7 @@
 use Rattle.std.proofs.Common.{◌≡◌, ◌∙◌, ap, sym, subst, refl, inl, inr, true, ℕ, suc, List, [], ◌∷◌, ◌++◌, append-nil, append_assoc, length, arith, Option, Some, None, IfSome}
 use Rattle.std.proofs.lemmas.Grind.{flat_map-append}
 use Rattle.std.proofs.lemmas.List.{length_push, append_cancel_left}
-use Rattle.std.proofs.lemmas.List.Elements.{All-append, All-push}
+use Rattle.std.proofs.lemmas.List.Elements.{All-append, All-push, All-nil, All-cons}
 use Rattle.std.specs.Prelude.{ℤ}
 use Rattle.std.specs.List.{All}
 use Rattle.storage_map.specs.Contents.{Contents}
@@ -22,14 +22,14 @@ use Rattle.timeline.specs.declared.event.Event.{Event}
 use Rattle.timeline.specs.declared.notice.Notice.{Notice}
 use Rattle.timeline.specs.declared.notice.Notice.TheVariants as notice
 use Rattle.object_history.proofs.Advancing.{front}
-use Rattle.object_history.proofs.Closing.{open_unless}
 use Rattle.object_history.proofs.Downs.{is_down, same_call, none_waits, IsFresh, alarm_in, counts_in, written_both, down_more, failures_more, replies_down, replies_plain, replies_silent}
 use Rattle.object_history.proofs.Frames.{now, GoesOn, own_calls, down_same, kept}
 use Rattle.object_history.proofs.Ready.{not_nil, same_head, same_rest, none_plain, all_plain, unread_more, IsReadyNow, at_stand, ready_steps}
 use Rattle.object_history.specs.Laws.{TellingGoesOn}
+use Rattle.object_history.proofs.Readings.{are_gated, phase_now, plain_gated}
 use Rattle.object_history.specs.Pair as pair_specs
 use Rattle.object_history.specs.Pair.{Held, Stand, mounted, fallen, Rear, IsUnread, IsSilentAt, IsCall, calls_down, failures, SaysDown, IsNewest, serving, falling, Together, unreached, answered, syncs, halts, read_fails, falls, wants, mends, misses, silent, IsPhase, IsPair}
-use Rattle.object_history.specs.Saying.{ArePlain}
+use Rattle.object_history.specs.Saying.{ArePlain, IsGated, is_plain}
 use Rattle.object_history.specs.Stepping.{Grows}
 
 -- ---- the mounting is good
@@ -98,10 +98,9 @@ on_mended goes_on k opened i es said call number alarm cause old new rear line l
     let same : of_number i new.downed ≡ of_number i old.downed = own_calls f old new more [] [] goes ∙ append-nil (of_number i old.downed) in
     let unread : IsUnread (serves (idle (begun alarm))) more = record { plain = []; are_plain = none_plain [] refl; is = sym none_more } in
     let phase = mended_phase opened pair.below pair.start f old new rear pair.lined.unread more pair.lined.late call number alarm cause left refl unread
-    pair.phase in
+    (phase_now pair) in
     kept k opened f old new rear line (notice.Fresh number alarm cause ∷ left) pair more [] [] goes es said (serves (idle (begun alarm))) left
-    (open_unless rear.closed f pair.lined.late pair.lined.unread (notice.Fresh number alarm cause ∷ left) pair.closed_to (λ w. is_down f.mode _ (Some call) w.mode refl))
-    (sym (append-nil es)) grows.said
+    (subst (λ (bodies : List Body). All IsGated bodies) none_more (All-nil IsGated)) (sym (append-nil es)) grows.said
     (mended_newest goes_on k (incarnations old rear.log pair.below) pair.start f old new rear.log (Some call) alarm refl phase.1 same pair.newest_said) phase.0
 
 -- ---- the mounting fails
@@ -223,7 +222,7 @@ on_missed k opened i es said call cause before after old new rear line left pair
     let goes : GoesOn f old new more [] (call ∷ []) =
     record { sent = grows.sent; delivered = grows.delivered; downed = grows.downed; ends = grows.ends ∙ append-nil old.ends } in
     let called : of_number i new.downed ≡ of_number i old.downed ++ call ∷ [] = own_calls f old new more [] (call ∷ []) goes in
-    let phase = missed_phase opened pair.below pair.start f old rear pair.lined.unread pair.lined.late call cause before after left refl pair.phase in
+    let phase = missed_phase opened pair.below pair.start f old rear pair.lined.unread pair.lined.late call cause before after left refl (phase_now pair) in
     let missed : IsMissed f old rear.log pair.lined.unread rear.stand rear.held left before after = phase.1 in
     let older : History = incarnations old rear.log pair.below in
     let newest = missed_newest k older pair.start f old new rear.log pair.lined.unread rear.stand rear.held left call before after (said ++ replies)
@@ -243,8 +242,7 @@ on_missed k opened i es said call cause before after old new rear line left pair
     unread_more (down None) pair.lined.unread more (none_plain pair.lined.unread missed.none_unread)
     (record { plain = more; are_plain = plain; is = sym (append-nil more) }) in
     kept k opened f old new rear line (notice.Down cause before after ∷ left) pair more [] (call ∷ []) goes es (said ++ replies) (down None) left
-    (open_unless rear.closed f pair.lined.late pair.lined.unread (notice.Down cause before after ∷ left) pair.closed_to (λ w. is_down f.mode _ (Some call) w.mode refl))
-    (sym (append-nil es)) grows.said newest.0
+    (are_gated is_plain plain_gated more plain) (sym (append-nil es)) grows.said newest.0
     (inl (
       phase.0,
       at_stand (Together pair.start g new rear.log (pair.lined.unread ++ more) rear.before) rear.stand (fallen missed.cause) rear.held [] left []
@@ -321,8 +319,7 @@ on_wanted k opened i es said e old new rear line left pair call grows =
     record { sent = grows.sent; delivered = grows.delivered; downed = grows.downed; ends = grows.ends ∙ append-nil old.ends } in
     let same : of_number i new.downed ≡ of_number i old.downed = own_calls f old new more [] [] goes ∙ append-nil (of_number i old.downed) in
     kept k opened f old new rear line left pair more [] [] goes es (said ++ body.Mend ∷ []) (down (Some e)) left
-    (open_unless rear.closed f pair.lined.late pair.lined.unread left pair.closed_to (λ w. is_down f.mode _ None w.mode refl))
-    (sym (append-nil es)) grows.said
+    (subst (λ (bodies : List Body). All IsGated bodies) (sym more_is) (All-cons IsGated body.Mend [] tt (All-nil IsGated))) (sym (append-nil es)) grows.said
     (wanted_newest k (incarnations old rear.log pair.below) pair.start f old new rear.log e refl call same pair.newest_said)
     (wanted_phase opened pair.below pair.start f old new rear pair.lined.unread more pair.lined.late e left (said ++ body.Mend ∷ []) refl more_is same
-    pair.phase)
+    (phase_now pair))

@@ -1,5 +1,5 @@
 -- An event that a front drops changes nothing of a pair.
-use Rattle.std.proofs.Common.{◌∙◌, sym, subst, refl, inl, inr, ℕ, suc, List, arith}
+use Rattle.std.proofs.Common.{◌∙◌, sym, subst, refl, inl, inr, ℕ, suc, List, arith, []}
 use Rattle.storage_map.specs.Contents.{Contents}
 use Rattle.timeline.specs.History.{History, incarnations}
 use Rattle.timeline.specs.Intake.{Kind, Front}
@@ -8,9 +8,11 @@ use Rattle.timeline.specs.declared.entry.Body.{Body}
 use Rattle.timeline.specs.declared.entry.Entry.{Entry}
 use Rattle.timeline.specs.declared.event.Event.{Event}
 use Rattle.timeline.specs.declared.notice.Notice.{Notice}
+use Rattle.std.proofs.lemmas.List.Elements.{All-nil}
 use Rattle.object_history.proofs.Frames.{down_same}
 use Rattle.object_history.proofs.OlderFronts.{AreSameTo, halted_same, older_same, said_same, start_same}
-use Rattle.object_history.specs.Pair.{Held, Stand, Rear, IsLogged, IsLine, IsNewest, serving, falling, Together, unreached, answered, syncs, halts, read_fails, falls, wants, mends, misses, silent, Behind, IsPhase, IsPair}
+use Rattle.object_history.proofs.Readings.{phase_now}
+use Rattle.object_history.specs.Pair.{Held, Stand, Rear, IsLogged, IsLine, IsNewest, serving, falling, Together, unreached, answered, syncs, halts, read_fails, falls, wants, mends, misses, silent, Behind, IsPhase, IsPair, IsReading}
 
 -- The log with other events dropped.
 abbrev with_dropped : Fronted → List Event → Fronted
@@ -94,11 +96,6 @@ on_dropped k opened f front rear line notices dropped pair =
       number = pair.number;
       logged = logged_same f front dropped pair.logged;
       lined = lined_same f front dropped rear.log.taken line pair.lined;
-      closed_to = record {
-        within = pair.closed_to.within;
-        waits = pair.closed_to.waits;
-        open_late = pair.closed_to.open_late;
-      };
       ends = pair.ends;
       older_said = said_same pair.below front (with_dropped front dropped) same rear.log k.script k.class opened pair.below (omega arith) pair.older_said;
       older_halted = halted_same pair.below front (with_dropped front dropped) same rear.log k.script k.class opened pair.below (omega arith) pair.older_halted;
@@ -107,5 +104,10 @@ on_dropped k opened f front rear line notices dropped pair =
       newest_said = subst (λ (older : History). IsNewest k older pair.start f (with_dropped front dropped) rear.log)
           (sym (older_same pair.below front (with_dropped front dropped) same rear.log pair.below (omega arith)))
           (newest_same k (incarnations front rear.log pair.below) pair.start f front dropped rear.log pair.newest_said);
-      phase = phase_same opened pair.below pair.start f front dropped rear pair.lined.unread pair.lined.late notices pair.phase;
+      gated = pair.gated;
+      readings = [];
+      rest = notices;
+      under_way = refl;
+      are_readings = All-nil (IsReading pair.start f);
+      phase = phase_same opened pair.below pair.start f front dropped rear pair.lined.unread pair.lined.late notices (phase_now pair);
     }

@@ -21,10 +21,10 @@ use Rattle.timeline.specs.declared.event.Event.{Event}
 use Rattle.timeline.specs.declared.notice.Notice.{Notice}
 use Rattle.timeline.specs.declared.notice.Notice.TheVariants as notice
 use Rattle.output_gate.proofs.Histories.{entries_none}
+use Rattle.timeline.specs.Passed.{is_said_down}
 use Rattle.object_history.proofs.Advancing.{front}
 use Rattle.object_history.proofs.Downs.{resets_down, resets_silent, resets_plain}
 use Rattle.object_history.proofs.Asked.{is_asked_for}
-use Rattle.object_history.proofs.Closing.{open_unless}
 use Rattle.object_history.proofs.Ended.{IsFollowedBy, ended_phase}
 use Rattle.object_history.proofs.Entries.{all_front, all_numbered, of_their_own, said_numbered, of_number_none}
 use Rattle.object_history.proofs.Halting.{halted_with}
@@ -34,7 +34,8 @@ use Rattle.object_history.proofs.SaidSoFar.{delivered_until, entries_now, events
 use Rattle.object_history.proofs.WellSaid.{delivers_well, answers_well}
 use Rattle.object_history.proofs.Wishes.{IsNoWish, none_wished}
 use Rattle.object_history.specs.Laws.{TellingGoesOn, TellingTells}
-use Rattle.object_history.specs.Pair.{mounted, fallen, Rear, IsLogged, IsLine, IsUnread, IsCall, failures, SaysDown, IsNewest, serving, falling, Together, unreached, falls, HasHalted, fallen_once, IsPhase, IsClosedTo, IsPair}
+use Rattle.object_history.proofs.Readings.{are_gated, down_gated, phase_now}
+use Rattle.object_history.specs.Pair.{mounted, fallen, Rear, IsLogged, IsLine, IsUnread, IsCall, failures, SaysDown, IsNewest, serving, falling, Together, unreached, falls, HasHalted, fallen_once, IsPhase, IsPair, IsReading}
 use Rattle.object_history.specs.Stepping.{Grows}
 
 -- The causes of one stop more.
@@ -154,20 +155,6 @@ module _ (tells : TellingTells) (k : Kind) (opened : Contents) (f : Front) (old 
     own = entries_none (suc f.incarnation) rear.log.taken taken_before;
   }
 
-  -- no read has failed of the next one; and of the one that has ended nothing is under way where a read of it has
-  closed_to : (mode : Mode) (left : List Notice) → IsClosedTo rear.closed (later f cause mode) line (intake.resets f cause) left
-  closed_to mode left =
-      let was = pair.closed_to in
-      record {
-        within = omega (arith, was.within);
-        waits = λ by. absurd (omega (arith, by, was.within));
-        open_late = λ some.
-            let less : rear.closed < f.incarnation =
-            open_unless rear.closed f pair.lined.late pair.lined.unread notices was (λ w. some
-            (line_is ∙ ap (λ (bodies : List Body). numbered f.incarnation (suc (length pair.lined.read)) bodies) w.none_unread)) in
-            omega (arith, less);
-      }
-
   -- the failures are those that the history has after this end
   resets_are : intake.resets f cause ≡ resets (incarnations new rear.log (suc pair.below))
   resets_are =
@@ -204,7 +191,6 @@ module _ (tells : TellingTells) (k : Kind) (opened : Contents) (f : Front) (old 
     number = ap suc pair.number;
     logged = logged mode;
     lined = lined mode;
-    closed_to = closed_to mode left;
     ends =
         ends_so.ends
         ∙ ap (λ (known : List Cause). known ++ cause ∷ []) pair.ends
@@ -217,6 +203,11 @@ module _ (tells : TellingTells) (k : Kind) (opened : Contents) (f : Front) (old 
     start = start_after opened (incarnations new rear.log (suc pair.below));
     starts = refl;
     newest_said = newest;
+    gated = are_gated is_said_down down_gated (intake.resets f cause) (resets_down cause (unanswered f.events f.said));
+    readings = [];
+    rest = left;
+    under_way = refl;
+    are_readings = All-nil (IsReading (start_after opened (incarnations new rear.log (suc pair.below))) (later f cause mode));
     phase = phase;
   }
 
@@ -234,7 +225,7 @@ on_fresh goes_on tells k opened i es said state number alarm cause old new rear 
     let ends_so : EndsSo f old new cause grows.more =
     record { said = grows.said; sent = grows.sent; delivered = grows.delivered; downed = grows.downed; ends = grows.ends } in
     let followed : IsFollowedBy opened pair.below f old rear pair.lined.unread pair.lined.late n left =
-    ended_phase opened pair.below pair.start f old rear pair.lined.unread pair.lined.late n left state refl tt pair.phase in
+    ended_phase opened pair.below pair.start f old rear pair.lined.unread pair.lined.late n left state refl tt (phase_now pair) in
     let wishes_none : All IsNoWish pair.lined.unread =
     none_wished pair.lined.unread state (λ o t b mode. is_asked_for (record { on_event = delivers_well; on_answer = answers_well }) k _ pair.start f old rear.log pair.newest_said o t b mode)
     followed.is_unread in
@@ -271,7 +262,7 @@ on_down tells k opened i es said state cause before after old new rear line left
     let ends_so : EndsSo f old new cause grows.more =
     record { said = grows.said; sent = grows.sent; delivered = grows.delivered; downed = grows.downed; ends = grows.ends } in
     let followed : IsFollowedBy opened pair.below f old rear pair.lined.unread pair.lined.late n left =
-    ended_phase opened pair.below pair.start f old rear pair.lined.unread pair.lined.late n left state refl tt pair.phase in
+    ended_phase opened pair.below pair.start f old rear pair.lined.unread pair.lined.late n left state refl tt (phase_now pair) in
     let wishes_none : All IsNoWish pair.lined.unread =
     none_wished pair.lined.unread state (λ o t b mode. is_asked_for (record { on_event = delivers_well; on_answer = answers_well }) k _ pair.start f old rear.log pair.newest_said o t b mode)
     followed.is_unread in

@@ -13,6 +13,7 @@ use Rattle.timeline.specs.declared.event.Event.{Event}
 use Rattle.timeline.specs.declared.notice.Notice.{Notice}
 use Rattle.timeline.specs.declared.notice.Notice.TheVariants as notice
 use Rattle.object_history.proofs.Ready.{not_nil, same_head, news_is_end}
+use Rattle.object_history.proofs.Readings.{phase_now}
 use Rattle.object_history.specs.Pair.{Held, Stand, Rear, IsAnswer, Together, unreached, answered, syncs, halts, read_fails, falls, wants, mends, misses, silent, IsEnd, IsNews, IsLeftOver, IsPhase, IsPair}
 
 -- The news of an end fits each state.
@@ -89,4 +90,4 @@ phase_fits opened below start f front rear unread late n left (inr behind) =
 pub notices_fit : (k : Kind) (opened : Contents) (f : Front) (front : Fronted) (rear : Rear) (line : List Entry) (n : Notice) (rest : List Notice)
     → IsPair k opened f front rear line (n ∷ rest) → FitsMode f.said f.mode n
 notices_fit k opened f front rear line n rest pair =
-    phase_fits opened pair.below pair.start f front rear pair.lined.unread pair.lined.late n rest pair.phase
+    phase_fits opened pair.below pair.start f front rear pair.lined.unread pair.lined.late n rest (phase_now pair)

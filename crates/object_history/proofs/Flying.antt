@@ -9,6 +9,7 @@ use Rattle.timeline.specs.declared.entry.Entry.{Entry}
 use Rattle.timeline.specs.declared.notice.Notice.{Notice}
 use Rattle.object_history.proofs.Alike.{IsAlike, IsKeptAlike, same_start}
 use Rattle.object_history.proofs.Keeping.{rebuilt, same_together, same_behind}
+use Rattle.object_history.proofs.Readings.{phase_now}
 use Rattle.object_history.specs.Pair.{Rear, IsPhase, IsPair}
 
 module _ (k : Kind) (opened : Contents) (f : Front) (front : Fronted) (rear : Rear) (line : List Entry) (notices : List Notice)
@@ -29,6 +30,6 @@ module _ (k : Kind) (opened : Contents) (f : Front) (front : Fronted) (rear : Re
             (start_after opened (incarnations front later.log (suc pair.below))) pair.below f pair.lined.unread rear later notices
             (same_start front front rear.log later.log opened (suc pair.below) (λ index less. kept index)) refl refl refl refl refl pair.lined.late b.1,
       ))
-      pair.phase in
+      (phase_now pair) in
       rebuilt k opened f front rear line notices pair later line notices (λ index less. alike index) (λ index less. kept index)
-      ([], sym (append-nil rear.log.taken)) refl refl pair.lined pair.closed_to phase
+      ([], sym (append-nil rear.log.taken)) refl refl pair.lined phase

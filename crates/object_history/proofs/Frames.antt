@@ -1,7 +1,7 @@
 -- A front goes on in its incarnation: what stays of a pair whatever it says.
-use Rattle.std.proofs.Common.{◌≡◌, ◌∙◌, ap, sym, subst, ℕ, suc, ◌<◌, ◌≤◌, List, ◌++◌, append-nil, append_assoc, length, length-append, map, arith}
+use Rattle.std.proofs.Common.{◌≡◌, ◌∙◌, ap, sym, subst, ℕ, suc, ◌≤◌, List, ◌++◌, append-nil, append_assoc, length, length-append, map, arith, [], refl}
 use Rattle.std.proofs.lemmas.List.{map-append}
-use Rattle.std.proofs.lemmas.List.Elements.{filter-append, All-append, All-map}
+use Rattle.std.proofs.lemmas.List.Elements.{filter-append, All-append, All-map, All-nil}
 use Rattle.std.specs.Prelude.{◌==◌}
 use Rattle.std.specs.List.{All}
 use Rattle.storage_map.specs.Contents.{Contents}
@@ -14,10 +14,11 @@ use Rattle.timeline.specs.declared.entry.Body.{Body}
 use Rattle.timeline.specs.declared.entry.Entry.{Entry}
 use Rattle.timeline.specs.declared.event.Event.{Event}
 use Rattle.timeline.specs.declared.notice.Notice.{Notice}
+use Rattle.object_history.specs.Saying.{IsGated}
 use Rattle.object_history.proofs.Entries.{of_number_append, of_number_own}
 use Rattle.object_history.proofs.Growing.{numbered_on, numbered_behind}
 use Rattle.object_history.proofs.OlderFronts.{of_number_other, entries_other, AreSameTo, halted_same, older_same, said_same, start_same}
-use Rattle.object_history.specs.Pair.{Rear, IsLogged, IsLine, IsCall, failures, SaysDown, IsNewest, IsPhase, IsPair}
+use Rattle.object_history.specs.Pair.{Rear, IsLogged, IsLine, IsCall, failures, SaysDown, IsNewest, IsPhase, IsPair, IsReading}
 
 -- The front in the same incarnation.
 abbrev pub now : Front → List Event → List Body → Mode → Front
@@ -131,20 +132,15 @@ module _ (k : Kind) (opened : Contents) (f : Front) (front new : Fronted) (rear 
       }
 
   -- with what it has said, and where both halves stand, the pair goes on
-  pub kept : (es : List Event) (said : List Body) (mode : Mode) (rest : List Notice) → rear.closed < f.incarnation → es ≡ f.events ++ events → said ≡ f.said ++ more
+  pub kept : (es : List Event) (said : List Body) (mode : Mode) (rest : List Notice) → All IsGated more → es ≡ f.events ++ events → said ≡ f.said ++ more
       → IsNewest k (incarnations front rear.log pair.below) pair.start (now f es said mode) new rear.log
       → IsPhase opened pair.below pair.start (now f es said mode) new rear (pair.lined.unread ++ more) pair.lined.late rest
       → IsPair k opened (now f es said mode) new rear (line ++ numbered f.incarnation (suc (length f.said)) more) rest
-  kept es said mode rest unclosed all_events all_said newest phase = record {
+  kept es said mode rest gated all_events all_said newest phase = record {
     below = pair.below;
     number = pair.number;
     logged = logged_on es said mode all_events all_said;
     lined = lined_on es said mode all_said;
-    closed_to = record {
-      within = pair.closed_to.within;
-      waits = λ by. absurd (omega (arith, unclosed, by));
-      open_late = pair.closed_to.open_late;
-    };
     ends = goes.ends ∙ pair.ends;
     older_said = said_same pair.below front new same_to rear.log k.script k.class opened pair.below (omega arith) pair.older_said;
     older_halted = halted_same pair.below front new same_to rear.log k.script k.class opened pair.below (omega arith) pair.older_halted;
@@ -152,5 +148,10 @@ module _ (k : Kind) (opened : Contents) (f : Front) (front new : Fronted) (rear 
     starts = pair.starts ∙ sym (start_same opened front new rear.log pair.below);
     newest_said = subst (λ (older : History). IsNewest k older pair.start (now f es said mode) new rear.log)
         (sym (older_same pair.below front new same_to rear.log pair.below (omega arith))) newest;
+    gated = subst (λ (bodies : List Body). All IsGated bodies) (sym all_said) (All-append IsGated f.said more pair.gated gated);
+    readings = [];
+    rest = rest;
+    under_way = refl;
+    are_readings = All-nil (IsReading pair.start (now f es said mode));
     phase = phase;
   }

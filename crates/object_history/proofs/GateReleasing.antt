@@ -64,14 +64,14 @@ module _ {D : Type 0} (moment_of : D → ℕ) (left_since : D → ℕ → List �
     message_steps : (message : Sent) → releases.first.body ≡ Message message → Goes (Message message)
     message_steps message is =
         let release : Release = record { message = message; needs = releases.first.needs; moment = moment_of (disk_of back known).0 } in
-        steps_to (rear_of m back) later n [] [] _ (stand_of back.mode) (flat_map held_of back.held.items) back.before back.durable back.closed (sends release n)
-        (logged (Message message) is) stood (rest_seen ∙ sym (first_seen (Message message) is)) releases.before releases.durable releases.closed
+        steps_to (rear_of m back) later n [] [] _ (stand_of back.mode) (flat_map held_of back.held.items) back.before back.durable (sends release n)
+        (logged (Message message) is) stood (rest_seen ∙ sym (first_seen (Message message) is)) releases.before releases.durable
 
     sync_steps : (number : ℕ) → releases.first.body ≡ Sync number → Goes (Sync number)
     sync_steps number is =
-        steps_to (rear_of m back) later n [] (notice.Synced number ∷ []) (backed back.log) (stand_of back.mode) (flat_map held_of releases.rest) back.before back.durable back.closed
+        steps_to (rear_of m back) later n [] (notice.Synced number ∷ []) (backed back.log) (stand_of back.mode) (flat_map held_of releases.rest) back.before back.durable
         (syncs number releases.first.needs (flat_map held_of releases.rest) n (first_seen (Sync number) is))
-        (logged (Sync number) is) stood rest_seen releases.before releases.durable releases.closed
+        (logged (Sync number) is) stood rest_seen releases.before releases.durable
 
     halt_steps : (c : Cause) → releases.first.body ≡ Halt c → Goes (Halt c)
     halt_steps c is =
@@ -82,10 +82,10 @@ module _ {D : Type 0} (moment_of : D → ℕ) (left_since : D → ℕ → List �
         let log : Backed = released_log back (moment_of (disk_of back known).0) releases.first (Halt c) in
         let stand = stands_at_halt back releases.first releases.rest c known releases.held is in
         let step = halts c releases.first.needs rest (halt_of back c) end n (first_seen (Halt c) is) stand refl refl in
-        steps_to (rear_of m back) later n [] (notice.Fresh (back.number + 1) (alarm_of back) c ∷ []) log (stand_of back.mode) rest back.before back.durable back.closed
-        (subst (λ (x : Option (ℤ × ℕ) × ℕ). BackSteps (rear_of m back) (made log (stand_of back.mode) rest back.before back.durable n back.closed) [] (notice.Fresh x.1 x.0 c ∷ []))
+        steps_to (rear_of m back) later n [] (notice.Fresh (back.number + 1) (alarm_of back) c ∷ []) log (stand_of back.mode) rest back.before back.durable
+        (subst (λ (x : Option (ℤ × ℕ) × ℕ). BackSteps (rear_of m back) (made log (stand_of back.mode) rest back.before back.durable n) [] (notice.Fresh x.1 x.0 c ∷ []))
         (ap (λ (a : Option (ℤ × ℕ)). (a, suc (suc (length back.log.stops.items)))) (alarm (mode_of back.mode stand)) ∙ ap (λ (i : ℕ). (alarm_of back, i)) next) step)
-        (logged (Halt c) is) stood rest_seen releases.before releases.durable releases.closed
+        (logged (Halt c) is) stood rest_seen releases.before releases.durable
 
     steps_as : (b : HeldBody) → releases.first.body ≡ b → Goes b
     steps_as (Message message) is = message_steps message is

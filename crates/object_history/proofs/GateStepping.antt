@@ -54,15 +54,15 @@ module _ {D : Type 0} (moment_of : D → ℕ) (left_since : D → ℕ → List �
   pub flush_steps : (back later : Back D) (m n : Contents) → IsBackAs moment_of left_since told image faults_of start opening sound back → back.before ≢ back.durable
       → Flushes faults_of back later → BackSteps (rear_of m back) (rear_of n later) [] []
   flush_steps back later m n known differ (inl all) =
-      steps_to (rear_of m back) later n [] [] _ (stand_of back.mode) (flat_map held_of back.held.items) back.before back.before back.closed
-      (flies (back.before - back.durable) n) all.log (ap stand_of all.mode) (ap (λ h. flat_map held_of h.items) all.held) all.before all.durable all.closed
+      steps_to (rear_of m back) later n [] [] _ (stand_of back.mode) (flat_map held_of back.held.items) back.before back.before
+      (flies (back.before - back.durable) n) all.log (ap stand_of all.mode) (ap (λ h. flat_map held_of h.items) all.held) all.before all.durable
   flush_steps back later m n known differ (inr ends) =
       let at = unflown back known differ in
       let held = filter (λ (h : Held). nat_le h.needs back.durable) (flat_map held_of back.held.items) in
-      steps_to (rear_of m back) later n [] [] _ (wanted ends.cause) held back.durable back.durable back.closed
+      steps_to (rear_of m back) later n [] [] _ (wanted ends.cause) held back.durable back.durable
       (stops (stop_of back ends.cause) held n at.stand at.less refl (by_append faults_of ends.journal ends.after ends.cause ends.by_cause) refl) ends.log
       (ap stand_of ends.mode.2 ∙ ap wanted ends.mode.1)
-      (ap (flat_map held_of) ends.held ∙ left_seen back.durable back.number ends.cause back.held.items) ends.before ends.durable ends.closed
+      (ap (flat_map held_of) ends.held ∙ left_seen back.durable back.number ends.cause back.held.items) ends.before ends.durable
 
   pub numbered_so : (back : Back D) → IsBackAs moment_of left_since told image faults_of start opening sound back → back.number ≡ suc (length back.log.stops.items)
   numbered_so back (inl m) = m.safe.room.number
@@ -81,12 +81,12 @@ module _ {D : Type 0} (moment_of : D → ℕ) (left_since : D → ℕ → List �
         let now = back.durable + (kept_at ending (end_of begun.journal) - ending.flown) in
         let same = begun.begins.same in
         let news : Notice = notice.Fresh (suc (length back.log.stops.items)) n.alarm ending.cause in
-        let first : BackSteps (rear_of m back) (made (with_ends (backed back.log) (back.log.ends.items ++ end ∷ [])) mounted (flat_map held_of back.held.items) now now n back.closed) []
+        let first : BackSteps (rear_of m back) (made (with_ends (backed back.log) (back.log.ends.items ++ end ∷ [])) mounted (flat_map held_of back.held.items) now now n) []
         (news ∷ []) = begins ending.cause end now n stand in (
           news ∷ [],
-          steps_to (rear_of m back) later n [] _ _ mounted (flat_map held_of back.held.items) now now back.closed first begun.begins.log
+          steps_to (rear_of m back) later n [] _ _ mounted (flat_map held_of back.held.items) now now first begun.begins.log
               (ap (λ (b : Back D). stand_of b.mode) same) (ap (λ (b : Back D). flat_map held_of b.held.items) same)
-              (ap (λ (b : Back D). b.before) same) (ap (λ (b : Back D). b.durable) same) (ap (λ (b : Back D). b.closed) same),
+              (ap (λ (b : Back D). b.before) same) (ap (λ (b : Back D). b.durable) same),
           λ alarm. ap (λ (x : Notice). sent_before ++ x ∷ [])
               (begun.notice
               ∙ ap (λ (a : Option (ℤ × ℕ)). notice.Fresh back.number a ending.cause)
@@ -104,10 +104,10 @@ module _ {D : Type 0} (moment_of : D → ℕ) (left_since : D → ℕ → List �
         let log = ap (λ (i : ℕ). with_downs (backed back.log) (back.log.downs.items ++ one i ∷ [])) (numbered_so back known) in
         let news : Notice = notice.Down ending.cause before after in (
           news ∷ [],
-          steps_to (rear_of m back) later n [] _ _ (fallen ending.cause) (flat_map held_of back.held.items) back.before back.durable back.closed
+          steps_to (rear_of m back) later n [] _ _ (fallen ending.cause) (flat_map held_of back.held.items) back.before back.durable
               (misses ending.cause before after n stand) (missed.misses.log ∙ log)
               (ap (λ (b : Back D). stand_of b.mode) same) (ap (λ (b : Back D). flat_map held_of b.held.items) same)
-              (ap (λ (b : Back D). b.before) same) (ap (λ (b : Back D). b.durable) same) (ap (λ (b : Back D). b.closed) same),
+              (ap (λ (b : Back D). b.before) same) (ap (λ (b : Back D). b.durable) same),
           λ alarm. ap (λ (x : Notice). sent_before ++ x ∷ []) missed.notice,
         )
 

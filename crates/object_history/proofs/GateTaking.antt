@@ -16,11 +16,11 @@ use Rattle.timeline.specs.declared.entry.Body.TheVariants as body
 use Rattle.timeline.specs.declared.entry.Entry.{Entry}
 use Rattle.timeline.specs.declared.message.Message.TheVariants as message
 use Rattle.output_gate.specs.Ended.{AreInOrder, newest_as}
-use Rattle.output_gate.specs.Entering.{Enters, Failed, IsAsk, MayFail, is_unfit, logged_as, notice_with, closed_with, held_by, late_by, held_with, mode_by, mode_after, before_by, before_after}
-use Rattle.output_gate.specs.Fits.{is_halt, comes_behind, fits_down, last_of}
+use Rattle.output_gate.specs.Entering.{Enters, Failed, MayFail, is_unfit, logged_as, notice_with, held_by, late_by, held_with, mode_by, mode_after, before_by, before_after}
+use Rattle.output_gate.specs.Fits.{IsAsk, is_halt, comes_behind, fits_down, last_of}
 use Rattle.output_gate.specs.Serving.{HaltsBy, IsBackAs}
 use Rattle.output_gate.specs.Taking.{fit_as, fits_so, fit_of, is_mounted_mode, is_wanted, may_take, most_unflushed}
-use Rattle.output_gate.specs.Held.{is_held_halt, has_halt}
+use Rattle.output_gate.specs.Held.{has_failed_read, is_held_halt, has_halt}
 use Rattle.output_gate.specs.declared.back.Back.{Back}
 use Rattle.output_gate.specs.declared.back.Ending.{Ending}
 use Rattle.output_gate.specs.declared.back.Mode.{Mode}
@@ -40,10 +40,6 @@ all_three true true false is = absurd (true≢false (sym is))
 all_three true false c is = absurd (true≢false (sym is))
 all_three false b c is = absurd (true≢false (sym is))
 
-both : (a b : Bool) → (a && b) ≡ true → (a ≡ true) × (b ≡ true)
-both true b is = (refl, is)
-both false b is = absurd (true≢false (sym is))
-
 not_true : (a : Bool) → not a ≡ true → a ≡ false
 not_true true is = absurd (true≢false (sym is))
 not_true false is = refl
@@ -51,9 +47,13 @@ not_true false is = refl
 same_eqb : (a b : ℕ) → a ≡ b → (a == b) ≡ true
 same_eqb a b is = eq-eqb a b is
 
-never_between : (a c : Bool) → (a && false && c) ≡ true → ⊥
-never_between true c is = true≢false (sym is)
-never_between false c is = true≢false (sym is)
+never_between : (a c d : Bool) → (a && false && c && d) ≡ true → ⊥
+never_between true c d is = true≢false (sym is)
+never_between false c d is = true≢false (sym is)
+
+never_so : (a d : Bool) → (a && false && d) ≡ false
+never_so true d = refl
+never_so false d = refl
 
 -- what is held of an entry, as the front's side sees it: a sync or a halt, which need all batches before them
 own_seen : (before needs since number : ℕ) (b : Body) → flat_map held_of (held_by before needs since number b) ≡ holds number before b
@@ -177,10 +177,9 @@ module _ {D : Type 0} (moment_of : D → ℕ) (left_since : D → ℕ → List �
   counts_as : (x own on : Bool) → fit_of back e ≡ fit_as x own on → later.before ≡ before_after (fit_as x own on) back.before e.body
   counts_as x own on is = enters.before ∙ ap (λ y. before_after y back.before e.body) is
 
-  -- Behind a halt nothing of its incarnation comes, nor behind a read that failed, so no end is held.
-  unended : comes_behind (last_of back.log.taken.items) e ≡ true → nat_lt back.closed e.incarnation ≡ true → (e.incarnation == back.number) ≡ true
-      → IsUnended (flat_map held_of back.held.items)
-  unended comes goes own = by known
+  -- Behind a halt nothing of its incarnation comes, and nothing is taken while the end by a read that failed is held, so no end is held.
+  unended : comes_behind (last_of back.log.taken.items) e ≡ true → (e.incarnation == back.number) ≡ true → IsUnended (flat_map held_of back.held.items)
+  unended comes own = by known
     where
       behind_halt : (last : Option Entry) (ending : Entry) → last ≡ Some ending → ending.incarnation ≡ back.number → is_halt ending.body ≡ true
           → comes_behind last e ≡ true → ⊥
@@ -192,8 +191,10 @@ module _ {D : Type 0} (moment_of : D → ℕ) (left_since : D → ℕ → List �
           ∙ ap (λ (b : Bool). if b then not (is_halt last.body) else nat_lt last.incarnation e.incarnation) (same_eqb last.incarnation e.incarnation one)
           ∙ ap not (ap (λ (x : Entry). is_halt x.body) same ∙ halts))
 
-      never_closed : back.closed ≡ back.number → ⊥
-      never_closed closed = omega (arith, closed, ltb-true back.closed e.incarnation goes, eqb-true e.incarnation back.number own)
+      none_failed : has_failed_read back.held.items ≡ true → ⊥
+      none_failed failed_one =
+          true≢false (sym may ∙ ap (λ (b : Bool). not back.stuck && not (is_wanted back.mode) && not b && nat_lt back.unflushed most_unflushed) failed_one
+          ∙ never_so (not back.stuck && not (is_wanted back.mode)) (nat_lt back.unflushed most_unflushed))
 
       held_as_is : (has : Bool) → has_halt back.held.items ≡ has
           → (has ≡ true → (ending : Entry) × (last_of back.log.taken.items ≡ Some ending) × (ending.incarnation ≡ back.number) × HaltsBy ending back)
@@ -201,87 +202,75 @@ module _ {D : Type 0} (moment_of : D → ℕ) (left_since : D → ℕ → List �
       held_as_is false is halted = none_ends back.held.items is
       held_as_is true is halted =
           let some = halted refl in
-          absurd (⊎_elim (λ halts. behind_halt (last_of back.log.taken.items) some.0 some.1 some.2 halts comes) (λ read. never_closed read.0) some.3)
+          absurd (⊎_elim (λ halts. behind_halt (last_of back.log.taken.items) some.0 some.1 some.2 halts.1 comes) (λ by. none_failed by.0) some.3)
 
       by : IsBackAs moment_of left_since told image faults_of start opening sound back → IsUnended (flat_map held_of back.held.items)
       by (inl m) = held_as_is (has_halt back.held.items) refl m.safe.halted
       by (inr u) = none_ends back.held.items u.safe.halts
 
-  -- what is closed then
-  abbrev closed_then : Failed → ℕ
-  closed_then None = back.closed
-  closed_then (Some counts) = suc (length back.log.stops.items)
-
-  closes_as : (f : Failed) → failed ≡ f → later.closed ≡ closed_then f
-  closes_as None is = enters.closed ∙ ap (λ (f : Failed). closed_with f back) is
-  closes_as (Some counts) is =
-      enters.closed ∙ ap (λ (f : Failed). closed_with f back) is ∙ numbered_so moment_of left_since told image faults_of start opening sound back known
-
-  own_steps : (f : Failed) → MayFail f back e → later.closed ≡ closed_then f → Holds f true true true → fit_of back e ≡ fit_as true true true → comes_behind (last_of back.log.taken.items) e ≡ true
-      → nat_lt back.closed e.incarnation ≡ true → (e.incarnation == back.number) ≡ true → is_mounted_mode back.mode ≡ true → Steps f true true true
-  own_steps None may_fail closes holds_so is comes goes own on =
+  own_steps : (f : Failed) → MayFail f back e → Holds f true true true → fit_of back e ≡ fit_as true true true → comes_behind (last_of back.log.taken.items) e ≡ true
+      → (e.incarnation == back.number) ≡ true → is_mounted_mode back.mode ≡ true → Steps f true true true
+  own_steps None may_fail holds_so is comes own on =
       let incarnation : e.incarnation ≡ suc (length back.log.stops.items) =
       eqb-true e.incarnation back.number own ∙ numbered_so moment_of left_since told image faults_of start opening sound back known in
-      steps_to (rear_of m back) later n (e ∷ []) _ _ (stand_of back.mode) (flat_map held_of back.held.items ++ holds e.number back.before e.body) (before_next back.before e.body) back.durable back.closed
-      (takes_own e n (mounted_as back.mode on) incarnation (unended comes goes own)) (logs_as true true true is) (stands_as true true true is)
+      steps_to (rear_of m back) later n (e ∷ []) _ _ (stand_of back.mode) (flat_map held_of back.held.items ++ holds e.number back.before e.body) (before_next back.before e.body) back.durable
+      (takes_own e n (mounted_as back.mode on) incarnation (unended comes own)) (logs_as true true true is) (stands_as true true true is)
       (holds_so ∙ ap (λ (h : List Held). flat_map held_of back.held.items ++ h) (own_seen back.before back.needs back.number e.number e.body))
-      (counts_as true true true is ∙ before_seen back.before e.body) enters.durable closes
-  own_steps (Some counts) may_fail closes holds_so is comes goes own on =
+      (counts_as true true true is ∙ before_seen back.before e.body) enters.durable
+  own_steps (Some counts) may_fail holds_so is comes own on =
       let incarnation : e.incarnation ≡ suc (length back.log.stops.items) =
       eqb-true e.incarnation back.number own ∙ numbered_so moment_of left_since told image faults_of start opening sound back known in
       let ask = ask_of e.body may_fail.1 in
       let ends : List Held = record { hold = halt (causes.Disk counts.0 counts.1); needs = back.before } ∷ [] in
-      steps_to (rear_of m back) later n (e ∷ []) [] _ (stand_of back.mode) (flat_map held_of back.held.items ++ ends) back.before back.durable (suc (length back.log.stops.items))
-      (read_fails e ask.0 ask.1 counts.0 counts.1 n (mounted_as back.mode on) incarnation (unended comes goes own) ask.2) (logs_as true true true is)
-      (stands_as true true true is) holds_so (counts_as true true true is ∙ ap (λ (b : Body). before_by b back.before) ask.2) enters.durable closes
+      steps_to (rear_of m back) later n (e ∷ []) [] _ (stand_of back.mode) (flat_map held_of back.held.items ++ ends) back.before back.durable
+      (read_fails e ask.0 ask.1 counts.0 counts.1 n (mounted_as back.mode on) incarnation (unended comes own) ask.2) (logs_as true true true is)
+      (stands_as true true true is) holds_so (counts_as true true true is ∙ ap (λ (b : Body). before_by b back.before) ask.2) enters.durable
 
   never_fails : (f : Failed) (x own on : Bool) → MayFail f back e → fit_of back e ≡ fit_as x own on → (fit_as x own on ≡ fit_as true true true → ⊥) → f ≡ None
   never_fails None x own on may_fail is other = refl
   never_fails (Some counts) x own on may_fail is other = absurd (other (sym is ∙ may_fail.0))
 
-  down_steps : later.closed ≡ back.closed → (mode : Mode) → back.mode ≡ mode → Holds None true true false → fit_of back e ≡ fit_as true true false → (e.incarnation == back.number) ≡ true
+  down_steps : (mode : Mode) → back.mode ≡ mode → Holds None true true false → fit_of back e ≡ fit_as true true false → (e.incarnation == back.number) ≡ true
       → is_mounted_mode mode ≡ false → fits_down e.body ≡ true → Steps None true true false
-  down_steps closes Mounted at holds_so is own off fits = absurd (true≢false off)
-  down_steps closes (Wanted ending) at holds_so is own off fits = absurd (never_between (not back.stuck) (nat_lt back.unflushed most_unflushed)
-      (subst (λ (m : Mode). (not back.stuck && not (is_wanted m) && nat_lt back.unflushed most_unflushed) ≡ true) at may))
-  down_steps closes (Down ending) at holds_so is own off fits =
+  down_steps Mounted at holds_so is own off fits = absurd (true≢false off)
+  down_steps (Wanted ending) at holds_so is own off fits = absurd (never_between (not back.stuck) (not (has_failed_read back.held.items)) (nat_lt back.unflushed most_unflushed)
+      (subst (λ (m : Mode). (not back.stuck && not (is_wanted m) && not (has_failed_read back.held.items) && nat_lt back.unflushed most_unflushed) ≡ true) at may))
+  down_steps (Down ending) at holds_so is own off fits =
       let incarnation : e.incarnation ≡ suc (length back.log.stops.items) =
       eqb-true e.incarnation back.number own ∙ numbered_so moment_of left_since told image faults_of start opening sound back known in
-      steps_to (rear_of m back) later n (e ∷ []) [] _ (stands_after ending.cause e.body) (flat_map held_of back.held.items) back.before back.durable back.closed
+      steps_to (rear_of m back) later n (e ∷ []) [] _ (stands_after ending.cause e.body) (flat_map held_of back.held.items) back.before back.durable
       (takes_down e ending.cause n (ap stand_of at) incarnation fits) (logs_as true true false is)
       (stands_as true true false is ∙ ap (λ (m : Mode). stand_of (mode_by e.body m)) at ∙ stand_seen ending e.body)
       (holds_so ∙ ap (λ (h : List Held). flat_map held_of back.held.items ++ h) (down_seen back.before back.before (back.number - 1) e.number e.body fits) ∙ append-nil _)
-      (counts_as true true false is) enters.durable closes
+      (counts_as true true false is) enters.durable
 
-  late_steps : later.closed ≡ back.closed → (on : Bool) → Holds None true false on → fit_of back e ≡ fit_as true false on → comes_behind (last_of back.log.taken.items) e ≡ true → not (nat_lt back.number e.incarnation) ≡ true
+  late_steps : (on : Bool) → Holds None true false on → fit_of back e ≡ fit_as true false on → comes_behind (last_of back.log.taken.items) e ≡ true → not (nat_lt back.number e.incarnation) ≡ true
       → (e.incarnation == back.number) ≡ false → Steps None true false on
-  late_steps closes on holds_so is comes within other =
+  late_steps on holds_so is comes within other =
       let number = numbered_so moment_of left_since told image faults_of start opening sound back known in
       let most : e.incarnation ≤ back.number = ltb-false back.number e.incarnation (not_true (nat_lt back.number e.incarnation) within) in
       let differs : e.incarnation ≡ back.number → ⊥ = λ same. true≢false (sym (same_eqb e.incarnation back.number same) ∙ other) in
       let least = above (last_of back.log.taken.items) e comes in
       let incarnation : suc e.incarnation ≡ suc (length back.log.stops.items) = omega (arith, number, most, differs, least, (in_order known).newest) in
-      steps_to (rear_of m back) later n (e ∷ []) [] _ (stand_of back.mode) (flat_map held_of back.held.items) back.before back.durable back.closed
+      steps_to (rear_of m back) later n (e ∷ []) [] _ (stand_of back.mode) (flat_map held_of back.held.items) back.before back.durable
       (takes_late e n incarnation) (logs_as true false on is) (stands_as true false on is)
       (holds_so ∙ ap (λ (h : List Held). flat_map held_of back.held.items ++ h) (late_seen _ back.late back.settled e.incarnation e.body) ∙ append-nil _)
-      (counts_as true false on is) enters.durable closes
+      (counts_as true false on is) enters.durable
 
   abbrev fits : Bool
-  fits = (comes_behind (last_of back.log.taken.items) e && nat_lt back.closed e.incarnation) && not (nat_lt back.number e.incarnation)
+  fits = comes_behind (last_of back.log.taken.items) e && not (nat_lt back.number e.incarnation)
       && fits_so (e.incarnation == back.number) (is_mounted_mode back.mode) (is_some back.identity) e.body
 
   record AllFit : Type 0 where
     comes : comes_behind (last_of back.log.taken.items) e ≡ true
-    goes : nat_lt back.closed e.incarnation ≡ true
     within : not (nat_lt back.number e.incarnation) ≡ true
     so : fits_so (e.incarnation == back.number) (is_mounted_mode back.mode) (is_some back.identity) e.body ≡ true
 
   all_fit : fits ≡ true → AllFit
   all_fit is =
-      let all = all_three (comes_behind (last_of back.log.taken.items) e && nat_lt back.closed e.incarnation) (not (nat_lt back.number e.incarnation))
+      let all = all_three (comes_behind (last_of back.log.taken.items) e) (not (nat_lt back.number e.incarnation))
       (fits_so (e.incarnation == back.number) (is_mounted_mode back.mode) (is_some back.identity) e.body) is in
-      let first = both (comes_behind (last_of back.log.taken.items) e) (nat_lt back.closed e.incarnation) all.0 in
-      record { comes = first.0; goes = first.1; within = all.1; so = all.2 }
+      record { comes = all.0; within = all.1; so = all.2 }
 
   fit_is : (x own on : Bool) → fits ≡ x → (e.incarnation == back.number) ≡ own → is_mounted_mode back.mode ≡ on → fit_of back e ≡ fit_as x own on
   fit_is x own on is of_it stands = ap (λ (y : Bool). fit_as y (e.incarnation == back.number) (is_mounted_mode back.mode)) is
@@ -291,7 +280,7 @@ module _ {D : Type 0} (moment_of : D → ℕ) (left_since : D → ℕ → List �
       → Steps failed x own on
   steps_as false own on is of_it stands fit_well = absurd (true≢false fit_well)
   steps_as true true true is of_it stands fit_well =
-      let at = fit_is true true true is of_it stands in own_steps failed enters.may (closes_as failed refl) (held_seen true true true at) at (all_fit is).comes (all_fit is).goes of_it stands
+      let at = fit_is true true true is of_it stands in own_steps failed enters.may (held_seen true true true at) at (all_fit is).comes of_it stands
   steps_as true true false is of_it stands fit_well =
       let all = all_fit is in
       let down : fits_down e.body ≡ true = sym (ap (λ (y : Bool). fits_so y (is_mounted_mode back.mode) (is_some back.identity) e.body) of_it
@@ -299,13 +288,13 @@ module _ {D : Type 0} (moment_of : D → ℕ) (left_since : D → ℕ → List �
       let at = fit_is true true false is of_it stands in
       let none = never_fails failed true true false enters.may at (λ same. cc) in
       subst (λ (f : Failed). Steps f true true false) (sym none)
-      (down_steps (closes_as None none) back.mode refl (subst (λ (f : Failed). Holds f true true false) none (held_seen true true false at)) at of_it stands down)
+      (down_steps back.mode refl (subst (λ (f : Failed). Holds f true true false) none (held_seen true true false at)) at of_it stands down)
   steps_as true false on is of_it stands fit_well =
       let all = all_fit is in
       let at = fit_is true false on is of_it stands in
       let none = never_fails failed true false on enters.may at (λ same. cc) in
       subst (λ (f : Failed). Steps f true false on) (sym none)
-      (late_steps (closes_as None none) on (subst (λ (f : Failed). Holds f true false on) none (held_seen true false on at)) at all.comes all.within of_it)
+      (late_steps on (subst (λ (f : Failed). Holds f true false on) none (held_seen true false on at)) at all.comes all.within of_it)
 
   pub take_steps : is_unfit (fit_of back e) ≡ false → BackSteps (rear_of m back) (rear_of n later) (e ∷ []) (option_to_list (notice_with failed (fit_of back e) e m))
   take_steps fit_well = steps_as fits (e.incarnation == back.number) (is_mounted_mode back.mode) refl refl refl fit_well

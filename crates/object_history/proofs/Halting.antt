@@ -14,6 +14,7 @@ use Rattle.timeline.specs.declared.entry.Body.TheVariants as body
 use Rattle.timeline.specs.declared.entry.Entry.{Entry}
 use Rattle.timeline.specs.declared.notice.Notice.{Notice}
 use Rattle.object_history.proofs.StateAtRest.{pair_state}
+use Rattle.object_history.proofs.Readings.{phase_now}
 use Rattle.object_history.specs.Pair.{Rear, HasHalted, IsPhase, IsPair}
 
 same_stop : (a b : Stop) → Some a ≡ Some b → a ≡ b
@@ -51,4 +52,4 @@ module _ (k : Kind) (opened : Contents) (f : Front) (front : Fronted) (rear : Re
   by_phase (inr behind) = halted_at (suc pair.below) behind.0 (halted_with behind.1.stop behind.1.stopped behind.1.halted)
 
   pub all_halted : AreHalted k.script k.class opened (history front rear.log)
-  all_halted = by_phase pair.phase
+  all_halted = by_phase (phase_now pair)

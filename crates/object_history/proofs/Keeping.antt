@@ -1,7 +1,7 @@
 -- What stays of a pair where its back makes a step.
 use Rattle.std.proofs.Common.{◌≡◌, ◌∙◌, ap, sym, subst, refl, ⊎_elim, ℕ, suc, ◌<◌, ◌≤◌, List, [], ◌∷◌, ◌++◌, append-nil, length, map, take, drop, arith}
 use Rattle.std.proofs.lemmas.Bool.{ne_eqb}
-use Rattle.std.proofs.lemmas.List.Elements.{All-head, All-tail, filter-append}
+use Rattle.std.proofs.lemmas.List.Elements.{All-head, All-tail, filter-append, All-nil}
 use Rattle.std.specs.Prelude.{Bool, cond, ◌==◌, slice_get}
 use Rattle.std.specs.List.{All, Contains}
 use Rattle.storage_map.specs.Contents.{Contents}
@@ -20,7 +20,7 @@ use Rattle.output_gate.proofs.Histories.{entries_none}
 use Rattle.object_history.proofs.Alike.{IsAlike, IsKeptAlike, same_halted, same_start, same_resets, same_said, still_taken}
 use Rattle.object_history.proofs.Entries.{all_front}
 use Rattle.object_history.proofs.SaidSoFar.{sent_until}
-use Rattle.object_history.specs.Pair.{Held, Stand, Rear, IsLogged, IsLine, calls_down, failures, SaysDown, IsNewest, serving, falling, Together, unreached, answered, syncs, halts, read_fails, falls, wants, mends, misses, silent, IsNews, fallen_once, Behind, IsPhase, IsClosedTo, IsPair}
+use Rattle.object_history.specs.Pair.{Held, Stand, Rear, IsLogged, IsLine, calls_down, failures, SaysDown, IsNewest, serving, falling, Together, unreached, answered, syncs, halts, read_fails, falls, wants, mends, misses, silent, IsNews, fallen_once, Behind, IsPhase, IsPair, IsReading}
 use Rattle.object_history.specs.Stepping.{IsRear, AreGiven}
 
 -- What an incarnation said before it served is the same where the failures are.
@@ -116,14 +116,13 @@ module _ (k : Kind) (opened : Contents) (f : Front) (front : Fronted) (rear : Re
   pub rebuilt_from : (start : Contents) → start ≡ start_after opened (incarnations front later.log pair.below) → AreAlike → AreKeptButOne → TakesOn
       → take pair.below later.log.stops ≡ take pair.below rear.log.stops
       → IsNewest k (incarnations front later.log pair.below) start f front later.log
-      → (lined : IsLine f front later.log.taken line) → IsClosedTo later.closed f lined.late lined.unread notices
+      → (lined : IsLine f front later.log.taken line)
       → IsPhase opened pair.below start f front later lined.unread lined.late notices → IsPair k opened f front later line notices
-  rebuilt_from start starts alike kept on stops newest_said lined closed_to phase = record {
+  rebuilt_from start starts alike kept on stops newest_said lined phase = record {
     below = pair.below;
     number = pair.number;
     logged = pair.logged;
     lined = lined;
-    closed_to = closed_to;
     ends = pair.ends ∙ ap (λ (all : List Stop). map (λ (stop : Stop). stop.cause) all) (sym stops);
     older_said = same_said front front rear.log later.log k.script k.class opened pair.below alike kept pair.older_said;
     older_halted = same_halted front front rear.log later.log k.script k.class opened pair.below
@@ -131,20 +130,25 @@ module _ (k : Kind) (opened : Contents) (f : Front) (front : Fronted) (rear : Re
     start = start;
     starts = starts;
     newest_said = newest_said;
+    gated = pair.gated;
+    readings = [];
+    rest = notices;
+    under_way = refl;
+    are_readings = All-nil (IsReading start f);
     phase = phase;
   }
 
   -- or from the same one
   pub rebuilt : AreAlike → AreKept → TakesOn → missed_of f.incarnation later.log.downs ≡ missed_of f.incarnation rear.log.downs
       → take pair.below later.log.stops ≡ take pair.below rear.log.stops
-      → (lined : IsLine f front later.log.taken line) → IsClosedTo later.closed f lined.late lined.unread notices
+      → (lined : IsLine f front later.log.taken line)
       → IsPhase opened pair.below pair.start f front later lined.unread lined.late notices → IsPair k opened f front later line notices
-  rebuilt alike kept on missed stops lined closed_to phase =
+  rebuilt alike kept on missed stops lined phase =
       rebuilt_from pair.start (pair.starts ∙ sym (same_start front front rear.log later.log opened pair.below kept)) alike
       (λ index less. kept index (omega (arith, less))) on stops
       (same_newest k (incarnations front rear.log pair.below) (incarnations front later.log pair.below) pair.start f front rear.log later.log
       (same_resets front front rear.log later.log pair.below alike) missed pair.newest_said)
-      lined closed_to phase
+      lined phase
 
 -- The back is one ahead as it was, with these notices.
 pub same_behind : (start next new_next : Contents) (below : ℕ) (f : Front) (unread : List Body) (rear later : Rear) (notices : List Notice)

@@ -8,7 +8,7 @@ pub mod SaidSoFar
 pub mod Whole
 pub mod StateAtRest
 pub mod Heads
-mod Closing
+pub mod Readings
 mod Keeping
 mod Phases
 mod Flying
@@ -40,7 +40,6 @@ mod FrontKeeping
 mod Halting
 mod Unmounted
 mod Shown
-pub mod OpenLines
 mod Seeing
 pub mod GateStepping
 pub mod BeingRear

@@ -19,9 +19,9 @@ use Rattle.timeline.specs.declared.event.Event.TheVariants as event
 use Rattle.timeline.specs.declared.notice.Notice.{Notice}
 use Rattle.timeline.specs.declared.notice.Notice.TheVariants as notice
 use Rattle.object_history.proofs.Alike.{IsAlike, same_start, same_resets}
-use Rattle.object_history.proofs.Closing.{end_given, ends_more}
 use Rattle.object_history.proofs.Keeping.{rebuilt, rebuilt_from, other_missed, told_one}
 use Rattle.object_history.proofs.Phases.{says_down, wants_as}
+use Rattle.object_history.proofs.Readings.{phase_now}
 use Rattle.object_history.specs.Pair.{Rear, Held, Stand, wanted, fallen, newest, calls_down, failures, IsSilentAt, IsNews, fallen_once, SaysDown, IsNewest, serving, falling, Together, misses, silent, Behind, IsPair}
 use Rattle.object_history.specs.Stepping.{AreGiven}
 
@@ -106,7 +106,6 @@ module _ (k : Kind) (opened : Contents) (f : Front) (front : Fronted) (rear : Re
       rebuilt_from k opened f front rear line notices pair missed_again line (notices ++ given) pair.start
       (pair.starts ∙ sym (same_start front front rear.log missed_again.log opened pair.below (λ index less. refl))) are_alike
       (λ index less. refl) ([], sym (append-nil rear.log.taken)) refl newest_said pair.lined
-      (ends_more rear.closed f pair.lined.late pair.lined.unread notices pair.closed_to given (end_given (notice.Down c counts_before counts_after) given tt are))
       (inl (
         stops,
         subst (λ (h : List Held). Together pair.start f front missed_again.log pair.lined.unread rear.before (fallen c) h (notices ++ given)) (sym now.nothing)
@@ -125,7 +124,6 @@ module _ (k : Kind) (opened : Contents) (f : Front) (front : Fronted) (rear : Re
       rebuilt k opened f front rear line notices pair missed_again line (notices ++ given) (alike pair.below (omega (arith, stops))) (λ index less. refl)
       ([], sym (append-nil rear.log.taken))
       (missed_elsewhere f.incarnation (λ same. omega (arith, is, same))) refl pair.lined
-      (ends_more rear.closed f pair.lined.late pair.lined.unread notices pair.closed_to given (end_given (notice.Down c counts_before counts_after) given tt are))
       (inr (
         stops,
         record {
@@ -159,4 +157,4 @@ module _ (k : Kind) (opened : Contents) (f : Front) (front : Fronted) (rear : Re
       ))
 
   pub fails_to_mount : IsPair k opened f front missed_again line (notices ++ given)
-  fails_to_mount = ⊎_elim (λ t. missed_together t.0 t.1) (λ b. missed_behind b.0 b.1) pair.phase
+  fails_to_mount = ⊎_elim (λ t. missed_together t.0 t.1) (λ b. missed_behind b.0 b.1) (phase_now pair)

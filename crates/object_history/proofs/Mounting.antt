@@ -14,10 +14,10 @@ use Rattle.timeline.specs.declared.notice.Notice.{Notice}
 use Rattle.timeline.specs.declared.notice.Notice.TheVariants as notice
 use Rattle.output_gate.proofs.Histories.{get_more}
 use Rattle.object_history.proofs.Alike.{IsAlike, IsKeptAlike, same_resets}
-use Rattle.object_history.proofs.Closing.{end_given, ends_more}
 use Rattle.object_history.proofs.Entries.{said_numbered}
 use Rattle.object_history.proofs.Keeping.{rebuilt, rebuilt_from, same_down, none_taken, map_written, told_one}
 use Rattle.object_history.proofs.Phases.{says_down, wants_as}
+use Rattle.object_history.proofs.Readings.{phase_now}
 use Rattle.object_history.specs.Pair.{Rear, Held, Stand, mounted, wanted, newest, IsSilentAt, IsNews, fallen_once, SaysDown, IsNewest, serving, falling, Together, mends, silent, Behind, IsPair}
 use Rattle.object_history.specs.Stepping.{IsRear, IsFollowed, AreGiven}
 
@@ -74,7 +74,6 @@ module _ (k : Kind) (opened : Contents) (f : Front) (front : Fronted) (rear : Re
         (silent mounted now.none (subst (λ (m : Mode). IsSilentAt m mounted) (sym now.mode) tt)) in
         rebuilt_from k opened f front rear line notices pair remounted line (notices ++ given) start refl (λ index less. alike index)
         (λ index less. kept_before_it index (omega (arith, less, stops))) ([], sym (append-nil rear.log.taken)) refl newest_said pair.lined
-        (ends_more rear.closed f pair.lined.late pair.lined.unread notices pair.closed_to given (end_given (notice.Fresh (newest rear.log) map.alarm c) given tt are))
         (inl (
           stops,
           subst (λ (h : List Held). Together start f front remounted.log pair.lined.unread before mounted h (notices ++ given)) (sym now.nothing)
@@ -98,7 +97,6 @@ module _ (k : Kind) (opened : Contents) (f : Front) (front : Fronted) (rear : Re
         ∙ ap (λ (entries : List Entry). written next (said_in entries)) (none_taken f front rear.log.taken line pair.logged pair.lined) in
         rebuilt k opened f front rear line notices pair remounted line (notices ++ given) (λ index less. alike index)
         (λ index less. kept_before_it index (omega (arith, less, stops))) ([], sym (append-nil rear.log.taken)) refl refl pair.lined
-        (ends_more rear.closed f pair.lined.late pair.lined.unread notices pair.closed_to given (end_given (notice.Fresh (newest rear.log) map.alarm c) given tt are))
         (inr (
           stops,
           record {
@@ -127,4 +125,4 @@ module _ (k : Kind) (opened : Contents) (f : Front) (front : Fronted) (rear : Re
         ))
 
     pub mounts : IsPair k opened f front remounted line (notices ++ given)
-    mounts = ⊎_elim (λ t. mounted_together t.0 t.1) (λ b. mounted_behind b.0 b.1) pair.phase
+    mounts = ⊎_elim (λ t. mounted_together t.0 t.1) (λ b. mounted_behind b.0 b.1) (phase_now pair)

@@ -1,6 +1,5 @@
 -- A back that is mounted takes an ask of its newest incarnation, and its read fails.
 use Rattle.std.proofs.Common.{◌≡◌, ◌∙◌, ap, sym, subst, refl, inl, ⊎_elim, ℕ, suc, List, [], ◌∷◌, ◌++◌, length, arith}
-use Rattle.std.proofs.lemmas.List.Elements.{All-nil}
 use Rattle.std.specs.Prelude.{Bool}
 use Rattle.storage_map.specs.Contents.{Contents}
 use Rattle.storage_map.specs.declared.ask.StoreAsk.{StoreAsk}
@@ -16,7 +15,8 @@ use Rattle.object_history.proofs.Entering.{entered_alike, kept_of_all, never_beh
 use Rattle.object_history.proofs.Heads.{Head, is_own, is_late, head_of, own_taken, late_is}
 use Rattle.object_history.proofs.Keeping.{rebuilt, told_none}
 use Rattle.object_history.proofs.Reaching.{Rest, goes_on, was_last, rest_of}
-use Rattle.object_history.specs.Pair.{Rear, Held, halt, Stand, mounted, newest, Together, unreached, answered, syncs, halts, read_fails, falls, wants, mends, misses, silent, IsEnd, WaitsForRead, IsPair}
+use Rattle.object_history.proofs.Readings.{phase_now}
+use Rattle.object_history.specs.Pair.{Rear, Held, halt, Stand, mounted, newest, Together, unreached, answered, syncs, halts, read_fails, falls, wants, mends, misses, silent, IsPair}
 use Rattle.object_history.specs.Stepping.{IsRear, AreGiven, with_entry}
 
 -- the end by a read that failed
@@ -26,8 +26,7 @@ ends_by before counts_before counts_after = record { hold = halt (causes.Disk co
 -- The ask was the last that the front had said: it waits for an answer, which doesn't come.
 module _ (start : Contents) (f : Front) (front : Fronted) (back new_back : Backed) (before : ℕ) (a : StoreAsk) (free : Bool) (counts_before counts_after : ℕ) (more : List Body) where
   abbrev Fails : (stand : Stand) → List Held → List Notice → Type 0
-  Fails stand held notices =
-      Together start f front new_back more before stand (held ++ ends_by before counts_before counts_after ∷ []) notices × WaitsForRead f more notices
+  Fails stand held notices = Together start f front new_back more before stand (held ++ ends_by before counts_before counts_after ∷ []) notices
 
   fails_in : (state : State) → f.mode ≡ serves state → Rest (serves state) (body.Ask a free) more → Fails mounted [] []
   fails_in state mode (goes_on plain u) = absurd cc
@@ -35,10 +34,7 @@ module _ (start : Contents) (f : Front) (front : Fronted) (back new_back : Backe
   fails_in (waiting o t x) mode (was_last is) =
       let same : x ≡ body.Ask a free = cc in
       let none : more ≡ [] = cc in
-      let asks : f.mode ≡ serves (waiting o t (body.Ask a free)) = mode ∙ ap (λ (y : Body). serves (waiting o t y)) same in (
-        read_fails o t a free counts_before counts_after asks none,
-        record { object = o; task = t; ask = a; free = free; mode = asks; none_unread = none; no_answer = All-nil IsEnd },
-      )
+      read_fails o t a free counts_before counts_after (mode ∙ ap (λ (y : Body). serves (waiting o t y)) same) none
   fails_in (ended c) mode (was_last is) = absurd cc
 
   failed_so : (stand : Stand) (held : List Held) (notices : List Notice) → Together start f front back (body.Ask a free ∷ more) before stand held notices
@@ -59,7 +55,7 @@ module _ (k : Kind) (opened : Contents) (f : Front) (front : Fronted) (rear : Re
     (line : List Entry) (notices given : List Notice) (known : IsRear opened rear) (stand : rear.stand ≡ mounted) (is : e.incarnation ≡ newest rear.log)
     (asks : e.body ≡ body.Ask a free) (pair : IsPair k opened f front rear (e ∷ line) notices) (are : AreGiven [] given) where
   abbrev later : Rear
-  later = record rear { log = with_entry rear e; held = rear.held ++ ends_by rear.before counts_before counts_after ∷ []; map = map; closed = newest rear.log }
+  later = record rear { log = with_entry rear e; held = rear.held ++ ends_by rear.before counts_before counts_after ∷ []; map = map }
 
   failed_together : (late : List Entry) (unread : List Body) → pair.lined.late ≡ late → pair.lined.unread ≡ unread
       → Head f.incarnation (suc (length pair.lined.read)) e line late unread → length rear.log.stops ≡ pair.below
@@ -73,8 +69,7 @@ module _ (k : Kind) (opened : Contents) (f : Front) (front : Fronted) (rear : Re
       rebuilt k opened f front rear (e ∷ line) notices pair later line notices (λ index less. entered_alike front rear e index)
       (kept_of_all front rear e opened known pair.below stops (omega (arith, is, stops))) (e ∷ [], refl) refl refl
       (own_taken f front rear.log.taken e line pair.lined b more unreads same rest)
-      (record { within = omega (arith, stops, pair.number); waits = λ by. failed.1; open_late = λ some. absurd (some refl) })
-      (inl (stops, failed.0))
+      (inl (stops, failed))
 
   pub fails_to_read : IsPair k opened f front later line (notices ++ given)
   fails_to_read =
@@ -82,4 +77,4 @@ module _ (k : Kind) (opened : Contents) (f : Front) (front : Fronted) (rear : Re
       told_none (λ (all : List Notice). IsPair k opened f front later line all) notices given are (⊎_elim
       (λ t. failed_together pair.lined.late pair.lined.unread refl refl head t.0 t.1)
       (λ b. absurd (never_behind front rear e f line pair.below (suc (length pair.lined.read)) pair.lined.late pair.lined.unread pair.number b.0 is b.1.none_late head))
-      pair.phase)
+      (phase_now pair))

@@ -17,6 +17,7 @@ use Rattle.timeline.specs.declared.event.Event.{Event}
 use Rattle.timeline.specs.declared.notice.Notice.{Notice}
 use Rattle.output_gate.proofs.Histories.{entries_none}
 use Rattle.object_history.proofs.Entries.{entries_own, spoken_numbered, of_number_append, of_number_none, of_number_own, of_their_own}
+use Rattle.object_history.proofs.Readings.{phase_now}
 use Rattle.object_history.specs.Pair.{Rear, IsLogged, calls_down, failures, IsNewest, serving, falling, IsPhase, IsPair}
 use Rattle.object_history.specs.Laws.{TellingTells}
 
@@ -107,7 +108,7 @@ module _ (tells : TellingTells) (k : Kind) (opened : Contents) (f : Front) (fron
   by_phase (inr behind) = said_at (suc pair.below) behind.0 said_until_next
 
   pub all_said : AreSaid k.script k.class opened front rear.log (history front rear.log)
-  all_said = by_phase pair.phase
+  all_said = by_phase (phase_now pair)
 
   -- the causes that the front knows are the first ones
   pub known_ends : IsPrefix front.ends (map (λ (stop : Stop). stop.cause) rear.log.stops)

@@ -21,24 +21,23 @@ use Rattle.object_history.specs.Pair.{Held, Stand, Rear}
 use Rattle.object_history.specs.Seen.{held_for, held_of, stand_of, rear_of}
 use Rattle.object_history.specs.Stepping.{BackSteps}
 
-abbrev pub made : Backed → Stand → List Held → ℕ → ℕ → Contents → ℕ → Rear
-made log stand held before durable m closed = record { log = log; stand = stand; held = held; before = before; durable = durable; map = m; closed = closed }
+abbrev pub made : Backed → Stand → List Held → ℕ → ℕ → Contents → Rear
+made log stand held before durable m = record { log = log; stand = stand; held = held; before = before; durable = durable; map = m }
 
 -- a step to what is seen of a back with a map, by its parts
 pub steps_to : {D : Type 0} (from : Rear) (later : Back D) (m : Contents) (got : List Entry) (told : List Notice) (log : Backed) (stand : Stand) (held : List Held)
-    (before durable closed : ℕ)
-    → BackSteps from (made log stand held before durable m closed) got told → backed later.log ≡ log → stand_of later.mode ≡ stand
-    → flat_map held_of later.held.items ≡ held → later.before ≡ before → later.durable ≡ durable → later.closed ≡ closed
+    (before durable : ℕ)
+    → BackSteps from (made log stand held before durable m) got told → backed later.log ≡ log → stand_of later.mode ≡ stand
+    → flat_map held_of later.held.items ≡ held → later.before ≡ before → later.durable ≡ durable
     → BackSteps from (rear_of m later) got told
-steps_to from later m got told log stand held before durable closed step logs stands helds befores durables closes =
+steps_to from later m got told log stand held before durable step logs stands helds befores durables =
     let there : List Held = flat_map held_of later.held.items in
     subst (λ (r : Rear). BackSteps from r got told)
-    (ap (λ (l : Backed). made l stand held before durable m closed) (sym logs)
-    ∙ ap (λ (s : Stand). made (backed later.log) s held before durable m closed) (sym stands)
-    ∙ ap (λ (h : List Held). made (backed later.log) (stand_of later.mode) h before durable m closed) (sym helds)
-    ∙ ap (λ (n : ℕ). made (backed later.log) (stand_of later.mode) there n durable m closed) (sym befores)
-    ∙ ap (λ (n : ℕ). made (backed later.log) (stand_of later.mode) there later.before n m closed) (sym durables)
-    ∙ ap (λ (n : ℕ). made (backed later.log) (stand_of later.mode) there later.before later.durable m n) (sym closes))
+    (ap (λ (l : Backed). made l stand held before durable m) (sym logs)
+    ∙ ap (λ (s : Stand). made (backed later.log) s held before durable m) (sym stands)
+    ∙ ap (λ (h : List Held). made (backed later.log) (stand_of later.mode) h before durable m) (sym helds)
+    ∙ ap (λ (n : ℕ). made (backed later.log) (stand_of later.mode) there n durable m) (sym befores)
+    ∙ ap (λ (n : ℕ). made (backed later.log) (stand_of later.mode) there later.before n m) (sym durables))
     step
 
 at_most_as : (durable needs : ℕ) (less : Bool) → nat_lt durable needs ≡ less → nat_le needs durable ≡ not less

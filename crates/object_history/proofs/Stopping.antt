@@ -28,10 +28,10 @@ use Rattle.timeline.specs.declared.notice.Notice.{Notice}
 use Rattle.timeline.specs.declared.notice.Notice.TheVariants as notice
 use Rattle.output_gate.proofs.Histories.{get_more, get_last}
 use Rattle.object_history.proofs.Alike.{IsKeptAlike}
-use Rattle.object_history.proofs.Closing.{end_given, ends_more}
 use Rattle.object_history.proofs.Entries.{batches_append, said_numbered, spoken_numbered}
 use Rattle.object_history.proofs.Keeping.{rebuilt, none_missed, none_taken, map_written, told_none}
 use Rattle.object_history.proofs.Phases.{asked_last, says_down, halts_as, stops_as}
+use Rattle.object_history.proofs.Readings.{phase_now}
 use Rattle.object_history.specs.Pair.{Rear, Held, halt, Stand, mounted, wanted, newest, calls_down, failures, IsNews, fallen_once, IsNewest, Together, IsPair}
 use Rattle.object_history.specs.Stepping.{IsRear, IsFollowed, AreGiven}
 
@@ -125,7 +125,7 @@ module _ (k : Kind) (opened : Contents) (f : Front) (front : Fronted) (rear : Re
         (λ call mode. wrote stops less (down_none k (incarnations front rear.log pair.below) pair.start f front rear.log pair.newest_said call mode pair.lined.read pair.lined.unread pair.lined.said)) in
         rebuilt k opened f front rear line notices pair failed line notices
         (λ index within. record { delivered = refl; sent = refl; stop = stop_more stop stops index within; downed = refl; missed = refl })
-        (λ index within. refl) ([], sym (append-nil rear.log.taken)) refl (first_stops stop stops) pair.lined pair.closed_to
+        (λ index within. refl) ([], sym (append-nil rear.log.taken)) refl (first_stops stop stops) pair.lined
         (inr (
           one_more stop stops,
           record {
@@ -152,7 +152,7 @@ module _ (k : Kind) (opened : Contents) (f : Front) (front : Fronted) (rear : Re
         (λ b. absurd (known.owns less
         (ap (λ (n : ℕ). batches_in (entries_of (suc n) rear.log.taken)) (b.0 ∙ sym pair.number)
         ∙ ap batches_in (none_taken f front rear.log.taken line pair.logged pair.lined))))
-        pair.phase)
+        (phase_now pair))
 
   module _ (c : Cause) (needs : ℕ) (rest : List Held) (stop : Stop) (end : End) (map : Contents)
       (is_held : rear.held ≡ record { hold = halt c; needs = needs } ∷ rest) (stand : rear.stand ≡ mounted) (by_halt : stop.cause ≡ c)
@@ -197,7 +197,6 @@ module _ (k : Kind) (opened : Contents) (f : Front) (front : Fronted) (rear : Re
           rebuilt k opened f front rear line notices pair halted line (notices ++ given)
           (λ index within. record { delivered = refl; sent = refl; stop = stop_more stop stops index within; downed = refl; missed = refl })
           (kept_before_it stops) ([], sym (append-nil rear.log.taken)) refl (first_stops stop stops) pair.lined
-          (ends_more rear.closed f pair.lined.late pair.lined.unread notices pair.closed_to given (end_given (notice.Fresh (suc (newest rear.log)) map.alarm c) given tt are))
           (inr (
             one_more stop stops,
             record {
@@ -224,4 +223,4 @@ module _ (k : Kind) (opened : Contents) (f : Front) (front : Fronted) (rear : Re
           ))
 
       pub stops_by_halt : IsPair k opened f front halted line (notices ++ given)
-      stops_by_halt = ⊎_elim (λ t. halted_together t.0 t.1) (λ b. absurd (let none = b.1.none_held in cc)) pair.phase
+      stops_by_halt = ⊎_elim (λ t. halted_together t.0 t.1) (λ b. absurd (let none = b.1.none_held in cc)) (phase_now pair)

@@ -11,11 +11,11 @@ use Rattle.timeline.specs.declared.entry.Body.TheVariants as body
 use Rattle.timeline.specs.declared.entry.Entry.{Entry}
 use Rattle.timeline.specs.declared.event.Event.{Event}
 use Rattle.timeline.specs.declared.notice.Notice.{Notice}
-use Rattle.object_history.proofs.Closing.{open_line, open_to}
 use Rattle.object_history.proofs.Entering.{entered_alike, kept_of_all, never_behind}
 use Rattle.object_history.proofs.Heads.{Head, is_own, is_late, head_of, own_taken, late_is}
 use Rattle.object_history.proofs.Keeping.{rebuilt, told_none}
 use Rattle.object_history.proofs.Reaching.{Rest, goes_on, was_last, rest_of}
+use Rattle.object_history.proofs.Readings.{phase_now}
 use Rattle.object_history.specs.Pair.{Rear, Held, Stand, fallen, newest, calls_down, IsUnread, Together, unreached, answered, syncs, halts, read_fails, falls, wants, mends, misses, silent, IsPair}
 use Rattle.object_history.specs.Saying.{is_plain}
 use Rattle.object_history.specs.Stepping.{IsRear, AreGiven, with_entry, stands_after}
@@ -81,7 +81,6 @@ module _ (k : Kind) (opened : Contents) (f : Front) (front : Fronted) (rear : Re
       rebuilt k opened f front rear (e ∷ line) notices pair later line notices (λ index less. entered_alike front rear e index)
       (kept_of_all front rear e opened known pair.below stops (omega (arith, is, stops))) (e ∷ [], refl) refl refl
       (own_taken f front rear.log.taken e line pair.lined b more unreads same rest)
-      (open_to rear.closed f [] more notices (open_line rear.closed f pair.lined.late pair.lined.unread notices pair.closed_to b more unreads) refl)
       (inl (stops, subst (λ (x : Body). Together pair.start f front later.log more rear.before (stands_after c x) rear.held notices) (sym bodies) stands))
 
   pub takes_down_entry : AreGiven [] given → IsPair k opened f front later line (notices ++ given)
@@ -90,4 +89,4 @@ module _ (k : Kind) (opened : Contents) (f : Front) (front : Fronted) (rear : Re
       told_none (λ (all : List Notice). IsPair k opened f front later line all) notices given are (⊎_elim
       (λ t. taken_together pair.lined.late pair.lined.unread refl refl head t.0 t.1)
       (λ b. absurd (never_behind front rear e f line pair.below (suc (length pair.lined.read)) pair.lined.late pair.lined.unread pair.number b.0 is b.1.none_late head))
-      pair.phase)
+      (phase_now pair))

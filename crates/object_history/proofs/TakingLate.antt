@@ -11,11 +11,11 @@ use Rattle.timeline.specs.declared.entry.Body.TheVariants as body
 use Rattle.timeline.specs.declared.entry.Entry.{Entry}
 use Rattle.timeline.specs.declared.notice.Notice.{Notice}
 use Rattle.object_history.proofs.Alike.{IsKeptAlike, same_start, still_taken}
-use Rattle.object_history.proofs.Closing.{late_gone, open_line, open_to}
 use Rattle.object_history.proofs.Entering.{entered_alike, kept_of_all}
 use Rattle.object_history.proofs.Heads.{Head, is_own, is_late, head_of, own_taken, late_taken}
 use Rattle.object_history.proofs.Keeping.{rebuilt, same_together, told_none}
 use Rattle.object_history.proofs.Reaching.{Rest, goes_on, was_last, rest_of}
+use Rattle.object_history.proofs.Readings.{phase_now}
 use Rattle.object_history.specs.Pair.{Rear, newest, IsUnread, IsNews, Together, Behind, IsPair}
 use Rattle.object_history.specs.Stepping.{IsRear, AreGiven, with_entry}
 
@@ -44,7 +44,6 @@ module _ (k : Kind) (opened : Contents) (f : Front) (front : Fronted) (rear : Re
       (kept_of_all front rear e opened known pair.below stops (omega (arith, is, stops))) (e ∷ [], refl) refl refl
       (late_taken f front rear.log.taken e line pair.lined x late lates same
       (rest ∙ ap (λ (bodies : List Body). late ++ numbered f.incarnation (suc (length pair.lined.read)) bodies) (sym unreads)))
-      (late_gone rear.closed f pair.lined.late pair.lined.unread notices pair.closed_to x late lates)
       (inl (stops, same_together pair.start f front rear.log later.log pair.lined.unread rear.before rear.stand rear.held notices refl t))
 
   abbrev next : Contents
@@ -66,7 +65,6 @@ module _ (k : Kind) (opened : Contents) (f : Front) (front : Fronted) (rear : Re
       rebuilt k opened f front rear (e ∷ line) notices pair later line notices (λ index less. entered_alike front rear e index)
       (λ index less. kept index (omega (arith, less))) (e ∷ [], refl) refl refl
       (own_taken f front rear.log.taken e line pair.lined first more unreads same rest)
-      (open_to rear.closed f [] more notices (open_line rear.closed f pair.lined.late pair.lined.unread notices pair.closed_to first more unreads) refl)
       (inr (
         stops,
         record {
@@ -94,4 +92,4 @@ module _ (k : Kind) (opened : Contents) (f : Front) (front : Fronted) (rear : Re
       told_none (λ (all : List Notice). IsPair k opened f front later line all) notices given are (⊎_elim
       (λ t. taken_together pair.lined.late pair.lined.unread refl refl head t.0 t.1)
       (λ b. taken_behind pair.lined.late pair.lined.unread refl refl head b.0 b.1)
-      pair.phase)
+      (phase_now pair))

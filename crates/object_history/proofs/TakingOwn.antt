@@ -11,13 +11,13 @@ use Rattle.timeline.specs.declared.entry.Entry.{Entry}
 use Rattle.timeline.specs.declared.notice.Notice.{Notice}
 use Rattle.output_gate.specs.Taking.{notice_of}
 use Rattle.object_history.proofs.Asked.{is_asked_for}
-use Rattle.object_history.proofs.Closing.{open_line, open_to}
 use Rattle.object_history.proofs.Entering.{entered_alike, kept_of_all, never_behind}
 use Rattle.object_history.proofs.Entries.{said_numbered}
 use Rattle.object_history.proofs.Heads.{Head, is_own, is_late, head_of, own_taken, late_is}
 use Rattle.object_history.proofs.Keeping.{rebuilt, map_written}
 use Rattle.object_history.proofs.Reaching.{reached}
 use Rattle.object_history.specs.Laws.{StepsSayWell}
+use Rattle.object_history.proofs.Readings.{phase_now}
 use Rattle.object_history.specs.Pair.{Rear, mounted, newest, Together, IsPair}
 use Rattle.object_history.specs.Stepping.{IsRear, AreGiven, with_entry, holds, before_next}
 
@@ -54,7 +54,6 @@ module _ (well : StepsSayWell) (k : Kind) (opened : Contents) (f : Front) (front
       rebuilt k opened f front rear (e ∷ line) notices pair later line (notices ++ given) (λ index less. entered_alike front rear e index)
       (kept_of_all front rear e opened known pair.below stops (omega (arith, is, stops))) (e ∷ [], refl) refl refl
       (own_taken f front rear.log.taken e line pair.lined b more unreads same rest)
-      (open_to rear.closed f [] more (notices ++ given) (open_line rear.closed f pair.lined.late pair.lined.unread notices pair.closed_to b more unreads) refl)
       (inl (
         stops,
         subst (λ (x : Body). Together pair.start f front later.log more (before_next rear.before x) rear.stand (rear.held ++ holds e.number rear.before x) (notices ++ given))
@@ -66,4 +65,4 @@ module _ (well : StepsSayWell) (k : Kind) (opened : Contents) (f : Front) (front
       let head = head_of f.incarnation (suc (length pair.lined.read)) e line pair.lined.late pair.lined.unread pair.lined.is_line in
       ⊎_elim (λ t. taken_together pair.lined.late pair.lined.unread refl refl head t.0 t.1)
       (λ b. absurd (never_behind front rear e f line pair.below (suc (length pair.lined.read)) pair.lined.late pair.lined.unread pair.number b.0 is b.1.none_late head))
-      pair.phase
+      (phase_now pair)

@@ -18,6 +18,7 @@ use Rattle.output_gate.proofs.Histories.{entries_none}
 use Rattle.object_history.proofs.Entries.{of_number_none, said_numbered}
 use Rattle.object_history.proofs.Phases.{says_down}
 use Rattle.object_history.proofs.SaidSoFar.{delivered_until, entries_now, events_now, sent_until}
+use Rattle.object_history.proofs.Readings.{phase_now}
 use Rattle.object_history.specs.Pair.{Held, Stand, mounted, wanted, fallen, Rear, IsSilentAt, IsNewest, serving, falling, Together, unreached, answered, syncs, halts, read_fails, falls, wants, mends, misses, silent, IsPhase, IsPair}
 use Rattle.object_history.specs.Stepping.{IsFollowed, IsRear}
 
@@ -106,4 +107,4 @@ module _ (k : Kind) (opened : Contents) (f : Front) (front : Fronted) (rear : Re
   rests_by (inr behind) never = subst Rests (sym behind.0) untold_rests
 
   pub rests_unmounted : IsRear opened rear → RestsUnmounted (history front rear.log)
-  rests_unmounted known none = rests_by pair.phase (never_mounted front rear.log rear.stand known.followed none)
+  rests_unmounted known none = rests_by (phase_now pair) (never_mounted front rear.log rear.stand known.followed none)

@@ -1,5 +1,5 @@
 -- Laws of the history of one object, each proved by a function of `laws`.
-use Rattle.std.specs.Prelude.{◌≡◌, suc, ◌<◌, ◌≤◌, List, [], ◌∷◌, ◌++◌, length, map}
+use Rattle.std.specs.Prelude.{◌≡◌, suc, ◌≤◌, List, [], ◌∷◌, ◌++◌, length, map}
 use Rattle.storage_map.specs.Contents.{Contents}
 use Rattle.script_mean.specs.declared.answer.Answer.{Answer}
 use Rattle.timeline.specs.Headline.{IsPrefix}
@@ -70,11 +70,6 @@ pub record FrontKeepsPair : Type 0 where
 abbrev pub NoticesFit : Type 0
 NoticesFit = (k : Kind) (opened : Contents) (f : Front) (front : Fronted) (rear : Rear) (line : List Entry) (n : Notice) (rest : List Notice)
     → IsPair k opened f front rear line (n ∷ rest) → FitsMode f.said f.mode n
-
--- The next entry under way to a back is of an incarnation of which no read has failed.
-abbrev pub LineIsOpen : Type 0
-LineIsOpen = (k : Kind) (opened : Contents) (f : Front) (front : Fronted) (rear : Rear) (e : Entry) (line : List Entry) (notices : List Notice)
-    → IsPair k opened f front rear (e ∷ line) notices → rear.closed < e.incarnation
 
 -- They stay a pair whatever step the back makes, its notice being given or lost.
 abbrev pub BackKeepsPair : Type 0

@@ -3,6 +3,7 @@
 use Rattle.std.specs.Prelude.{◌≡◌, ◌≢◌, ◌⊎◌, ℕ, suc, ◌<◌, ◌≤◌, Bool, true, false, List, [], ◌∷◌, ◌++◌, length, map, drop, take, slice_get, Option, Some, None, IfSome}
 use Rattle.std.specs.List.{All, Contains}
 use Rattle.storage_map.specs.Contents.{Contents}
+use Rattle.storage_map.specs.Readings.{reading}
 use Rattle.storage_map.specs.declared.ask.StoreAsk.{StoreAsk}
 use Rattle.timeline.specs.Headline.{AreHalted, AreSaid, down_said, missed_of}
 use Rattle.timeline.specs.History.{History, of_number, entries_of, incarnations, is_halting, start_after, resets, said_in}
@@ -22,7 +23,7 @@ use Rattle.timeline.specs.declared.event.Event.{Event}
 use Rattle.timeline.specs.declared.event.Event.TheVariants as event
 use Rattle.timeline.specs.declared.notice.Notice.{Notice}
 use Rattle.timeline.specs.declared.notice.Notice.TheVariants as notice
-use Rattle.object_history.specs.Saying.{ArePlain}
+use Rattle.object_history.specs.Saying.{ArePlain, IsGated}
 use Rattle.object_history.specs.Telling.{Tells}
 
 -- What a back holds for its front: the answer to a sync, or the end by a halt, also by one of its own where a read failed; and the batches that
@@ -43,7 +44,7 @@ pub data Stand : Type 0 where
   fallen : Cause → Stand
 
 -- What the front's side sees of a back: its log, how it stands, what it holds for the front, the batches that were taken and those
--- that are durable, from the opening, its map, and the number of the newest incarnation of which a read has failed, or 0.
+-- that are durable, from the opening, and its map.
 pub record Rear : Type 0 where
   pub log : Backed
   pub stand : Stand
@@ -51,7 +52,6 @@ pub record Rear : Type 0 where
   pub before : ℕ
   pub durable : ℕ
   pub map : Contents
-  pub closed : ℕ
 
 -- The newest incarnation of a back is one more than have stopped.
 abbrev pub newest : Backed → ℕ
@@ -104,6 +104,15 @@ pub record IsAnswer (start : Contents) (f : Front) (n : Notice) : Type 0 where
   pub asked : Body
   pub said : f.said ≡ first ++ asked ∷ []
   pub answer : answer_in n ≡ stored_answer (written start first) asked ∷ []
+
+-- A reading of an open ask is under way: what the map answers that the front's incarnation had written when it said the ask, with the number of
+-- that entry.
+pub record IsReading (start : Contents) (f : Front) (n : Notice) : Type 0 where
+  pub first : List Body
+  pub ask : StoreAsk
+  pub after : List Body
+  pub said : f.said ≡ first ++ body.Ask ask true ∷ after
+  pub is : n ≡ notice.Read (suc (length first)) (reading (written start first) ask)
 
 -- The back may give no further notice: it is mounted, or it is down and no mounting is wanted.
 abbrev pub IsSilentAt : Mode → Stand → Type 0
@@ -216,34 +225,22 @@ IsEnd (notice.Read number r) = ⊥
 IsEnd (notice.Taken number count) = ⊥
 IsEnd (notice.Synced number) = ⊥
 
--- A read of the front's incarnation has failed: the front waits for that ask still, has said no more, and no answer is under way.
-pub record WaitsForRead (f : Front) (unread : List Body) (notices : List Notice) : Type 0 where
-  pub object : Object
-  pub task : OpenTask
-  pub ask : StoreAsk
-  pub free : Bool
-  pub mode : f.mode ≡ serves (waiting object task (body.Ask ask free))
-  pub none_unread : unread ≡ []
-  pub no_answer : All IsEnd notices
-
--- No read has failed of an incarnation behind the front's. Where one of its own has, the front waits for it; and entries of the one before
--- are under way only where none of that has.
-pub record IsClosedTo (closed : ℕ) (f : Front) (late : List Entry) (unread : List Body) (notices : List Notice) : Type 0 where
-  pub within : closed ≤ f.incarnation
-  pub waits : f.incarnation ≤ closed → WaitsForRead f unread notices
-  pub open_late : late ≢ [] → suc closed < f.incarnation
-
--- A front that stands so and has logged this, and a back; entries under way to the back, and notices to the front.
+-- A front that stands so and has logged this, and a back; entries under way to the back, and notices to the front. Of the notices the first are
+-- readings of open asks, of which this front sends none; then comes what tells how the halves stand to each other.
 pub record IsPair (k : Kind) (opened : Contents) (f : Front) (front : Fronted) (rear : Rear) (line : List Entry) (notices : List Notice) : Type 0 where
   pub below : ℕ
   pub number : f.incarnation ≡ suc below
   pub logged : IsLogged f front
   pub lined : IsLine f front rear.log.taken line
-  pub closed_to : IsClosedTo rear.closed f lined.late lined.unread notices
+  pub gated : All IsGated f.said
   pub ends : front.ends ≡ map (λ (stop : Stop). stop.cause) (take below rear.log.stops)
   pub older_said : AreSaid k.script k.class opened front rear.log (incarnations front rear.log below)
   pub older_halted : AreHalted k.script k.class opened (incarnations front rear.log below)
   pub start : Contents
   pub starts : start ≡ start_after opened (incarnations front rear.log below)
   pub newest_said : IsNewest k (incarnations front rear.log below) start f front rear.log
-  pub phase : IsPhase opened below start f front rear lined.unread lined.late notices
+  pub readings : List Notice
+  pub rest : List Notice
+  pub under_way : notices ≡ readings ++ rest
+  pub are_readings : All (IsReading start f) readings
+  pub phase : IsPhase opened below start f front rear lined.unread lined.late rest

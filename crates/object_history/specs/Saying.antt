@@ -1,17 +1,22 @@
 -- What a step of an object says: which of it its back answers, and what ends its incarnation.
-use Rattle.std.specs.Prelude.{◌≡◌, Bool, true, false, List, [], ◌∷◌, ◌++◌, Some, None}
+use Rattle.std.specs.Prelude.{◌≡◌, Bool, true, false, not, List, [], ◌∷◌, ◌++◌, Some, None}
 use Rattle.std.specs.List.{All}
 use Rattle.timeline.specs.Object.{State, idle, waiting, ended, Step}
 use Rattle.timeline.specs.declared.entry.Body.{Body}
 use Rattle.timeline.specs.declared.entry.Body.TheVariants as body
 use Rattle.timeline.specs.History.{is_halting}
 
--- An entry that the storage answers.
+-- An entry whose answer is waited for. That of an open ask isn't: its reading comes while the object goes on.
 abbrev pub is_asked : Body → Bool
-is_asked (body.Ask ask free) = true
+is_asked (body.Ask ask free) = not free
 is_asked (body.Batch ops (Some tail) confirmed) = true
 is_asked body.Sync = true
 is_asked _ = false
+
+-- It is no open ask.
+abbrev pub IsGated : Body → Type 0
+IsGated (body.Ask ask free) = free ≡ false
+IsGated _ = Unit {0}
 
 -- An entry that stands between others: nothing is waited for behind it.
 abbrev pub is_plain : Body → Bool

@@ -34,5 +34,4 @@ rear_of m back = record {
   before = back.before;
   durable = back.durable;
   map = m;
-  closed = back.closed;
 }

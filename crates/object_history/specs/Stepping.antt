@@ -65,14 +65,12 @@ IsMapOf opened back m = (front : Fronted) (i : Incarnation) (older : History) �
     → m ≡ written (start_after opened older) (said_in i.taken)
 
 -- What is known of a back that is seen with the map that is due: its log's lists fit, and mountings failed of incarnations that have
--- begun alone; no read has failed where nothing was taken; what isn't durable are batches of the newest incarnation; and what was kept of the
--- one before was taken of it.
+-- begun alone; what isn't durable are batches of the newest incarnation; and what was kept of the one before was taken of it.
 pub record IsRear (opened : Contents) (rear : Rear) : Type 0 where
   pub logs : AreLogs rear.log
   pub followed : IsFollowed rear.stand rear.log
   pub begun : All (λ m. m.incarnation ≤ newest rear.log) rear.log.downs
   pub map : IsMapOf opened rear.log rear.map
-  pub closed : rear.log.taken ≡ [] → rear.closed ≡ 0
   pub owns : rear.durable < rear.before → batches_in (entries_of (newest rear.log) rear.log.taken) ≢ []
   pub kept : (front : Fronted) (i : Incarnation) (older : History) (count : ℕ) → incarnations front rear.log (length rear.log.stops) ≡ i ∷ older
       → i.kept ≡ Some count → count ≤ length (batches_in i.taken)
@@ -83,7 +81,7 @@ holds number before body.Sync = record { hold = sync number; needs = before } �
 holds number before (body.Halt c) = record { hold = halt c; needs = before } ∷ []
 holds number before _ = []
 
--- No end by a halt is held: behind one nothing of its incarnation is taken.
+-- No end is held: behind one nothing of its incarnation is taken.
 abbrev pub is_end : Hold → Bool
 is_end (sync number) = false
 is_end (halt c) = true
@@ -105,8 +103,8 @@ abbrev pub with_entry : Rear → Entry → Backed
 with_entry r e = record r.log { taken = r.log.taken ++ e ∷ [] }
 
 -- A step of a back, the entry that it takes off the line, and what it tells its front. With what map it is seen then is no matter but at a
--- halt and at a mounting, of which the alarm is told. Where a read of the disk fails, the ask is taken and isn't answered, the incarnation is
--- closed, and its end by that is held behind what was taken before it.
+-- halt and at a mounting, of which the alarm is told. Where a read of the disk fails, the ask is taken and isn't answered, and the end of the
+-- incarnation by that is held behind what was taken before it.
 pub data BackSteps (r : Rear) : Rear → List Entry → List Notice → Type 0 where
   takes_own : (e : Entry) (map : Contents) → r.stand ≡ mounted → e.incarnation ≡ newest r.log → IsUnended r.held
       → BackSteps r (record r {
@@ -122,7 +120,6 @@ pub data BackSteps (r : Rear) : Rear → List Entry → List Notice → Type 0 w
         log = with_entry r e;
         held = r.held ++ record { hold = halt (cause.Disk counts_before counts_after); needs = r.before } ∷ [];
         map = map;
-        closed = newest r.log;
       }) (e ∷ []) []
   takes_down : (e : Entry) (c : Cause) (map : Contents) → r.stand ≡ fallen c → e.incarnation ≡ newest r.log → fits_down e.body ≡ true
       → BackSteps r (record r { log = with_entry r e; stand = stands_after c e.body; map = map }) (e ∷ []) []

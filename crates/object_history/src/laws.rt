@@ -1,5 +1,5 @@
 //! Laws of one object's history. A call costs nothing and tells its caller the law.
-ghost use Rattle.object_history.specs.Laws.{TellingGoesOn, TellingTells, StepsSayWell, LogsGrow, PairBegins, FrontKeepsPair, NoticesFit, LineIsOpen, BackKeepsPair, PairIsSaid};
+ghost use Rattle.object_history.specs.Laws.{TellingGoesOn, TellingTells, StepsSayWell, LogsGrow, PairBegins, FrontKeepsPair, NoticesFit, BackKeepsPair, PairIsSaid};
 ghost use Rattle.object_history.specs.GateSteps.{FlushSteps, ReleaseSteps, MendSteps, BackIsRear, TakeSteps};
 
 use do_disk::Disk;
@@ -38,11 +38,6 @@ pub fn front_keeps_pair()
 /// Each notice under way is one that the front waits for.
 pub fn notices_fit()
     ensures { NoticesFit }
-{}
-
-/// The next entry under way is of an incarnation of which no read has failed.
-pub fn line_is_open()
-    ensures { LineIsOpen }
 {}
 
 /// They stay a pair whatever step the back makes.

@@ -1,5 +1,5 @@
 -- What an entry of an incarnation that has ended does to a back.
-use Rattle.std.proofs.Common.{◌≡◌, ◌∙◌, ap, sym, refl, subst, inl, inr, ℕ, zero, suc, ◌+◌, ◌≤◌, List, [], ◌∷◌, ◌++◌, append-nil, length, arith, Option, Some, None, Global}
+use Rattle.std.proofs.Common.{◌≡◌, ◌∙◌, ap, sym, refl, subst, inl, inr, ℕ, zero, suc, ◌+◌, List, [], ◌∷◌, ◌++◌, append-nil, length, arith, Option, Some, None, Global}
 use Rattle.std.proofs.lemmas.Grind.{flat_map-append}
 use Rattle.std.proofs.lemmas.List.{length_push}
 use Rattle.std.proofs.lemmas.List.Elements.{All-nil}
@@ -30,7 +30,7 @@ use Rattle.output_gate.specs.Standing.{AreLogs, own_entries, own_flights, older_
 use Rattle.output_gate.specs.declared.back.Back.{Back}
 use Rattle.output_gate.specs.declared.back.Ending.{Ending}
 use Rattle.output_gate.specs.declared.held.Held.{Held}
-use Rattle.output_gate.proofs.Reading.{reading_none, shut_stays, unread_none}
+use Rattle.output_gate.proofs.Reading.{failed_none, reading_none, unread_none}
 use Rattle.output_gate.proofs.Counts.{counts_stay}
 use Rattle.output_gate.proofs.Endings.{ended_late, ending_late, keep_late, last_of_stops, marks_late}
 use Rattle.output_gate.proofs.Fitting.{LateFit, not_mend}
@@ -113,11 +113,9 @@ comes_so back e o late (suc last) is = record {
 }
 
 pub comes : {D : Type 0} (back : Back D) (e : Entry) → LateFit back e → back.number ≡ suc (length back.log.stops.items) → AreInOrder back.log.taken.items back.log.stops.items
-    → ((stop : Stop) → last_stop back.log.stops.items ≡ Some stop → stop.read ≡ true → length back.log.stops.items ≤ back.closed) → Comes (backed back.log) e
-comes back e fits number o unread =
-    comes_so (backed back.log) e o
-    (is_late back.log.taken.items back.log.stops.items e o fits.comes (omega (arith, fits.before, number)) (λ stop is read. omega (arith, unread stop is read, fits.goes_on)))
-    (length back.log.stops.items) refl
+    → Comes (backed back.log) e
+comes back e fits number o =
+    comes_so (backed back.log) e o (is_late back.log.taken.items back.log.stops.items e o fits.comes (omega (arith, fits.before, number))) (length back.log.stops.items) refl
 
 module _ (back : Backed) (e : Entry) (c : Comes back e) where
   -- the end of its incarnation is the newest, and discards
@@ -268,7 +266,7 @@ module _ {D : Type 0} (moment_of : D → ℕ) (left_since : D → ℕ → List �
   pub mounted_late : (old : Back D) (log : BackLog) (held : VecDeque Held Global) (e : Entry) (m : IsMounted moment_of left_since told image faults_of start opening sound old) → LateFit old e
       → LogLate old.log log e → held.items ≡ old.held.items ++ late_held old e → IsMounted moment_of left_since told image faults_of start opening sound (behind_late old log held e)
   mounted_late old log held e m fits is items =
-      let c = comes old e fits m.safe.room.number m.logged.ordered m.reads.behind in
+      let c = comes old e fits m.safe.room.number m.logged.ordered in
       let other = not_mend e.body (is_some old.identity) fits.fits in
       record {
         journal = m.journal;
@@ -279,9 +277,8 @@ module _ {D : Type 0} (moment_of : D → ℕ) (left_since : D → ℕ → List �
         counts = counts_stay told faults_of (disk_in m.journal) (disk_in m.journal) (backed old.log) (backed log) refl (ap (λ (b : Backed). b.stops) is) (ap (λ (b : Backed). b.downs) is) m.counts;
         reads =
             let free = no_halt_if told image sound old e m.journal m.safe c (has_halt old.held.items) refl in
-            reading_none (IsTold (told (disk_in m.journal))) (IsTold (told (disk_in m.journal))) (λ yes. yes) (faults_of (disk_in m.journal)) (faults_of (disk_in m.journal)) (omega arith) old
-            (behind_late old log held e) (ap (λ (b : Backed). b.stops) is) (ap (λ (b : Backed). b.downs) is) refl refl free
-            (unread_none held.items (ap has_halt items ∙ late_free old.held.items (last_stop old.log.stops.items) old.late old.settled e.incarnation e.body free)) m.reads;
+            reading_none (IsTold (told (disk_in m.journal))) (faults_of (disk_in m.journal)) (behind_late old log held e)
+            (unread_none held.items (failed_none held.items (ap has_halt items ∙ late_free old.held.items (last_stop old.log.stops.items) old.late old.settled e.incarnation e.body free)));
       }
 
   -- The same while it isn't mounted.
@@ -334,7 +331,7 @@ module _ {D : Type 0} (moment_of : D → ℕ) (left_since : D → ℕ → List �
   pub unmounted_late : (old : Back D) (log : BackLog) (held : VecDeque Held Global) (e : Entry) (u : IsUnmounted moment_of left_since told image faults_of start opening old) → LateFit old e
       → LogLate old.log log e → held.items ≡ old.held.items ++ late_held old e → IsUnmounted moment_of left_since told image faults_of start opening (behind_late old log held e)
   unmounted_late old log held e u fits is items =
-      let c = comes old e fits u.safe.number u.logged.ordered (λ stop is read. absurd (true_false (sym read ∙ u.shut.appended stop is))) in
+      let c = comes old e fits u.safe.number u.logged.ordered in
       let own : own_entries (backed log) ≡ own_entries (backed old.log) =
       ap own_entries is ∙ ap (λ (p : Place). p.taken) (place_behind (backed old.log) e c.last u.safe.logs c.long c.own c.none front_none) ∙ sym c.none in
       record {
@@ -358,7 +355,6 @@ module _ {D : Type 0} (moment_of : D → ℕ) (left_since : D → ℕ → List �
         logged = subst (λ (b : Backed). IsLoggedDown (IsTold (told u.disk)) b u.ending (marks_late (marks_of old) e) old.durable) (sym is)
             (logged_down_late (backed old.log) e c (IsTold (told u.disk)) u.ending (marks_of old) old.durable u.safe.logs u.logged);
         counts = counts_stay told faults_of u.disk u.disk (backed old.log) (backed log) refl (ap (λ (b : Backed). b.stops) is) (ap (λ (b : Backed). b.downs) is) u.counts;
-        shut = shut_stays old (behind_late old log held e) (ap (λ (b : Backed). b.stops) is) refl refl u.shut;
       }
 
   pub back_late : (old new : Back D) (e : Entry) → LateFit old e → TakesLate old new e → IsBackAs moment_of left_since told image faults_of start opening sound old

@@ -1,10 +1,13 @@
 -- What is known of the incarnations that have ended.
 use Rattle.std.proofs.Common.{◌≡◌, ◌∙◌, ap, sym, refl, subst, inl, inr, ⊎_elim, ℕ, zero, suc, ◌+◌, ◌-◌, ◌<◌, ◌≤◌, List, [], ◌∷◌, ◌++◌, length, length-append, take, sum, arith, Option, Some, None}
 use Rattle.std.proofs.lemmas.List.{length-take-le, map-append}
-use Rattle.std.proofs.lemmas.Bool.{lt-ltb}
-use Rattle.std.specs.Prelude.{◌⊎◌, Bool, true, false, not, nat_lt, slice_get, if◌then◌else◌}
+use Rattle.std.proofs.lemmas.Bool.{eq-eqb, le-ltb, lt-ltb}
+use Rattle.std.proofs.lemmas.List.Elements.{Contains-append_left, Contains-append_right}
+use Rattle.std.specs.Prelude.{◌⊎◌, ◌==◌, Bool, true, false, nat_lt, slice_get, if◌then◌else◌}
+use Rattle.std.specs.List.{Contains}
+use Rattle.timeline.proofs.Needs.{reach_within}
 use Rattle.timeline.specs.Headline.{KeepBy}
-use Rattle.timeline.specs.History.{Incarnation, History, batches_in, durable, durable_by, incarnation_at, incarnations, kept_before, kept_of, said_in, IsKept, IsKeptBy}
+use Rattle.timeline.specs.History.{Incarnation, History, batches_in, durable, durable_by, entries_of, incarnation_at, incarnations, kept_before, kept_of, said_in, IsKept, IsKeptBy}
 use Rattle.timeline.specs.Logs.{Fronted, Backed}
 use Rattle.timeline.specs.Passed.{discards, is_mounted, is_followed, reaches}
 use Rattle.timeline.specs.Told.{said_by, batches_of}
@@ -15,10 +18,10 @@ use Rattle.timeline.specs.declared.caller.Cause.TheVariants as cause
 use Rattle.timeline.specs.declared.entry.Body.{Body}
 use Rattle.timeline.specs.declared.entry.Body.TheVariants as body
 use Rattle.timeline.specs.declared.entry.Entry.{Entry}
-use Rattle.output_gate.specs.Held.{is_read}
+use Rattle.output_gate.specs.Held.{ends_well, is_read}
 use Rattle.output_gate.specs.Ended.{last_stop, stop_causes, end_causes, AreInOrder, HasEnded, HaveEnded, IsPlaced, IsLogged, IsEnding, AreEnding, IsLoggedDown, Marks, late_if}
 use Rattle.output_gate.specs.Entering.{late_after, needs_by}
-use Rattle.output_gate.specs.Fits.{is_halt, last_of}
+use Rattle.output_gate.specs.Fits.{IsAsk, is_halt, last_of}
 use Rattle.output_gate.specs.Gate.{Place, place_of}
 use Rattle.output_gate.specs.Logs.{no_log}
 use Rattle.output_gate.specs.Standing.{AreLogs, own_entries, own_flights, older_of, going_on}
@@ -26,9 +29,10 @@ use Rattle.output_gate.specs.declared.back.Ending.{Ending}
 use Rattle.output_gate.proofs.Flushes.{front_none}
 use Rattle.output_gate.proofs.Gates.{batches_more, sum_push}
 use Rattle.output_gate.proofs.Helds.{true_false}
+use Rattle.output_gate.proofs.Reading.{discards_read}
 use Rattle.output_gate.proofs.Histories.{get_some}
 use Rattle.output_gate.proofs.Ordered.{order_own, order_stop, order_halt, order_none}
-use Rattle.output_gate.proofs.Passing.{lt_add, reach_none, reach_one}
+use Rattle.output_gate.proofs.Passing.{batches_said, lt_add, reach_none, reach_one}
 use Rattle.output_gate.proofs.Places.{place_took, place_flew, place_stopped, place_followed_at}
 
 -- as many incarnations as were asked for; and the next one is mounted where each is followed
@@ -86,6 +90,8 @@ ended_by marks needs (i ∷ older) h = record {
   within = h.within;
   kept = h.kept;
   discarded = h.discarded;
+  lost = h.lost;
+  asked = h.asked;
 }
 
 -- what the next message needs, counted from the opening
@@ -199,6 +205,8 @@ module _ (tells later_tells : Type 0) (before_it : later_tells → tells) (back 
                 stopped = refl;
                 within = omega (arith, batches, is_own);
                 kept = λ k is. absurd (no_count k is);
+                lost = λ yes append. omega (arith, short, g.counted, is_own, more, some);
+                asked = λ read. absurd (true_false (sym read ∙ unread));
                 discarded = λ yes. (
                   omega (arith, short, g.counted, is_own, more, some),
                   omega (arith, short, g.known),
@@ -216,14 +224,7 @@ module _ (tells later_tells : Type 0) (before_it : later_tells → tells) (back 
       }
 
 -- of an end by a front's cause, or by a read that failed, all is kept
-pub keeps_all : (c : Cause) → not (discards c (is_read c)) ≡ true → discards c (is_read c) ≡ false
-keeps_all (cause.Disk before after) is = refl
-keeps_all (cause.Full needed limit) is = absurd (true_false (sym is))
-keeps_all cause.Exceeded is = refl
-keeps_all cause.StartThrew is = refl
-keeps_all cause.BlockThrew is = refl
-
-kept_whole : (c : Cause) (i : Incarnation) (stop : Stop) (kept : ℕ) → not (discards c (is_read c)) ≡ true → kept ≡ length (batches_in i.taken) → kept ≡ stop.batches
+kept_whole : (c : Cause) (i : Incarnation) (stop : Stop) (kept : ℕ) → ends_well c ≡ true → kept ≡ length (batches_in i.taken) → kept ≡ stop.batches
     → IsKeptBy c (is_read c) i stop kept
 kept_whole (cause.Disk before after) i stop kept is all counted = counted
 kept_whole (cause.Full needed limit) i stop kept is all counted = absurd (true_false (sym is))
@@ -256,19 +257,49 @@ kept_late cause.BlockThrew read i stop kept taken drops is = absurd (true_false 
 kept_stop : (i : Incarnation) (stop : Stop) (kept : ℕ) (read : Bool) → stop.read ≡ read → IsKeptBy stop.cause read i stop kept → IsKept i stop kept
 kept_stop i stop kept read is held = subst (λ b. IsKeptBy stop.cause b i stop kept) (sym is) held
 
+-- all batches are durable, whatever ended it
+whole_durable : (read : Bool) (batches own flown : ℕ) → batches ≡ own → flown ≡ own → (if read then batches else flown) ≡ own
+whole_durable true batches own flown all even = all
+whole_durable false batches own flown all even = even
+
+-- an entry that stands somewhere among some is among those of its incarnation
+abbrev is_no_entry : Option Entry → Type 0
+is_no_entry None = Unit {0}
+is_no_entry (Some e) = ⊥
+
+abbrev entry_or : Option Entry → Entry → Entry
+entry_or None other = other
+entry_or (Some e) other = e
+
+own_at : (i : ℕ) (entries : List Entry) (n : ℕ) (e : Entry) → slice_get entries n ≡ Some e → e.incarnation ≡ i → Contains (entries_of i entries) e
+own_at i [] n e is own = absurd (subst is_no_entry is tt)
+own_at i (x ∷ entries) zero e is own =
+    let same : x ≡ e = ap (λ (o : Option Entry). entry_or o e) is in
+    subst (λ (b : Bool). Contains (if b then x ∷ entries_of i entries else entries_of i entries) e) (sym (eq-eqb x.incarnation i (ap (λ (y : Entry). y.incarnation) same ∙ own)))
+    (subst (λ (y : Entry). Contains (y ∷ entries_of i entries) e) (sym same) (Contains-append_left (e ∷ []) (entries_of i entries) e (0, omega arith, refl)))
+own_at i (x ∷ entries) (suc n) e is own = own_behind (x.incarnation == i) (own_at i entries n e is own)
+  where
+    own_behind : (b : Bool) → Contains (entries_of i entries) e → Contains (if b then x ∷ entries_of i entries else entries_of i entries) e
+    own_behind true has = Contains-append_right (x ∷ []) (entries_of i entries) e has
+    own_behind false has = has
+
+own_last : (back : Backed) (e : Entry) → last_of back.taken ≡ Some e → e.incarnation ≡ suc (length back.stops) → Contains (own_entries back) e
+own_last back e is own = own_at (suc (length back.stops)) back.taken (length back.taken - 1) e is own
+
 module _ (tells later_tells : Type 0) (before_it : later_tells → tells) (back : Backed) (marks : Marks) (own before flown : ℕ) where
-  -- A halt ends the incarnation, and the next one begins with all of its batches.
+  -- A halt ends the incarnation, or a read that failed, and the next one begins with all of its batches.
   pub logged_restarted : (stop : Stop) (e : Entry) → AreLogs back → stop.flights ≡ length back.flights → length back.ends ≡ length back.stops
-      → own ≡ length (batches_in (own_entries back)) → before ≡ flown → stop.batches ≡ own → stop.read ≡ is_read stop.cause → not (discards stop.cause (is_read stop.cause)) ≡ true
-      → last_of back.taken ≡ Some e → e.incarnation ≡ suc (length back.stops) → (is_halt e.body ≡ true) ⊎ (stop.read ≡ true)
+      → own ≡ length (batches_in (own_entries back)) → before ≡ flown → stop.batches ≡ own → stop.read ≡ is_read stop.cause → ends_well stop.cause ≡ true
+      → last_of back.taken ≡ Some e → e.incarnation ≡ suc (length back.stops) → (discards stop.cause stop.read ≡ false → is_halt e.body ≡ true)
+      → (stop.read ≡ true → IsAsk e.body)
       → (place : (front : Fronted) → place_of front (record back { stops = back.stops ++ stop ∷ []; ends = back.ends ++ record { kept = own; cause = stop.cause } ∷ [] })
       ≡ record { ended = suc (length back.stops); taken = []; flights = []; older = record (going_on front (length back.stops) (own_entries back) (own_flights back)) { stop = Some stop; kept = Some own } ∷ older_of front back })
       → IsLogged tells back marks own before flown
-      → IsLogged later_tells (record back { stops = back.stops ++ stop ∷ []; ends = back.ends ++ record { kept = own; cause = stop.cause } ∷ [] }) (record marks { needs = before }) 0 before flown
-  logged_restarted stop e logs all followed is_own even batches unread halting last is halts at l =
+      → IsLogged later_tells (record back { stops = back.stops ++ stop ∷ []; ends = back.ends ++ record { kept = own; cause = stop.cause } ∷ [] }) (record { settled = before; late = Some marks.needs; needs = before }) 0 before flown
+  logged_restarted stop e logs all followed is_own even batches unread halting last is halts asks at l =
       let later : Backed = record back { stops = back.stops ++ stop ∷ []; ends = back.ends ++ record { kept = own; cause = stop.cause } ∷ [] } in
       let ended : Fronted → Incarnation = λ front. record (going_on front (length back.stops) (own_entries back) (own_flights back)) { stop = Some stop; kept = Some own } in
-      let keeps : discards stop.cause stop.read ≡ false = ap (discards stop.cause) unread ∙ keeps_all stop.cause halting in
+      let next : Marks = record { settled = before; late = Some marks.needs; needs = before } in
       record {
         ordered = order_halt back.taken back.stops stop e l.ordered last is halts;
         followed = end_push back.ends (record { kept = own; cause = stop.cause }) ∙ ap (λ cs. cs ++ stop.cause ∷ []) l.followed ∙ sym (causes_push back.stops stop);
@@ -277,7 +308,12 @@ module _ (tells later_tells : Type 0) (before_it : later_tells → tells) (back 
             let kept : length (take own (batches_in (own_entries back))) ≡ own = length-take-le own (batches_in (own_entries back)) (omega (arith, is_own)) in
             let counts : before ≡ length (kept_before (ended front ∷ older_of front back)) =
             omega (arith, g.known, g.counted, even, kept, length-append (kept_before (older_of front back)) (take own (batches_in (own_entries back)))) in
-            subst (IsPlaced (record marks { needs = before }) 0 before flown) (sym (at front)) record {
+            let whole : sum (own_flights back) ≡ own = omega (arith, g.counted, even) in
+            let all_durable : durable (ended front) ≡ own = whole_durable stop.read stop.batches own (sum (own_flights back)) batches whole in
+            let reach : reaches 0 0 (said_in (own_entries back)) ≤ own =
+            omega (arith, is_own, batches_said (own_entries back) 0, reach_within (said_in (own_entries back)) 0 0 (omega arith)) in
+            let known : flown ≡ length (kept_before (older_of front back)) + durable (ended front) = omega (arith, g.known, whole, all_durable) in
+            subst (IsPlaced next 0 before flown) (sym (at front)) record {
               counted = omega (arith, even);
               known = omega (arith, even, counts);
               reach = omega (arith, counts);
@@ -288,7 +324,14 @@ module _ (tells later_tells : Type 0) (before_it : later_tells → tells) (back 
                 stopped = refl;
                 within = omega (arith, batches, is_own);
                 kept = λ k so. omega (arith, same_count own k so, is_own);
-                discarded = λ yes. absurd (true_false (sym yes ∙ keeps));
+                lost = λ yes append. absurd (true_false (sym (discards_read stop.cause halting (ap (discards stop.cause) (sym unread) ∙ yes)) ∙ sym unread ∙ append));
+                asked = λ read. (e, own_last back e last is, asks read);
+                discarded = λ yes. (
+                  omega (arith, all_durable, is_own),
+                  omega (arith, even, known),
+                  sym (ap (λ (less : Bool). late_if less marks.needs) (le-ltb flown marks.needs (omega (arith, g.reach, reach, known, all_durable))))
+                      ∙ late_so (length (kept_before (older_of front back))) (durable (ended front)) (reaches 0 0 (said_in (own_entries back))) flown marks.needs known g.reach,
+                );
               };
             };
         keep = λ yes front. subst KeepBy (sym (ap (λ (p : Place). p.older) (at front))) (
@@ -345,6 +388,8 @@ module _ (tells later_tells : Type 0) (before_it : later_tells → tells) (back 
                 within = e.ended.within;
                 kept = λ k so. omega (arith, same_count kept k so, bounds.1);
                 discarded = λ yes. e.ended.discarded yes;
+                lost = λ yes append. e.ended.lost yes append;
+                asked = λ read. e.ended.asked read;
               };
             };
         keep = λ yes front.
@@ -389,7 +434,7 @@ module _ (tells later_tells : Type 0) (before_it : later_tells → tells) (back 
       (λ front. ap (λ (p : Place). p.older) (at front)) (ap (λ (p : Place). p.flights) (at front_none)) l
 
 -- a late batch that is confirmed is one more than was durable; nothing else changes what late messages need
-late_grows : (b : Body) (kept ended count q : ℕ) → ended < count
+late_grows : (b : Body) (kept ended count q : ℕ) → ended ≤ count
     → late_after b (late_if (nat_lt ended q) (kept + q)) ≡ late_if (nat_lt ended (reaches count q (b ∷ []))) (kept + reaches count q (b ∷ []))
 late_grows (body.Batch ops tail true) kept ended count q less = sym (ap (λ (b : Bool). late_if b (kept + (count + 1))) (lt-ltb ended (count + 1) (omega (arith, less))))
 late_grows (body.Batch ops tail false) kept ended count q less = refl
@@ -416,6 +461,8 @@ ended_late marks i older e h =
       stopped = h.stopped;
       within = omega (arith, h.within, more);
       kept = λ k is. omega (arith, h.kept k is, more);
+      lost = λ yes append. omega (arith, h.lost yes append, more);
+      asked = λ read. let a = h.asked read in (a.0, Contains-append_left i.taken (e ∷ []) a.0 a.1, a.2);
       discarded = λ yes. let d = h.discarded yes in (
         omega (arith, d.0, more),
         d.1,

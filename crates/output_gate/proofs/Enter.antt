@@ -11,8 +11,9 @@ use Rattle.timeline.specs.Logs.{Backed, backed}
 use Rattle.timeline.specs.declared.back_log.BackLog.{BackLog}
 use Rattle.timeline.specs.declared.entry.Entry.{Entry}
 use Rattle.timeline.specs.declared.notice.Notice.{Notice}
-use Rattle.output_gate.specs.Entering.{CanTake, TakesOwn, FailsOwn, CanTakeDown, TakesDown, TakesLate, TakesEntry, Enters, Failed, MayAsk, MayFail, LosesEntry, closed_with, logged_as, is_unfit, held_as, held_with, notice_as, notice_with, own_answer, own_held, late_by, mode_after, before_after, needs_after, identity_after}
+use Rattle.output_gate.specs.Entering.{CanTake, TakesOwn, FailsOwn, CanTakeDown, TakesDown, TakesLate, TakesEntry, Enters, Failed, MayAsk, MayFail, LosesEntry, logged_as, is_unfit, held_as, held_with, notice_as, notice_with, own_answer, own_held, late_by, mode_after, before_after, needs_after, identity_after}
 use Rattle.output_gate.specs.Fits.{comes_behind, last_of}
+use Rattle.output_gate.specs.Held.{has_failed_read}
 use Rattle.output_gate.specs.Serving.{IsMounted, IsUnmounted, IsBackAs, IsAsBefore}
 use Rattle.output_gate.specs.Storing.{ReadsDisk}
 use Rattle.output_gate.specs.Taking.{LogSame, LogRoom, may_take, is_mounted_mode, is_wanted, fit_of, most_unflushed}
@@ -52,7 +53,6 @@ unfit_enters old e is = record {
   identity = ap (λ (x : Fit). identity_after x old.identity e.body) (sym is);
   durable = refl;
   limit = refl;
-  closed = refl;
 }
 
 -- It is taken without a read, and told nothing of.
@@ -68,10 +68,10 @@ entered_unread told image old new e enters none = record {
 
 -- the log got room first
 pub before_room : {D : Type 0} (old new : Back D) (log : BackLog) → LogSame old.log log → IsAsBefore (record old { log = log }) new → IsAsBefore old new
-before_room old new log room h = record { log = h.log ∙ room.same; held = h.held; stuck = h.stuck; identity = h.identity; mode = h.mode; before = h.before; durable = h.durable; limit = h.limit; closed = h.closed }
+before_room old new log room h = record { log = h.log ∙ room.same; held = h.held; stuck = h.stuck; identity = h.identity; mode = h.mode; before = h.before; durable = h.durable; limit = h.limit }
 
 pub room_only : {D : Type 0} (old : Back D) (log : BackLog) → LogSame old.log log → IsAsBefore old (record old { log = log })
-room_only old log room = record { log = room.same; held = refl; stuck = refl; identity = refl; mode = refl; before = refl; durable = refl; limit = refl; closed = refl }
+room_only old log room = record { log = room.same; held = refl; stuck = refl; identity = refl; mode = refl; before = refl; durable = refl; limit = refl }
 
 -- Nothing was done of it.
 pub unentered : {D : Type 0} (old new : Back D) (e : Entry) (before after : List Entry) (sent_before sent : List Notice) → IsAsBefore old new → after ≡ before ++ e ∷ [] → sent ≡ sent_before
@@ -85,12 +85,25 @@ loses old new e before after sent_before sent failed enters took same =
     record { entry = e; took = took; told = same; log = logged_or_not (fit_of old e) (backed old.log) (backed new.log) e enters.log; entered = inr (failed, enters) }
 
 module _ {D : Type 0} (moment_of : D → ℕ) (left_since : D → ℕ → List ℕ → Type 0) (told : D → Option (List ℕ)) (image : D → List ℕ → Type 0) (faults_of : D → ℕ) where
+  -- it isn't stuck, no mounting is wanted, no end by a read that failed is held, and little is unflushed
+  abbrev Parts : Back D → Type 0
+  Parts old = (old.stuck ≡ false) × (is_wanted old.mode ≡ false) × (has_failed_read old.held.items ≡ false) × (old.unflushed < most_unflushed)
+
+  may_parts : (old : Back D) → may_take old ≡ true → Parts old
+  may_parts old may =
+      let stuck = not old.stuck in
+      let wanted = not (is_wanted old.mode) in
+      let failed = not (has_failed_read old.held.items) in
+      let three = and_both (stuck && wanted && failed) (nat_lt old.unflushed most_unflushed) may in
+      let two = and_both (stuck && wanted) failed three.0 in
+      let one = and_both stuck wanted two.0 in
+      (not_true old.stuck one.0, not_true (is_wanted old.mode) one.1, not_true (has_failed_read old.held.items) two.1, ltb-true old.unflushed most_unflushed three.1)
+
   pub few_of : (old : Back D) → may_take old ≡ true → old.unflushed < most_unflushed
-  few_of old may = ltb-true old.unflushed most_unflushed (and_both (not old.stuck && not (is_wanted old.mode)) (nat_lt old.unflushed most_unflushed) may).1
+  few_of old may = (may_parts old may).3
 
   pub free_of : (old : Back D) → may_take old ≡ true → old.stuck ≡ false
-  free_of old may =
-      not_true old.stuck (and_both (not old.stuck) (not (is_wanted old.mode)) (and_both (not old.stuck && not (is_wanted old.mode)) (nat_lt old.unflushed most_unflushed) may).0).0
+  free_of old may = (may_parts old may).0
 
   pub own_mounted : (start : List (List Op)) (opening : ℕ) (old : Back D) (log : BackLog) (e : Entry) → LogSame old.log log → fit_of old e ≡ fit.Own
       → IsBackAs moment_of left_since told image faults_of start opening true old → IsMounted moment_of left_since told image faults_of start opening true (record old { log = log })
@@ -108,7 +121,7 @@ module _ {D : Type 0} (moment_of : D → ℕ) (left_since : D → ℕ → List �
         room = room;
         comes = ap (λ (x : Backed). comes_behind (last_of x.taken) (record { incarnation = old.number; number = e.number; body = e.body })) same.same
             ∙ ap (λ (n : ℕ). comes_behind (last_of old.log.taken.items) (record { incarnation = n; number = e.number; body = e.body })) (sym f.own) ∙ f.comes;
-        goes_on = f.goes_on;
+        goes_on = (may_parts old may).2;
         fits = f.fits;
         few = few_of old may;
       }
@@ -125,10 +138,6 @@ module _ {D : Type 0} (moment_of : D → ℕ) (left_since : D → ℕ → List �
   may_so : (failed : Failed) (old : Back D) (e : Entry) → fit_of old e ≡ fit.Own → MayAsk failed e.body → MayFail failed old e
   may_so None old e is may = tt
   may_so (Some counts) old e is may = (is, may)
-
-  closed_so : (failed : Failed) (old : Back D) (log : BackLog) → closed_with failed (record old { log = log }) ≡ closed_with failed old
-  closed_so None old log = refl
-  closed_so (Some counts) old log = refl
 
   mounted_so : (mode : Mode) → is_mounted_mode mode ≡ true → mode ≡ Mounted
   mounted_so Mounted is = refl
@@ -157,7 +166,6 @@ module _ {D : Type 0} (moment_of : D → ℕ) (left_since : D → ℕ → List �
           identity = t.identity ∙ ap (λ (x : Fit). identity_after x old.identity e.body) (sym is);
           durable = t.durable;
           limit = t.limit;
-          closed = t.closed ∙ closed_so t.failed old log;
         };
         answers = λ disk at tells m has.
             let h = has (mounted_so old.mode f.mounted) in
@@ -181,8 +189,7 @@ module _ {D : Type 0} (moment_of : D → ℕ) (left_since : D → ℕ → List �
       → IsBackAs moment_of left_since told image faults_of start opening true old → CanTakeDown moment_of left_since told image faults_of (record old { log = log }) e.number e.body
   down_can start opening old log e same room may is b =
       let f = down_of old e is in
-      let wanted = not_true (is_wanted old.mode) (and_both (not old.stuck) (not (is_wanted old.mode)) (and_both (not old.stuck && not (is_wanted old.mode)) (nat_lt old.unflushed most_unflushed) may).0).1 in
-      let mode = down_mode old.mode f.unmounted wanted in
+      let mode = down_mode old.mode f.unmounted (may_parts old may).1 in
       record { start = start; opening = opening; back = down_unmounted start opening old log e same is b; room = room; fits = f.fits; ending = mode.0; down = mode.1 }
 
   pub down_enters : (old new : Back D) (log : BackLog) (e : Entry) → LogSame old.log log → may_take old ≡ true → fit_of old e ≡ fit.Down
@@ -202,7 +209,6 @@ module _ {D : Type 0} (moment_of : D → ℕ) (left_since : D → ℕ → List �
         identity = t.identity ∙ ap (λ (x : Fit). identity_after x old.identity e.body) (sym is);
         durable = t.durable;
         limit = t.limit;
-        closed = t.closed;
       }
 
   pub late_enters : (old new : Back D) (log : BackLog) (e : Entry) → LogSame old.log log → may_take old ≡ true → fit_of old e ≡ fit.Late
@@ -220,7 +226,6 @@ module _ {D : Type 0} (moment_of : D → ℕ) (left_since : D → ℕ → List �
     identity = ap (λ (b : Back D). b.identity) t.same ∙ ap (λ (x : Fit). identity_after x old.identity e.body) (sym is);
     durable = ap (λ (b : Back D). b.durable) t.same;
     limit = ap (λ (b : Back D). b.limit) t.same;
-    closed = ap (λ (b : Back D). b.closed) t.same;
   }
 
   pub late_back : (start : List (List Op)) (opening : ℕ) (old new : Back D) (log : BackLog) (e : Entry) → LogSame old.log log → fit_of old e ≡ fit.Late → TakesLate (record old { log = log }) new e
@@ -228,5 +233,5 @@ module _ {D : Type 0} (moment_of : D → ℕ) (left_since : D → ℕ → List �
   late_back start opening old new log e same is t b =
       let f = late_of old e is in
       back_late moment_of left_since told image faults_of start opening true (record old { log = log }) new e
-      (record { comes = ap (λ (x : Backed). comes_behind (last_of x.taken) e) same.same ∙ f.comes; goes_on = f.goes_on; before = f.before; fits = f.fits })
+      (record { comes = ap (λ (x : Backed). comes_behind (last_of x.taken) e) same.same ∙ f.comes; before = f.before; fits = f.fits })
       t (back_room moment_of left_since told image faults_of start opening old log same b)

@@ -1,5 +1,5 @@
 -- What each entry does to a back that serves, in one step.
-use Rattle.std.proofs.Common.{◌≡◌, ◌∙◌, ap, sym, refl, subst, inl, inr, ℕ, ◌+◌, ◌-◌, ◌<◌, List, [], ◌∷◌, ◌++◌, Option, Some, None, length, append-nil, Global}
+use Rattle.std.proofs.Common.{◌≡◌, ◌∙◌, ap, sym, refl, subst, inl, inr, ℕ, ◌+◌, ◌-◌, List, [], ◌∷◌, ◌++◌, Option, Some, None, length, append-nil, Global}
 use Rattle.std.specs.declared.collections.VecDeque.{VecDeque}
 use Rattle.std.specs.Prelude.{Bool, Result, Ok, Err, IfOk, OnOk, OnErr, unwrap_or, true, false, not, is_some}
 use Rattle.batch_journal.specs.Moments.{IsTold}
@@ -28,7 +28,7 @@ use Rattle.do_value.specs.declared.fault.NoMemory.{NoMemory}
 use Rattle.storage_map.specs.Ops.{batch_bytes}
 use Rattle.output_gate.proofs.Unmounting.{unmounted_held, unmounted_message, unmounted_mend}
 use Rattle.output_gate.specs.Fits.{is_halt, comes_behind, last_of}
-use Rattle.output_gate.specs.Held.{passed_by, is_held_halt, halts_well, unread_by, unread_in}
+use Rattle.output_gate.specs.Held.{passed_by, has_failed_read, is_held_halt, halts_well, unread_by, unread_in}
 use Rattle.output_gate.proofs.Endings.{needs_none}
 use Rattle.output_gate.proofs.Helds.{true_false}
 use Rattle.output_gate.specs.Passing.{IsSilent}
@@ -42,7 +42,7 @@ use Rattle.output_gate.specs.declared.held.HeldBody.{HeldBody}
 use Rattle.output_gate.specs.declared.held.HeldBody.TheVariants as held_body
 use Rattle.output_gate.proofs.Stored.{reads_of, still_disk, staged_disk}
 use Rattle.output_gate.proofs.Reading.{unread_push, unread_none}
-use Rattle.output_gate.proofs.Takings.{HoldsMore, free, mounted_silent, mounted_message, mounted_bind, mounted_batch, mounted_same, kept_fails, same_log}
+use Rattle.output_gate.proofs.Takings.{HoldsMore, mounted_silent, mounted_message, mounted_bind, mounted_batch, mounted_same, kept_fails, same_log}
 
 -- all that changed are the store, the cache and the room of the lists
 pub as_before : {D : Type 0} (old new : Back D) (store : Store D) (cache : Cached) (held : VecDeque Held Global) (log : BackLog)
@@ -56,7 +56,6 @@ as_before old new store cache held log is logs items = record {
   before = ap (λ (b : Back _). b.before) is;
   durable = ap (λ (b : Back _). b.durable) is;
   limit = ap (λ (b : Back _). b.limit) is;
-  closed = ap (λ (b : Back _). b.closed) is;
 }
 
 -- what the front is told of a batch
@@ -120,12 +119,11 @@ module _ {D : Type 0} (moment_of : D → ℕ) (left_since : D → ℕ → List �
   Answers old number b answer = (disk : D) → IsDiskOf old.store disk → IsTold (told disk) → (m : Contents) → StandsForMap told image m old → answer ≡ notice_of number m b
 
   -- nothing of a read that failed is held behind it
-  unread_behind : (start : List (List Op)) (opening : ℕ) (old : Back D) (held : List Held) (h : Held) (e : Entry) (m : IsMounted moment_of left_since told image faults_of start opening true old)
-      → e.incarnation ≡ old.number → comes_behind (last_of old.log.taken.items) e ≡ true → old.closed < old.number → held ≡ old.held.items ++ h ∷ [] → unread_by h.body ≡ [] → unread_in held ≡ []
-  unread_behind start opening old held h e m own comes on items none =
-      ap unread_in items ∙ unread_push old.held.items h ∙ ap (λ cs. cs ++ unread_by h.body) (unread_none old.held.items (free told image true m.journal old m.safe e own comes on)) ∙ none
+  unread_behind : (old : Back D) (held : List Held) (h : Held) → has_failed_read old.held.items ≡ false → held ≡ old.held.items ++ h ∷ [] → unread_by h.body ≡ [] → unread_in held ≡ []
+  unread_behind old held h on items none =
+      ap unread_in items ∙ unread_push old.held.items h ∙ ap (λ cs. cs ++ unread_by h.body) (unread_none old.held.items on) ∙ none
 
-  pub took_silent : (old mid new : Back D) (number : ℕ) (b : Body) (h : HeldBody) → comes_behind (last_of old.log.taken.items) (entry_of old number b) ≡ true → old.closed < old.number
+  pub took_silent : (old mid new : Back D) (number : ℕ) (b : Body) (h : HeldBody) → comes_behind (last_of old.log.taken.items) (entry_of old number b) ≡ true → has_failed_read old.held.items ≡ false
       → Answers old number b None → unread_by h ≡ []
       → is_mend b ≡ false → IsSilent b → batches_of (said_by b) ≡ [] → ((n s : ℕ) → passed_by h n s ≡ []) → (is_held_halt h ≡ true → halts_well h ≡ true) → is_held_halt h ≡ is_halt b
       → mid.held.items ≡ old.held.items ++ held_now old h ∷ [] → mid ≡ record old { held = mid.held } → LogTook mid.log new.log (entry_of mid number b) → new ≡ record mid { log = new.log }
@@ -148,15 +146,14 @@ module _ {D : Type 0} (moment_of : D → ℕ) (left_since : D → ℕ → List �
         needs = ap (λ (x : Back D). x.needs) same ∙ sym (needs_none b old.before old.needs nothing);
         durable = ap (λ (x : Back D). x.durable) same;
         limit = ap (λ (x : Back D). x.limit) same;
-        closed = ap (λ (x : Back D). x.closed) same;
         disk = reads_of told old.store new.store (still_disk old.store new.store (ap (λ (x : Back D). x.store) same));
         back = λ start opening m. subst (IsMounted moment_of left_since told image faults_of start opening true) (sym same)
             (mounted_silent moment_of left_since told image faults_of start opening true old new.log new.held (entry_of old number b) m took refl comes on other silent nothing
             (HoldsMore.one_more (held_now old h) held (sym (says old.before old.number)) (λ yes. (refl, well yes)) halts)
-            (unread_behind start opening old new.held.items (held_now old h) (entry_of old number b) m refl comes on held unread));
+            (unread_behind old new.held.items (held_now old h) on held unread));
       }
 
-  pub took_message : (old mid new : Back D) (number : ℕ) (sent copy : Message) → copy ≡ sent → comes_behind (last_of old.log.taken.items) (entry_of old number (body.Message sent)) ≡ true → old.closed < old.number
+  pub took_message : (old mid new : Back D) (number : ℕ) (sent copy : Message) → copy ≡ sent → comes_behind (last_of old.log.taken.items) (entry_of old number (body.Message sent)) ≡ true → has_failed_read old.held.items ≡ false
       → mid.held.items ≡ old.held.items ++ message_now old copy ∷ [] → mid ≡ record old { held = mid.held } → LogTook mid.log new.log (entry_of mid number (body.Message sent)) → new ≡ record mid { log = new.log }
       → TakesOwn moment_of left_since told image faults_of old new number (body.Message sent) None
   took_message old mid new number sent copy equal comes on items first log then =
@@ -178,11 +175,10 @@ module _ {D : Type 0} (moment_of : D → ℕ) (left_since : D → ℕ → List �
         needs = ap (λ (x : Back D). x.needs) same;
         durable = ap (λ (x : Back D). x.durable) same;
         limit = ap (λ (x : Back D). x.limit) same;
-        closed = ap (λ (x : Back D). x.closed) same;
         disk = reads_of told old.store new.store (still_disk old.store new.store (ap (λ (x : Back D). x.store) same));
         back = λ start opening m. subst (IsMounted moment_of left_since told image faults_of start opening true) (sym same)
             (mounted_message moment_of left_since told image faults_of start opening true old new.log new.held (entry_of old number (body.Message sent)) sent m took refl comes on refl
-            (unread_behind start opening old new.held.items (message_now old sent) (entry_of old number (body.Message sent)) m refl comes on held refl)
+            (unread_behind old new.held.items (message_now old sent) on held refl)
             (HoldsMore.one_more (message_now old sent) held refl (λ yes. absurd (true_false (sym yes))) refl));
       }
 
@@ -190,7 +186,7 @@ module _ {D : Type 0} (moment_of : D → ℕ) (left_since : D → ℕ → List �
   is_nobody None is = refl
   is_nobody (Some object) is = absurd (true_false (sym is))
 
-  pub took_bind : (old new : Back D) (number : ℕ) (object copy : Object) → copy ≡ object → comes_behind (last_of old.log.taken.items) (entry_of old number (body.Bind object)) ≡ true → old.closed < old.number
+  pub took_bind : (old new : Back D) (number : ℕ) (object copy : Object) → copy ≡ object → comes_behind (last_of old.log.taken.items) (entry_of old number (body.Bind object)) ≡ true → has_failed_read old.held.items ≡ false
       → not (is_some old.identity) ≡ true → LogTook old.log new.log (entry_of old number (body.Bind object)) → new ≡ record old { identity = Some copy; log = new.log }
       → TakesOwn moment_of left_since told image faults_of old new number (body.Bind object) None
   took_bind old new number object copy equal comes on known took same = record {
@@ -207,7 +203,6 @@ module _ {D : Type 0} (moment_of : D → ℕ) (left_since : D → ℕ → List �
     needs = ap (λ (x : Back D). x.needs) same;
     durable = ap (λ (x : Back D). x.durable) same;
     limit = ap (λ (x : Back D). x.limit) same;
-    closed = ap (λ (x : Back D). x.closed) same;
     disk = reads_of told old.store new.store (still_disk old.store new.store (ap (λ (x : Back D). x.store) same));
     back = λ start opening m. subst (IsMounted moment_of left_since told image faults_of start opening true) (ap (λ o. record old { identity = Some o; log = new.log }) (sym equal) ∙ sym same)
         (mounted_bind moment_of left_since told image faults_of start opening true old new.log number object m took (is_nobody old.identity known) comes on);
@@ -233,7 +228,7 @@ module _ {D : Type 0} (moment_of : D → ℕ) (left_since : D → ℕ → List �
   }
 
   pub took_batch : {A : Type 0} (old mid add : Back D) (number : ℕ) (ops : List Op) (tail : Option ℕ) (confirmed : Bool) (size needs : ℕ) (object : Object) (x : A) (answer : Option Notice) → old.identity ≡ Some object
-      → (journal : Journal D) → old.store ≡ store.Journal journal → comes_behind (last_of old.log.taken.items) (entry_of old number (body.Batch ops tail confirmed)) ≡ true → old.closed < old.number
+      → (journal : Journal D) → old.store ≡ store.Journal journal → comes_behind (last_of old.log.taken.items) (entry_of old number (body.Batch ops tail confirmed)) ≡ true → has_failed_read old.held.items ≡ false
       → Answers old number (body.Batch ops tail confirmed) answer → size ≡ length (batch_bytes ops) → needs ≡ follows old.before old.needs confirmed
       → ((journal : Journal D) → old.store ≡ store.Journal journal → Stages told image journal mid.store object ops (Ok x))
       → ((journal : Journal D) → old.store ≡ store.Journal journal → StagesOps told image journal old.cache mid.cache object ops (Ok x))
@@ -263,7 +258,6 @@ module _ {D : Type 0} (moment_of : D → ℕ) (left_since : D → ℕ → List �
         needs = is_needs;
         durable = ap (λ (x : Back D). x.durable) same;
         limit = ap (λ (x : Back D). x.limit) same;
-        closed = ap (λ (x : Back D). x.closed) same;
         disk = let st = stages journal at in reads_of told old.store add.store (staged_disk old.store add.store journal st.new at (ap (λ (x : Back D). x.store) then ∙ st.is) st.disk st.limit st.end);
         back = λ start opening m.
             let st = stages m.journal m.safe.store in
@@ -322,7 +316,6 @@ module _ {D : Type 0} (moment_of : D → ℕ) (left_since : D → ℕ → List �
         needs = ap (λ (x : Back D). x.needs) same;
         durable = ap (λ (x : Back D). x.durable) same;
         limit = ap (λ (x : Back D). x.limit) same;
-        closed = ap (λ (x : Back D). x.closed) same;
         disk = still_disk old.store new.store (ap (λ (x : Back D). x.store) same);
         back = λ start opening u. subst (IsUnmounted moment_of left_since told image faults_of start opening)
             (ap (λ (e : Ending). record old { mode = Wanted e; log = new.log }) (same_ending u.ending ending old.mode u.safe.mode down) ∙ sym same)
@@ -347,7 +340,6 @@ module _ {D : Type 0} (moment_of : D → ℕ) (left_since : D → ℕ → List �
         needs = ap (λ (x : Back D). x.needs) same;
         durable = ap (λ (x : Back D). x.durable) same;
         limit = ap (λ (x : Back D). x.limit) same;
-        closed = ap (λ (x : Back D). x.closed) same;
         disk = still_disk old.store new.store (ap (λ (x : Back D). x.store) same);
         back = λ start opening u. subst (IsUnmounted moment_of left_since told image faults_of start opening) (sym same)
             (unmounted_message moment_of left_since told image faults_of start opening old new.log new.held (entry_of old number (body.Message sent)) sent u took refl refl

@@ -1,5 +1,5 @@
 -- Where a mounting behind an end finds the end of the journal.
-use Rattle.std.proofs.Common.{◌≡◌, ◌∙◌, ap, sym, subst, inl, inr, ⊎_elim, ℕ, ◌+◌, ◌≤◌, List, [], ◌∷◌, ◌++◌, length, sum, arith, Option, Some}
+use Rattle.std.proofs.Common.{◌≡◌, ◌∙◌, ap, sym, subst, inl, inr, ⊎_elim, ℕ, ◌+◌, ◌≤◌, List, length, sum, arith, Option, Some}
 use Rattle.std.specs.Prelude.{Bool, false, if◌then◌else◌}
 use Rattle.batch_journal.proofs.Journals.{last_some, length-journal_push}
 use Rattle.batch_journal.specs.Frames.{Frame, holds, AllMayStand, journal_bytes}

@@ -1,6 +1,6 @@
 -- What it says of an entry that it fits.
 use Rattle.std.proofs.Common.{◌≡◌, ◌∙◌, ap, sym, refl, subst, inl, inr, ⊎_elim, ℕ, ◌<◌, List, arith, Option}
-use Rattle.std.proofs.lemmas.Bool.{eq-eqb, eqb-true, ltb-false, ltb-true}
+use Rattle.std.proofs.lemmas.Bool.{eq-eqb, eqb-true, ltb-false}
 use Rattle.std.proofs.lemmas.Bool.Decides.{leb_tells}
 use Rattle.std.specs.Prelude.{Bool, true, false, not, ◌&&◌, ◌==◌, nat_lt, is_some}
 use Rattle.storage_map.specs.declared.op.Op.{Op}
@@ -56,16 +56,13 @@ so_down false mounted known b o m is = absurd (true_false (sym o))
 -- an entry of the newest incarnation, which is mounted
 pub record OwnFit {D : Type 0} (back : Back D) (e : Entry) : Type 0 where
   pub comes : comes_behind (last_of back.log.taken.items) e ≡ true
-  pub goes_on : back.closed < back.number
   pub own : e.incarnation ≡ back.number
   pub mounted : is_mounted_mode back.mode ≡ true
   pub fits : fits_mounted e.body (is_some back.identity) ≡ true
 
 pub own_of : {D : Type 0} (back : Back D) (e : Entry) → fit_of back e ≡ fit.Own → OwnFit back e
 own_of back e is =
-    let comes : Bool = comes_behind (last_of back.log.taken.items) e in
-    let on : Bool = nat_lt back.closed e.incarnation in
-    let behind : Bool = comes && on in
+    let behind : Bool = comes_behind (last_of back.log.taken.items) e in
     let within : Bool = not (nat_lt back.number e.incarnation) in
     let own : Bool = e.incarnation == back.number in
     let mounted : Bool = is_mounted_mode back.mode in
@@ -73,8 +70,7 @@ own_of back e is =
     let all = as_own (behind && within && fits) own mounted is in
     let two = and_both (behind && within) fits all.0 in
     record {
-      comes = (and_both comes on (and_both behind within two.0).0).0;
-      goes_on = omega (arith, ltb-true back.closed e.incarnation (and_both comes on (and_both behind within two.0).0).1, eqb-true e.incarnation back.number all.1);
+      comes = (and_both behind within two.0).0;
       own = eqb-true e.incarnation back.number all.1;
       mounted = all.2;
       fits = so_mounted own mounted (is_some back.identity) e.body all.1 all.2 two.1;
@@ -88,9 +84,7 @@ pub record DownFit {D : Type 0} (back : Back D) (e : Entry) : Type 0 where
 
 pub down_of : {D : Type 0} (back : Back D) (e : Entry) → fit_of back e ≡ fit.Down → DownFit back e
 down_of back e is =
-    let comes : Bool = comes_behind (last_of back.log.taken.items) e in
-    let on : Bool = nat_lt back.closed e.incarnation in
-    let behind : Bool = comes && on in
+    let behind : Bool = comes_behind (last_of back.log.taken.items) e in
     let within : Bool = not (nat_lt back.number e.incarnation) in
     let own : Bool = e.incarnation == back.number in
     let mounted : Bool = is_mounted_mode back.mode in
@@ -143,15 +137,12 @@ no false is = refl
 -- an entry of an incarnation that has ended
 pub record LateFit {D : Type 0} (back : Back D) (e : Entry) : Type 0 where
   pub comes : comes_behind (last_of back.log.taken.items) e ≡ true
-  pub goes_on : back.closed < e.incarnation
   pub before : e.incarnation < back.number
   pub fits : fits_mounted e.body (is_some back.identity) ≡ true
 
 pub late_of : {D : Type 0} (back : Back D) (e : Entry) → fit_of back e ≡ fit.Late → LateFit back e
 late_of back e is =
-    let comes : Bool = comes_behind (last_of back.log.taken.items) e in
-    let on : Bool = nat_lt back.closed e.incarnation in
-    let behind : Bool = comes && on in
+    let behind : Bool = comes_behind (last_of back.log.taken.items) e in
     let within : Bool = not (nat_lt back.number e.incarnation) in
     let own : Bool = e.incarnation == back.number in
     let mounted : Bool = is_mounted_mode back.mode in
@@ -160,8 +151,7 @@ late_of back e is =
     let two = and_both (behind && within) fits all.0 in
     let one = and_both behind within two.0 in
     record {
-      comes = (and_both comes on one.0).0;
-      goes_on = ltb-true back.closed e.incarnation (and_both comes on one.0).1;
+      comes = one.0;
       before = below e.incarnation back.number all.1 (no (nat_lt back.number e.incarnation) one.1);
       fits = so_late own mounted (is_some back.identity) e.body all.1 two.1;
     }

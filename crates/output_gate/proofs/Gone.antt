@@ -14,7 +14,7 @@ use Rattle.timeline.specs.declared.notice.Notice.{Notice}
 use Rattle.timeline.specs.declared.notice.Stepped.{Stepped}
 use Rattle.timeline.specs.declared.notice.Stepped.TheVariants.{Did, Nothing}
 use Rattle.output_gate.specs.Held.{passed_by, passed_of, is_held_halt, is_read, has_halt}
-use Rattle.output_gate.specs.Releasing.{may_release, release_at, released_log, needs_released, released_notices, released_messages, IsIdleRelease, Releases, Stays, StaysPut, Goes, LogReleases, LogHalts}
+use Rattle.output_gate.specs.Releasing.{late_released, settled_released, may_release, release_at, released_log, needs_released, released_notices, released_messages, IsIdleRelease, Releases, Stays, StaysPut, Goes, LogReleases, LogHalts}
 use Rattle.output_gate.specs.Serving.{IsMounted, IsUnmounted, IsBackAs}
 use Rattle.output_gate.specs.Storing.{IsDiskOf, KeepsDisk}
 use Rattle.output_gate.specs.Taking.{LogSame}
@@ -66,17 +66,17 @@ module _ {D : Type 0} (moment_of : D → ℕ) (left_since : D → ℕ → List �
   pub stays_put : (old : Back D) (log : BackLog) (s0 s : List Notice) (o0 o : List Sent) → LogSame old.log log → s ≡ s0 → o ≡ o0
       → StaysPut moment_of left_since told image faults_of old (record old { log = log }) s0 s o0 o
   stays_put old log s0 s o0 o same told_so left_so = record {
-    stays = record { told = told_so; left = left_so; log = same.same; held = refl; store = refl; identity = refl; stuck = refl; mode = refl; before = refl; durable = refl; limit = refl; closed = refl };
+    stays = record { told = told_so; left = left_so; log = same.same; held = refl; store = refl; identity = refl; stuck = refl; mode = refl; before = refl; durable = refl; limit = refl };
     back = λ start opening b. back_stopped moment_of left_since told image faults_of start opening (record old { log = log }) (back_room moment_of left_since told image faults_of start opening old log same b);
   }
 
   -- a back of which what is held, the log and the newest incarnation changed
-  releases_as : (old : Back D) (held : VecDeque Held Global) (log : BackLog) (own needs number : ℕ) (first : Held) (b : HeldBody) → old.held.items ≡ first ∷ held.items → first.body ≡ b
-      → needs ≡ needs_released old b
+  releases_as : (old : Back D) (held : VecDeque Held Global) (log : BackLog) (own needs settled number : ℕ) (late : Option ℕ) (first : Held) (b : HeldBody) → old.held.items ≡ first ∷ held.items
+      → first.body ≡ b → needs ≡ needs_released old b → settled ≡ settled_released old b → late ≡ late_released old b
       → (s0 s : List Notice) (o0 o : List Sent) → s ≡ s0 ++ released_notices old b → o ≡ o0 ++ released_messages b
       → ((disk : D) → IsDiskOf old.store disk → backed log ≡ released_log old (moment_of disk) first b)
-      → Releases moment_of old (record old { held = held; log = log; own = own; needs = needs; number = number }) s0 s o0 o
-  releases_as old held log own needs number first b items body reach s0 s o0 o told_so left_so logged = record {
+      → Releases moment_of old (record old { held = held; log = log; own = own; needs = needs; settled = settled; late = late; number = number }) s0 s o0 o
+  releases_as old held log own needs settled number late first b items body reach even still s0 s o0 o told_so left_so logged = record {
     first = first;
     rest = held.items;
     held = items;
@@ -93,9 +93,9 @@ module _ {D : Type 0} (moment_of : D → ℕ) (left_since : D → ℕ → List �
     needs = reach ∙ ap (needs_released old) (sym body);
     durable = refl;
     limit = refl;
-    settled = refl;
+    settled = even ∙ ap (settled_released old) (sym body);
+    late = still ∙ ap (late_released old) (sym body);
     unflushed = refl;
-    closed = refl;
   }
 
   disk_at : (start : List (List Op)) (opening : ℕ) (old : Back D) (m : IsMounted moment_of left_since told image faults_of start opening true old) → IsDiskOf old.store (disk_in m.journal)
@@ -121,7 +121,7 @@ module _ {D : Type 0} (moment_of : D → ℕ) (left_since : D → ℕ → List �
       let one : ℕ → Release = λ t. record { message = sent; needs = first.needs; moment = t } in
       let passes : passed_of first ≡ record { message = sent; needs = first.needs; since = first.since } ∷ [] = ap (λ (b : HeldBody). passed_by b first.needs first.since) body in
       record {
-        releases = releases_as old held log old.own old.needs old.number first (Message sent) items body refl s s o0 o (sym (append-nil s)) left_so
+        releases = releases_as old held log old.own old.needs old.settled old.number old.late first (Message sent) items body refl refl refl s s o0 o (sym (append-nil s)) left_so
             (λ disk where_is. done.log ∙ ap (λ (x : Backed). record x { released = x.released ++ one moment ∷ [] }) same.same
             ∙ ap (λ (t : ℕ). record (backed old.log) { released = old.log.released.items ++ one t ∷ [] }) (at disk where_is));
         back = λ start opening b. back_release start opening (record old { log = mid }) log held first (ap is_held_halt body) items ready
@@ -137,7 +137,7 @@ module _ {D : Type 0} (moment_of : D → ℕ) (left_since : D → ℕ → List �
   sync_goes old held first number items body ready s0 s o told_so =
       let none : passed_of first ≡ [] = ap (λ (b : HeldBody). passed_by b first.needs first.since) body in
       record {
-        releases = releases_as old held old.log old.own old.needs old.number first (Sync number) items body refl s0 s o o told_so (sym (append-nil o)) (λ disk where_is. refl);
+        releases = releases_as old held old.log old.own old.needs old.settled old.number old.late first (Sync number) items body refl refl refl s0 s o o told_so (sym (append-nil o)) (λ disk where_is. refl);
         back = λ start opening b. back_release start opening old old.log held first (ap is_held_halt body) items ready
             (λ disk where_is. ap (λ rs. record (backed old.log) { released = rs }) (sym (append-nil old.log.released.items))
             ∙ ap (λ ps. record (backed old.log) { released = old.log.released.items ++ map (release_at (moment_of disk)) ps }) (sym none)) refl refl b;
@@ -156,7 +156,7 @@ module _ {D : Type 0} (moment_of : D → ℕ) (left_since : D → ℕ → List �
       → (s0 s : List Notice) (o : List Sent) → s ≡ s0 ++ released_notices old (Halt c)
       → Goes moment_of left_since told image faults_of old (restarted old log held) s0 s o o
   halt_goes old mid log held first c same items body ready done s0 s o told_so = record {
-    releases = releases_as old held log 0 old.before (old.number + 1) first (Halt c) items body refl s0 s o o told_so (sym (append-nil o))
+    releases = releases_as old held log 0 old.before old.before (old.number + 1) (Some old.needs) first (Halt c) items body refl refl refl s0 s o o told_so (sym (append-nil o))
         (λ disk where_is. done ∙ ap (λ (x : Backed). record x {
           stops = x.stops ++ record { cause = c; flights = length x.flights; batches = old.own; read = is_read c } ∷ [];
           ends = x.ends ++ record { kept = old.own; cause = c } ∷ [];

@@ -19,7 +19,7 @@ use Rattle.storage_map.specs.Contents.{nothing, apply}
 use Rattle.batch_journal.specs.Places.{IsPlaceIn, Indexes}
 use Rattle.object_storage.specs.Stored.{HasStored}
 use Rattle.object_storage.proofs.Going.{mounted as stored_mounted}
-use Rattle.output_gate.proofs.Reading.{reading_begun, shut_stays}
+use Rattle.output_gate.proofs.Reading.{failed_none, reading_none, unread_none}
 use Rattle.storage_map.specs.Limits.{Object}
 use Rattle.storage_map.specs.declared.op.Op.{Op}
 use Rattle.timeline.specs.History.{Incarnation, History, incarnations, batches_in as batches_taken}
@@ -39,7 +39,7 @@ use Rattle.output_gate.specs.Gate.{Place, place_of, IsGate}
 use Rattle.output_gate.specs.Held.{waiting_in}
 use Rattle.output_gate.specs.Kept.{NameOnly}
 use Rattle.output_gate.specs.Mending.{Begins, Misses, is_own_object, kept_at}
-use Rattle.output_gate.specs.Serving.{HasRoom, IsEnded, IsMounted, IsSafe, IsSafeEnded, IsServing, IsShut, IsUnmounted, marks_of}
+use Rattle.output_gate.specs.Serving.{HasRoom, IsEnded, IsMounted, IsSafe, IsSafeEnded, IsServing, IsUnmounted, marks_of}
 use Rattle.output_gate.specs.Standing.{AreLogs, own_entries, own_flights, going_on}
 use Rattle.output_gate.specs.declared.back.Back.{Back}
 use Rattle.output_gate.specs.declared.back.Ending.{Ending}
@@ -224,9 +224,9 @@ module _ {D : Type 0} (moment_of : D → ℕ) (left_since : D → ℕ → List �
       → LeavesOnly moment_of left_since disk (disk_in mounted.journal) (ImageOrSame (told disk) (image disk))
       → TellsAsBefore (told disk) (told (disk_in mounted.journal)) → IsLoggedDown (IsTold (told disk)) (backed old.log) ending (marks_of old) old.durable
       → AreCounted (IsTold (told disk)) (backed old.log) (faults_of disk) → faults_of disk ≤ faults_of (disk_in mounted.journal)
-      → Begins old new ending mounted.journal (of_index mounted.index) → IsShut old
+      → Begins old new ending mounted.journal (of_index mounted.index)
       → IsMounted moment_of left_since told image faults_of start opening true new
-  mounted_begun disk ending old new mounted safe s wanted is own staged leaves telling l counted up done shut =
+  mounted_begun disk ending old new mounted safe s wanted is own staged leaves telling l counted up done =
       let kept : ℕ = kept_at ending mounted.journal.end in
       let now : ℕ = old.durable + (kept - ending.flown) in
       let within : now ≤ old.durable + (ending.whole - ending.flown) = omega (arith, kept_most ending (not (mounted.journal.end == ending.end)) safe.more) in
@@ -245,8 +245,8 @@ module _ {D : Type 0} (moment_of : D → ℕ) (left_since : D → ℕ → List �
             (λ yes. let t = before_it yes in (one, begun_full disk ending old (s t) mounted is t.0 t.1)) safe.more refl (sym safe.own ∙ safe.none) l);
         counts = counts_same (IsTold (told disk)) (IsTold (told (disk_in mounted.journal))) (told_before (told disk) (told (disk_in mounted.journal)) telling) (backed old.log)
             (faults_of disk) (faults_of (disk_in mounted.journal)) counted (backed new.log) (ap (λ (b : Backed). b.stops) done.log) (ap (λ (b : Backed). b.downs) done.log) up;
-        reads = reading_begun (IsTold (told (disk_in mounted.journal))) (faults_of (disk_in mounted.journal)) old (begun old new.log mounted.journal (of_index mounted.index) now) shut safe.halts
-            (ap (λ (b : Backed). b.stops) done.log) refl refl;
+        reads = reading_none (IsTold (told (disk_in mounted.journal))) (faults_of (disk_in mounted.journal)) (begun old new.log mounted.journal (of_index mounted.index) now)
+            (unread_none old.held.items (failed_none old.held.items safe.halts));
       } in
       subst (IsMounted moment_of left_since told image faults_of start opening true) (sym done.same) made
 
@@ -258,9 +258,9 @@ module _ {D : Type 0} (moment_of : D → ℕ) (left_since : D → ℕ → List �
       → ((c : List ℕ) → image left c → ImageOrSame (told disk) (image disk) c)
       → IsLoggedDown (IsTold (told disk)) (backed old.log) ending (marks_of old) old.durable
       → AreCounted (IsTold (told disk)) (backed old.log) (faults_of disk) → before ≡ faults_of disk → after ≡ faults_of left → (IsTold (told left) → HasRisen (faults_of disk) (faults_of left))
-      → Misses old new ending left before after → IsShut old
+      → Misses old new ending left before after
       → IsUnmounted moment_of left_since told image faults_of start opening new
-  unmounted_missed disk left ending old new before after safe s leaves telling images l counted from into rises done shut =
+  unmounted_missed disk left ending old new before after safe s leaves telling images l counted from into rises done =
       let log : backed new.log ≡ record (backed old.log) { downs = old.log.downs.items ++ record { incarnation = old.number; before = before; after = after } ∷ [] } = done.log in
       let made : IsUnmounted moment_of left_since told image faults_of start opening (record old { store = store.Disk left; mode = Down ending; log = new.log }) = record {
         disk = left;
@@ -317,6 +317,5 @@ module _ {D : Type 0} (moment_of : D → ℕ) (left_since : D → ℕ → List �
             (record { incarnation = old.number; before = before; after = after }) (ap (λ (b : Backed). b.stops) log) (ap (λ (b : Backed). b.downs) log) safe.number
             (λ none. absurd (omega (arith, safe.gone, ap (λ (ss : List Stop). length ss) none))) (omega (arith, from)) (omega (arith, into))
             (λ yes. subst (λ (x : ℕ × ℕ). HasRisen x.0 x.1) (ap (λ (n : ℕ). (n, faults_of left)) (sym from) ∙ ap (λ (n : ℕ). (before, n)) (sym into)) (rises yes));
-        shut = shut_stays old (record old { store = store.Disk left; mode = Down ending; log = new.log }) (ap (λ (b : Backed). b.stops) log) refl refl shut;
       } in
       subst (IsUnmounted moment_of left_since told image faults_of start opening) (sym done.same) made

@@ -77,7 +77,7 @@ module _ {D : Type 0} (moment_of : D → ℕ) (left_since : D → ℕ → List �
     serves = λ tells. serves_noted sound m.journal b s (m.serves tells);
     logged = m.logged;
     counts = m.counts;
-    reads = record { unread = λ counts is. let u = m.reads.unread counts is in record { closed = u.closed; rising = u.rising; rose = u.rose }; closed = m.reads.closed; here = m.reads.here; behind = m.reads.behind };
+    reads = λ counts is. let u = m.reads counts is in record { rising = u.rising; rose = u.rose };
   }
 
   safe_ended_noted : (disk : D) (ending : Ending) (b : Back D) (s : Bool) → IsSafeEnded disk ending b → IsSafeEnded disk ending (noted b s)
@@ -132,7 +132,6 @@ module _ {D : Type 0} (moment_of : D → ℕ) (left_since : D → ℕ → List �
     ended = λ tells. ended_noted u.disk u.ending b s (u.ended tells);
     logged = u.logged;
     counts = u.counts;
-    shut = record { closed = u.shut.closed; appended = u.shut.appended };
   }
 
   pub back_noted : (sound : Bool) (b : Back D) (s : Bool) → IsBackAs moment_of left_since told image faults_of start opening sound b
@@ -172,7 +171,7 @@ keeps_note moment_of left_since told image faults_of start opening old new same 
 
 -- What was done or wasn't, with the note.
 pub before_noted : {D : Type 0} (old mid : Back D) (s : Bool) → IsAsBefore old mid → IsAsBefore old (noted mid s)
-before_noted old mid s h = record { log = h.log; held = h.held; stuck = h.stuck; identity = h.identity; mode = h.mode; before = h.before; durable = h.durable; limit = h.limit; closed = h.closed }
+before_noted old mid s h = record { log = h.log; held = h.held; stuck = h.stuck; identity = h.identity; mode = h.mode; before = h.before; durable = h.durable; limit = h.limit }
 
 entered_noted : {D : Type 0} (old mid : Back D) (e : Entry) (s : Bool) → IsAsBefore old mid ⊎ ((failed : Failed) × Enters failed old mid e)
     → IsAsBefore old (noted mid s) ⊎ ((failed : Failed) × Enters failed old (noted mid s) e)
@@ -190,7 +189,6 @@ entered_noted old mid e s (inr (failed, h)) = inr (
     needs = h.needs;
     durable = h.durable;
     limit = h.limit;
-    closed = h.closed;
   },
 )
 
@@ -212,7 +210,6 @@ takes_noted told image old mid got0 got sent0 sent s t = record {
     identity = t.enters.identity;
     durable = t.enters.durable;
     limit = t.enters.limit;
-    closed = t.enters.closed;
   };
   answer = t.answer;
   sends = t.sends;

@@ -86,7 +86,6 @@ module _ {D : Type 0} (moment_of : D → ℕ) (left_since : D → ℕ → List �
 abbrev pub fresh : {D : Type 0} → Global → Mounted D → (limit : ℕ) → Cached → VecDeque Held Global → BackLog → Back D
 fresh alloc mounted limit cache held log = record {
   alloc = alloc;
-  closed = 0;
   store = store.Journal mounted.journal;
   limit = limit;
   cache = cache;

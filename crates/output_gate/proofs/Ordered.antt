@@ -1,10 +1,10 @@
 -- Entries come in order.
-use Rattle.std.proofs.Common.{◌≡◌, ◌∙◌, ap, sym, refl, inl, inr, ⊎_elim, ℕ, suc, ◌<◌, ◌≤◌, List, [], ◌∷◌, ◌++◌, length, arith, Option, Some, None}
+use Rattle.std.proofs.Common.{◌≡◌, ◌∙◌, ap, sym, refl, ⊎_elim, ℕ, suc, ◌<◌, ◌≤◌, List, [], ◌∷◌, ◌++◌, length, arith, Option, Some, None}
 use Rattle.std.proofs.lemmas.Bool.{eq-eqb, eqb-true, ltb-true}
 use Rattle.std.proofs.lemmas.Bool.Decides.{leb_tells}
 use Rattle.std.proofs.lemmas.List.{length_push}
 use Rattle.std.proofs.lemmas.List.Elements.{All-nil, All-push}
-use Rattle.std.specs.Prelude.{◌⊎◌, Bool, true, false, not, nat_lt, ◌==◌, slice_get, if◌then◌else◌}
+use Rattle.std.specs.Prelude.{Bool, true, false, not, nat_lt, ◌==◌, slice_get, if◌then◌else◌}
 use Rattle.std.specs.List.{All}
 use Rattle.timeline.specs.History.{batches_in, entries_of}
 use Rattle.timeline.specs.Passed.{discards}
@@ -85,15 +85,14 @@ discards_if stop true is not_false = is
 discards_if stop false is not_false = absurd (not_false refl)
 
 pub is_late : (taken : List Entry) (stops : List Stop) (e : Entry) → AreInOrder taken stops → comes_behind (last_of taken) e ≡ true → e.incarnation ≤ length stops
-    → ((stop : Stop) → last_stop stops ≡ Some stop → stop.read ≡ true → length stops < e.incarnation) → IsLate taken stops e
-is_late taken stops e o comes within unread =
+    → IsLate taken stops e
+is_late taken stops e o comes within =
     let behind = comes_after (last_of taken) e comes in record {
       numbered = comes_numbered (last_of taken) e o.numbered comes;
       own = omega (arith, o.newest, behind, within);
       newest = behind;
       discards_some = λ stop is. discards_if stop (discards stop.cause stop.read) refl
-          (λ keeps. ⊎_elim (λ halts. no_last_halt (last_of taken) e halts (omega (arith, o.newest, behind, within)) comes)
-          (λ read. absurd (omega (arith, unread stop is read, within))) (o.halted stop is keeps (omega (arith, o.newest, behind, within))));
+          (λ keeps. no_last_halt (last_of taken) e (o.halted stop is keeps (omega (arith, o.newest, behind, within))) (omega (arith, o.newest, behind, within)) comes);
     }
 
 pub order_late : (taken : List Entry) (stops : List Stop) (e : Entry) → AreInOrder taken stops → IsLate taken stops e → AreInOrder (taken ++ e ∷ []) stops
@@ -120,15 +119,14 @@ order_stop taken stops stop o some discards_some = record {
   halted = λ s is keeps at. absurd (true_false (sym (ap (λ (x : Stop). discards x.cause x.read) (sym (same_stop stop s (sym (stop_push stops stop) ∙ is))) ∙ discards_some) ∙ keeps));
 }
 
--- a halt ends it, or a read that failed
+-- a front's halt ends it, or a read that failed
 pub order_halt : (taken : List Entry) (stops : List Stop) (stop : Stop) (e : Entry) → AreInOrder taken stops → last_of taken ≡ Some e → e.incarnation ≡ suc (length stops)
-    → (is_halt e.body ≡ true) ⊎ (stop.read ≡ true)
-    → AreInOrder taken (stops ++ stop ∷ [])
+    → (discards stop.cause stop.read ≡ false → is_halt e.body ≡ true) → AreInOrder taken (stops ++ stop ∷ [])
 order_halt taken stops stop e o last own halts = record {
   numbered = o.numbered;
   sorted = o.sorted;
   newest = omega (arith, length_push stops stop, ap newest_as last, own);
-  halted = λ s is keeps at. ⊎_elim (λ yes. inl (ap halts_as last ∙ yes)) (λ read. inr (ap (λ (x : Stop). x.read) (same_stop s stop (sym is ∙ stop_push stops stop)) ∙ read)) halts;
+  halted = λ s is keeps at. ap halts_as last ∙ halts (ap (λ (x : Stop). discards x.cause x.read) (sym (same_stop s stop (sym is ∙ stop_push stops stop))) ∙ keeps);
 }
 
 abbrev halts_none_or : Option Entry → Bool

@@ -13,6 +13,7 @@ use Rattle.output_gate.specs.declared.back.Back.{Back}
 use Rattle.output_gate.specs.declared.back.Ending.{Ending}
 use Rattle.output_gate.proofs.Helds.{true_false}
 use Rattle.output_gate.proofs.Fitting.{never_mounted}
+use Rattle.output_gate.proofs.Reading.{failed_none}
 
 ended_within : (marks : Marks) (h : History) → HaveEnded marks h → KeepsWithin h
 ended_within marks [] e = tt
@@ -35,9 +36,7 @@ module _ {D : Type 0} (moment_of : D → ℕ) (left_since : D → ℕ → List �
         more = omega (arith, s.unflown);
         unflown = λ less none. omega (arith, less, s.unflown, s.own, s.room.own, ap (λ bs. length bs) none);
         kept = λ front. ended_within (marks_of back) (older_of front (backed back.log)) (m.logged.placed front).ended;
-        closed = m.reads.closed;
-        held = m.reads.here;
-        read = m.reads.behind;
+        read = λ has. s.mode;
       }
 
   unmounted_ordered : (back : Back D) → IsUnmounted moment_of left_since told image faults_of start opening back → IsOrdered back
@@ -51,9 +50,7 @@ module _ {D : Type 0} (moment_of : D → ℕ) (left_since : D → ℕ → List �
         more = omega (arith, s.even);
         unflown = λ less. absurd (omega (arith, less, s.even));
         kept = λ front. ending_within u.ending (marks_of back) (older_of front (backed back.log)) (u.logged.ended front);
-        closed = omega (arith, u.shut.closed);
-        held = λ is. absurd (omega (arith, is, u.shut.closed));
-        read = λ stop is read. absurd (true_false (sym read ∙ u.shut.appended stop is));
+        read = λ has. absurd (true_false (sym has ∙ failed_none back.held.items s.halts));
       }
 
   pub is_ordered : (back : Back D) → IsBackAs moment_of left_since told image faults_of start opening sound back → IsOrdered back

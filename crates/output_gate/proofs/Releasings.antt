@@ -6,7 +6,7 @@ use Rattle.std.specs.declared.collections.VecDeque.{VecDeque}
 use Rattle.batch_journal.specs.declared.journal.Journal.{Journal}
 use Rattle.timeline.specs.declared.back_log.BackLog.{BackLog}
 use Rattle.output_gate.specs.Fits.{last_of}
-use Rattle.output_gate.proofs.Reading.{halt_behind, reading_stays, unread_rest}
+use Rattle.output_gate.proofs.Reading.{failed_behind, reading_stays, unread_rest}
 use Rattle.output_gate.proofs.Unmounted.{or_true}
 use Rattle.std.specs.Vec.{vec_capacity}
 use Rattle.batch_journal.specs.Moments.{IsTold}
@@ -19,7 +19,7 @@ use Rattle.timeline.specs.Passed.{Passed}
 use Rattle.timeline.specs.declared.back_log.Release.{Release}
 use Rattle.output_gate.specs.Ended.{IsLogged}
 use Rattle.output_gate.specs.Gate.{Place, place_of, history_at, Lists, IsGate}
-use Rattle.output_gate.specs.Held.{passed_by, passed_of, waiting_in, is_held_halt, has_halt, unread_in, HaltsLast}
+use Rattle.output_gate.specs.Held.{passed_by, passed_of, waiting_in, is_held_halt, has_failed_read, has_halt, unread_in, HaltsLast}
 use Rattle.output_gate.specs.Kept.{RecoversToPrefix}
 use Rattle.output_gate.specs.Releasing.{release_at}
 use Rattle.output_gate.specs.Serving.{HasRoom, IsSafe, IsServing, IsMounted, marks_of}
@@ -98,7 +98,7 @@ module _ {D : Type 0} (told : D → Option (List ℕ)) (image : D → List ℕ �
       e.0,
       ap (λ (b : Backed). last_of b.taken) is ∙ e.1,
       e.2,
-      ⊎_elim (λ halts. inl halts) (λ by. inr (by.0, by.1, unread_rest h held.items none ∙ sym (ap unread_in first) ∙ by.2)) e.3,
+      ⊎_elim (λ halts. inl (failed_behind h held.items none ∙ sym (ap has_failed_read first) ∙ halts.0, halts.1)) (λ by. inr (failed_behind h held.items none ∙ sym (ap has_failed_read first) ∙ by.0, by.1)) e.3,
     );
     stored = s.stored;
   }
@@ -162,6 +162,5 @@ module _ {D : Type 0} (moment_of : D → ℕ) (left_since : D → ℕ → List �
         (λ front. released_place front (backed old.log) all) m.logged);
     counts = counts_stay told faults_of (disk_in m.journal) (disk_in m.journal) (backed old.log) (backed log) refl (ap (λ (b : Backed). b.stops) is) (ap (λ (b : Backed). b.downs) is) m.counts;
     reads = reading_stays (IsTold (told (disk_in m.journal))) (IsTold (told (disk_in m.journal))) (λ yes. yes) (faults_of (disk_in m.journal)) (faults_of (disk_in m.journal)) (omega arith) old
-        (record old { held = held; log = log }) (ap (λ (b : Backed). b.stops) is) (ap (λ (b : Backed). b.downs) is) refl refl (unread_rest h held.items none ∙ sym (ap unread_in first))
-        (λ has. halt_behind h held.items none (sym (ap has_halt first) ∙ has)) m.reads;
+        (record old { held = held; log = log }) (ap (λ (b : Backed). b.stops) is) (ap (λ (b : Backed). b.downs) is) (unread_rest h held.items none ∙ sym (ap unread_in first)) m.reads;
   }

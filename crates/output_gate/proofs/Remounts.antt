@@ -3,7 +3,6 @@ use Rattle.std.proofs.Common.{◌≡◌, ◌∙◌, ap, sym, refl, subst, inl, i
 use Rattle.batch_journal.specs.declared.journal.Journal.{Journal}
 use Rattle.storage_cache.specs.Cached.{Cached}
 use Rattle.storage_map.specs.Limits.{Object}
-use Rattle.output_gate.proofs.Reading.{shut_stays}
 use Rattle.std.specs.Prelude.{true}
 use Rattle.batch_journal.specs.Moments.{LeavesOnly, TellsAsBefore, IsTold}
 use Rattle.batch_journal.specs.Mounting.{ImageOrSame}
@@ -22,7 +21,7 @@ use Rattle.output_gate.specs.Mending.{Begins, Misses, IsFound, is_own_object, Re
 use Rattle.batch_journal.specs.Rest.{disk_in, end_of}
 use Rattle.output_gate.proofs.Fitting.{unmounted_of}
 use Rattle.output_gate.proofs.Gone.{back_room}
-use Rattle.output_gate.specs.Serving.{IsMounted, IsSafeEnded, IsEnded, IsShut, IsUnmounted, IsAtEnd, IsBackAs, CanServeAs, marks_of}
+use Rattle.output_gate.specs.Serving.{IsMounted, IsSafeEnded, IsEnded, IsUnmounted, IsAtEnd, IsBackAs, CanServeAs, marks_of}
 use Rattle.output_gate.specs.Storing.{IsDiskOf}
 use Rattle.output_gate.specs.declared.back.Back.{Back}
 use Rattle.output_gate.specs.declared.back.Ending.{Ending}
@@ -53,12 +52,12 @@ module _ {D : Type 0} (moment_of : D → ℕ) (left_since : D → ℕ → List �
     (counts_now : (disk : D) (t : ℕ) (c : List ℕ) → t ≤ moment_of disk → image disk c → left_since disk t c) (start : List (List Op)) (opening : ℕ) where
   abbrev pub Knows : Back D → D → Ending → Type 0
   Knows old disk ending = IsSafeEnded disk ending old × (IsTold (told disk) → IsEnded moment_of left_since image start opening disk ending old)
-      × IsLoggedDown (IsTold (told disk)) (backed old.log) ending (marks_of old) old.durable × AreCounted (IsTold (told disk)) (backed old.log) (faults_of disk) × IsShut old
+      × IsLoggedDown (IsTold (told disk)) (backed old.log) ending (marks_of old) old.durable × AreCounted (IsTold (told disk)) (backed old.log) (faults_of disk)
 
   pub known : (old : Back D) (disk : D) (ending : Ending) → old.mode ≡ Wanted ending → IsDiskOf old.store disk → IsUnmounted moment_of left_since told image faults_of start opening old → Knows old disk ending
   known old disk ending wanted at u =
       subst (λ (d : D). Knows old d ending) (same_disk old.store u.disk disk u.safe.store at)
-      (subst (λ (e : Ending). Knows old u.disk e) (same_ending u.ending ending old.mode u.safe.mode wanted) (u.safe, u.ended, u.logged, u.counts, u.shut))
+      (subst (λ (e : Ending). Knows old u.disk e) (same_ending u.ending ending old.mode u.safe.mode wanted) (u.safe, u.ended, u.logged, u.counts))
 
   pub remount_begins : (old new : Back D) (disk : D) (ending : Ending) (journal : Journal D) (identity : Option Object) (cache : Cached) → old.mode ≡ Wanted ending → IsDiskOf old.store disk
       → IsFound moment_of left_since told image disk (found.Mounted journal identity cache) → is_own_object identity old.identity → Begins old new ending journal cache
@@ -67,7 +66,7 @@ module _ {D : Type 0} (moment_of : D → ℕ) (left_since : D → ℕ → List �
       let k = known old disk ending wanted at u in
       let mounted : Mounted D = record { journal = journal; identity = identity; index = is.0.0 } in
       mounted_begun moment_of left_since told image faults_of reads_an_image start opening disk ending old new mounted k.0 k.1 wanted is.0.2 own is.1 is.2 is.3 k.2 k.3 up
-      (subst (λ (c : Cached). Begins old new ending journal c) is.0.1 done) k.4
+      (subst (λ (c : Cached). Begins old new ending journal c) is.0.1 done)
 
   images_left : (disk left : D) → LeavesOnly moment_of left_since disk left (ImageOrSame (told disk) (image disk)) → (c : List ℕ) → image left c → ImageOrSame (told disk) (image disk) c
   images_left disk left leaves c now = leaves.each c (counts_now left (moment_of disk) c leaves.later now)
@@ -79,7 +78,7 @@ module _ {D : Type 0} (moment_of : D → ℕ) (left_since : D → ℕ → List �
   remount_misses old new disk left ending before after wanted at is done from into rises u =
       let k = known old disk ending wanted at u in
       unmounted_missed moment_of left_since told image faults_of reads_an_image start opening disk left ending old new before after k.0 k.1 is.0 is.1 (images_left disk left is.0) k.2 k.3 from into
-      (λ tells. rises (told_before (told disk) (told left) is.1 tells)) done k.4
+      (λ tells. rises (told_before (told disk) (told left) is.1 tells)) done
 
   -- memory was wanting, and a mounting is still wanted
   pub remount_fails : (old : Back D) (disk left : D) (ending : Ending) (s : Store D) → s ≡ store.Disk left → old.mode ≡ Wanted ending → IsDiskOf old.store disk
@@ -133,7 +132,6 @@ module _ {D : Type 0} (moment_of : D → ℕ) (left_since : D → ℕ → List �
             };
         logged = down_same (IsTold (told disk)) (IsTold (told left)) (told_before (told disk) (told left) is.1) (backed old.log) ending (marks_of old) old.durable (backed old.log) refl refl refl (λ front. refl) k.2;
         counts = counts_same (IsTold (told disk)) (IsTold (told left)) (told_before (told disk) (told left) is.1) (backed old.log) (faults_of disk) (faults_of left) k.3 (backed old.log) refl refl up;
-        shut = shut_stays old (record old { store = store.Disk left }) refl refl refl k.4;
       } in
       subst (λ (x : Store D). IsUnmounted moment_of left_since told image faults_of start opening (record old { store = x })) (sym same) made
 

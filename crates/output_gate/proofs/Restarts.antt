@@ -1,14 +1,14 @@
 -- The restart behind a halt.
-use Rattle.std.proofs.Common.{◌≡◌, ◌∙◌, ap, sym, refl, subst, inl, inr, append-nil, ℕ, suc, ◌+◌, ◌≤◌, List, [], ◌∷◌, ◌++◌, length, sum, arith, Option, Some, None, Global}
+use Rattle.std.proofs.Common.{◌≡◌, ◌∙◌, ap, sym, refl, subst, inl, inr, append-nil, ℕ, suc, ◌+◌, ◌≤◌, List, [], ◌∷◌, ◌++◌, length, sum, arith, Option, Some, Global}
 use Rattle.std.proofs.lemmas.List.{length_push}
-use Rattle.std.specs.Prelude.{◌⊎◌, Bool, true, false, not, ◌||◌, if◌then◌else◌}
+use Rattle.std.specs.Prelude.{Bool, true, false, ◌||◌, if◌then◌else◌}
 use Rattle.std.specs.declared.collections.VecDeque.{VecDeque}
 use Rattle.batch_journal.specs.Rest.{disk_in}
 use Rattle.batch_journal.specs.declared.journal.Journal.{Journal}
 use Rattle.storage_map.specs.declared.op.Op.{Op}
-use Rattle.timeline.specs.History.{Incarnation, entries_of, batches_in as batches_taken, durable_by}
+use Rattle.timeline.specs.History.{Incarnation, entries_of, batches_in as batches_taken}
 use Rattle.timeline.specs.Logs.{Fronted, Backed, backed}
-use Rattle.timeline.specs.Passed.{Passed, bound_if, bound_by, discards}
+use Rattle.timeline.specs.Passed.{Passed, discards}
 use Rattle.timeline.specs.declared.back_log.BackLog.{BackLog}
 use Rattle.timeline.specs.declared.back_log.End.{End}
 use Rattle.timeline.specs.declared.back_log.Release.{Release}
@@ -20,7 +20,7 @@ use Rattle.batch_journal.specs.Moments.{IsTold}
 use Rattle.output_gate.specs.Down.{place_down}
 use Rattle.output_gate.specs.Ended.{IsLogged}
 use Rattle.output_gate.specs.Gate.{Place, place_of, Lists, IsGate}
-use Rattle.output_gate.specs.Held.{passed_by, passed_of, waiting_in, is_held_halt, has_halt, halts_well, is_read, unread_by, unread_in, HaltsLast}
+use Rattle.output_gate.specs.Held.{passed_by, passed_of, waiting_in, ends_well, has_failed_read, is_failed_read, is_held_halt, has_halt, halts_well, is_read, unread_by, unread_in, HaltsLast}
 use Rattle.output_gate.specs.Serving.{HaltsBy, HasRoom, IsSafe, IsServing, IsMounted, halt_of, marks_of}
 use Rattle.output_gate.specs.Standing.{AreLogs, own_entries, own_flights, older_of, going_on}
 use Rattle.output_gate.specs.declared.back.Back.{Back}
@@ -29,10 +29,10 @@ use Rattle.output_gate.specs.declared.held.HeldBody.{HeldBody}
 use Rattle.output_gate.specs.declared.held.HeldBody.TheVariants.{Halt}
 use Rattle.output_gate.proofs.Flushes.{front_none}
 use Rattle.output_gate.specs.Counted.{stop_counts, AreCounted}
-use Rattle.output_gate.specs.Fits.{is_halt}
+use Rattle.output_gate.specs.Fits.{IsAsk, is_halt}
 use Rattle.output_gate.proofs.Counts.{counts_ended, counts_unread}
-use Rattle.output_gate.proofs.Reading.{counts_read, read_of, unread_counts, reading_restarted}
-use Rattle.output_gate.proofs.Endings.{keeps_all, logged_restarted}
+use Rattle.output_gate.proofs.Reading.{counts_read, failed_one, read_discards, unread_counts, reading_none}
+use Rattle.output_gate.proofs.Endings.{logged_restarted}
 use Rattle.output_gate.proofs.Helds.{true_false}
 use Rattle.output_gate.proofs.Histories.{all_below, stops_fit, follows_fits}
 use Rattle.output_gate.proofs.Mountings.{place_followed}
@@ -41,7 +41,8 @@ use Rattle.output_gate.proofs.Unmounted.{restarts}
 
 -- the back behind a halt
 abbrev pub restarted : {D : Type 0} → Back D → BackLog → VecDeque Held Global → Back D
-restarted old log held = record old { held = held; own = 0; needs = old.before; number = old.number + 1; log = log }
+restarted old log held =
+    record old { held = held; own = 0; needs = old.before; settled = old.before; late = Some old.needs; number = old.number + 1; log = log }
 
 abbrev pub LogRestarts : {D : Type 0} → Back D → BackLog → Cause → Type 0
 LogRestarts old log c = backed log ≡ record (backed old.log) { stops = old.log.stops.items ++ halt_of old c ∷ []; ends = old.log.ends.items ++ record { kept = old.own; cause = c } ∷ [] }
@@ -60,17 +61,25 @@ pub record Halting {D : Type 0} (old : Back D) (held : VecDeque Held Global) (h 
   pub ready : h.needs ≤ old.durable
 
 last_halt : {D : Type 0} (old : Back D) (held : VecDeque Held Global) (h : Held) (c : Cause) → HaltsLast old.before old.held.items → Halting old held h c
-    → (held.items ≡ []) × (h.needs ≡ old.before) × (not (discards c (is_read c)) ≡ true)
+    → (held.items ≡ []) × (h.needs ≡ old.before) × (ends_well c ≡ true)
 last_halt old held h c last halting =
     let all = (subst (HaltsLast old.before) halting.first last).0 (ap is_held_halt halting.body) in
     (all.0, all.1, sym (ap halts_well halting.body) ∙ all.2)
 
--- the last entry is the halt, or the stop is by a read
+-- the last entry is the halt, or messages that come late may not pass
 by_halt : {D : Type 0} {old : Back D} (held : VecDeque Held Global) (h : Held) (c : Cause) → held.items ≡ [] → Halting old held h c → (e : Entry) → HaltsBy e old
-    → (is_halt e.body ≡ true) ⊎ ((halt_of old c).read ≡ true)
-by_halt held h c none halting e (inl halts) = inl halts
-by_halt held h c none halting e (inr by) =
-    inr (read_of c by.1 (sym (ap unread_in (halting.first ∙ ap (λ rest. h ∷ rest) none) ∙ append-nil (unread_by h.body) ∙ ap unread_by halting.body) ∙ by.2))
+    → discards c (is_read c) ≡ false → is_halt e.body ≡ true
+by_halt held h c none halting e (inl halts) keeps = halts.1
+by_halt held h c none halting e (inr by) keeps =
+    absurd (true_false (sym (read_discards c (failed_one h c halting.body (sym (ap has_failed_read (halting.first ∙ ap (λ rest. h ∷ rest) none)) ∙ by.0))) ∙ keeps))
+
+-- it is the ask, where a read failed
+by_ask : {D : Type 0} {old : Back D} (held : VecDeque Held Global) (h : Held) (c : Cause) → held.items ≡ [] → Halting old held h c → (e : Entry) → HaltsBy e old
+    → is_read c ≡ true → IsAsk e.body
+by_ask held h c none halting e (inl halts) read =
+    absurd (true_false (sym (ap (λ (b : HeldBody). is_failed_read b || has_failed_read []) halting.body ∙ ap (λ (b : Bool). b || false) read)
+    ∙ sym (ap has_failed_read (halting.first ∙ ap (λ rest. h ∷ rest) none)) ∙ halts.0))
+by_ask held h c none halting e (inr by) read = by.1
 
 -- what isn't by a read has no counts
 none_counted : (c : Cause) → is_read c ≡ false → stop_counts c ≡ []
@@ -155,7 +164,6 @@ module _ {D : Type 0} (moment_of : D → ℕ) (left_since : D → ℕ → List �
       λ front. ap (place_of front) is ∙ restart_place front b stop old.own s.room.logs refl s.room.followed in
       let waits : waiting_in old.held.items ≡ [] =
       ap waiting_in halting.first ∙ ap (λ ps. ps ++ waiting_in held.items) (halt_waits h c halting.body) ∙ ap waiting_in last.0 in
-      let bound : bound_by (Some stop) (own_flights b) ≡ None = ap (λ yes. bound_if yes c (durable_by (Some stop) (own_flights b))) (keeps_all c last.2) in
       record {
         room = halt_room told image sound old log held c s.room is even;
         frames = s.frames;
@@ -174,7 +182,7 @@ module _ {D : Type 0} (moment_of : D → ℕ) (left_since : D → ℕ → List �
             (subst (λ (k : ℕ). IsGate moment_of left_since old.identity start opening front
             (record { ended = suc n; taken = []; flights = []; older = record (ended front) { kept = Some (length (batches_taken (own_entries b))) } ∷ older_of front b }) (disk_in journal) l old.before k) even
             (restarts moment_of left_since old.identity start opening front (place_of front b) (disk_in journal) l old.before stop
-            (subst (λ (k : ℕ). IsGate moment_of left_since old.identity start opening front (place_of front b) (disk_in journal) l old.before k) (sym even) g) waits bound s.room.own (halt_durable (is_read c) old.own (sum (own_flights b)) (omega (arith, s.room.own, g.counted, g.flown, even)))));
+            (subst (λ (k : ℕ). IsGate moment_of left_since old.identity start opening front (place_of front b) (disk_in journal) l old.before k) (sym even) g) waits s.room.own (halt_durable (is_read c) old.own (sum (own_flights b)) (omega (arith, s.room.own, g.counted, g.flown, even)))));
         at_rest = s.at_rest;
         named = s.named;
         batches = s.batches;
@@ -197,16 +205,14 @@ module _ {D : Type 0} (moment_of : D → ℕ) (left_since : D → ℕ → List �
         let last = last_halt old held h c s.halts halting in
         let e = s.halted (ap has_halt halting.first ∙ ap (λ (b : HeldBody). is_held_halt b || has_halt held.items) halting.body) in
         let tells : Type 0 = IsTold (told (disk_in m.journal)) in
-        subst (λ (b : Backed). IsLogged tells b (record (marks_of old) { needs = old.before }) 0 old.before old.durable) (sym is)
+        subst (λ (b : Backed). IsLogged tells b (marks_of (restarted old log held)) 0 old.before old.durable) (sym is)
         (logged_restarted tells tells (λ yes. yes) (backed old.log) (marks_of old) old.own old.before old.durable (halt_of old c) e.0 s.room.logs refl s.room.followed s.room.own
-        (omega (arith, s.unflown, last.1, halting.ready)) refl refl last.2 e.1 (e.2 ∙ s.room.number) (by_halt held h c last.0 halting e.0 e.3)
+        (omega (arith, s.unflown, last.1, halting.ready)) refl refl last.2 e.1 (e.2 ∙ s.room.number) (by_halt held h c last.0 halting e.0 e.3) (by_ask held h c last.0 halting e.0 e.3)
         (λ front. restart_place front (backed old.log) (halt_of old c) old.own s.room.logs refl s.room.followed) m.logged);
     counts = counts_halt (is_read c) refl;
     reads =
         let last = last_halt old held h c m.safe.halts halting in
-        let only : old.held.items ≡ h ∷ [] = halting.first ∙ ap (λ rest. h ∷ rest) last.0 in
-        reading_restarted (IsTold (told (disk_in m.journal))) (faults_of (disk_in m.journal)) old (restarted old log held) h c (halt_of old c) only halting.body last.0 m.safe.room.number refl refl
-        (ap (λ (b : Backed). b.stops) is) refl m.reads;
+        reading_none (IsTold (told (disk_in m.journal))) (faults_of (disk_in m.journal)) (restarted old log held) (ap unread_in last.0);
   }
     where
       counts_halt : (read : Bool) → is_read c ≡ read → AreCounted (IsTold (told (disk_in m.journal))) (backed log) (faults_of (disk_in m.journal))
@@ -215,7 +221,7 @@ module _ {D : Type 0} (moment_of : D → ℕ) (left_since : D → ℕ → List �
           let counts = counts_read c reads in
           let unread : unread_in old.held.items ≡ counts.0 ∷ [] =
           ap unread_in (halting.first ∙ ap (λ rest. h ∷ rest) last.0) ∙ append-nil (unread_by h.body) ∙ ap unread_by halting.body ∙ counts.1 in
-          let u = m.reads.unread counts.0 unread in
+          let u = m.reads counts.0 unread in
           counts_unread (IsTold (told (disk_in m.journal))) (IsTold (told (disk_in m.journal))) (λ yes. yes) (backed old.log) (faults_of (disk_in m.journal)) (faults_of (disk_in m.journal)) m.counts (backed log) (halt_of old c) counts.0
           (ap (λ (b : Backed). b.stops) is) (ap (λ (b : Backed). b.downs) is) (sym (unread_counts c) ∙ counts.1) u.rising u.rose
       counts_halt false reads =

@@ -40,7 +40,7 @@ use Rattle.output_gate.proofs.Endings.{logged_flew, logged_stopped}
 use Rattle.output_gate.proofs.Flushes.{be_same, front_none, may_be, name_all, lands, ends, stopped}
 use Rattle.output_gate.proofs.Helds.{true_false, none_stays}
 use Rattle.output_gate.proofs.Histories.{flies_fit, stops_fit, all_below}
-use Rattle.output_gate.proofs.Reading.{reading_stays, shut_stopped}
+use Rattle.output_gate.proofs.Reading.{reading_stays}
 use Rattle.output_gate.proofs.Stored.{same_journal}
 
 -- a disk that tells its content now told it before
@@ -215,8 +215,7 @@ module _ {D : Type 0} (moment_of : D → ℕ) (left_since : D → ℕ → List �
             (ap (λ (log : BackLog). log.stops.items) lands_now.log) (ap (λ (log : BackLog). log.downs.items) lands_now.log) a.later;
         reads = reading_stays (IsTold (told (disk_in m.journal))) (IsTold (told (disk_in a.new))) (told_before (told (disk_in m.journal)) (told (disk_in a.new)) a.telling)
             (faults_of (disk_in m.journal)) (faults_of (disk_in a.new)) a.later old new (ap (λ (log : BackLog). log.stops.items) lands_now.log) (ap (λ (log : BackLog). log.downs.items) lands_now.log)
-            (ap (λ (x : Back D). x.closed) lands_now.same) (ap (λ (x : Back D). x.number) lands_now.same) (ap (λ (x : Back D). unread_in x.held.items) lands_now.same)
-            (λ has. ap (λ (x : Back D). has_halt x.held.items) lands_now.same ∙ has) m.reads;
+            (ap (λ (x : Back D). unread_in x.held.items) lands_now.same) m.reads;
       }
 
   pub mounted_ends : (old new : Back D) (after : Store D) (cache : Cached) (fault : Fault) (m : IsMounted moment_of left_since told image faults_of start opening sound old) → old.before ≢ old.durable
@@ -235,7 +234,6 @@ module _ {D : Type 0} (moment_of : D → ℕ) (left_since : D → ℕ → List �
             m.safe.room (longer old.durable old.before m.safe.staged m.safe.unflown more) (omega (arith, m.safe.unflown, m.safe.own)) a.ended.discards ends_now m.logged;
         counts = counts_by faults_of m.journal a.new (IsTold (told (disk_in m.journal))) (IsTold (told (disk_in a.new))) (told_before (told (disk_in m.journal)) (told (disk_in a.new)) a.telling)
             (backed old.log) (backed new.log) (stop_of old fault.cause) m.counts ends_now.stops (ap (λ (log : BackLog). log.downs.items) ends_now.log) fault.cause refl a.ended.cause a.later;
-        shut = shut_stopped old new (stop_of old fault.cause) refl ends_now.stops (ap (λ (x : Back D). x.closed) ends_now.same) (ap (λ (x : Back D). x.number) ends_now.same) m.reads.closed;
       }
 
 abbrev pub ending_in : Mode → Ending → Ending

@@ -1,5 +1,5 @@
 -- What taking an entry does to a back that serves.
-use Rattle.std.proofs.Common.{◌≡◌, ◌∙◌, ap, sym, refl, subst, inl, inr, ⊎_elim, ℕ, suc, ◌+◌, ◌<◌, ◌≤◌, List, [], ◌∷◌, ◌++◌, append-nil, append_assoc, length, length-append, arith, Option, Some, None}
+use Rattle.std.proofs.Common.{◌≡◌, ◌∙◌, ap, sym, refl, subst, inl, inr, ⊎_elim, ℕ, suc, ◌+◌, ◌≤◌, List, [], ◌∷◌, ◌++◌, append-nil, append_assoc, length, length-append, arith, Option, Some, None}
 use Rattle.std.proofs.lemmas.Grind.{flat_map-append}
 use Rattle.std.proofs.lemmas.List.{length_push}
 use Rattle.storage_map.proofs.Folds.{apply-append}
@@ -21,7 +21,7 @@ use Rattle.timeline.specs.declared.back_log.Release.{Release}
 use Rattle.timeline.specs.declared.entry.Body.TheVariants as body
 use Rattle.timeline.specs.declared.entry.Entry.{Entry}
 use Rattle.output_gate.specs.Gate.{Place, place_of, Lists, IsGate}
-use Rattle.output_gate.specs.Held.{passed_of, waiting_in, is_held_halt, has_halt, halts_well, unread_by, unread_in, HaltsLast}
+use Rattle.output_gate.specs.Held.{passed_of, waiting_in, has_failed_read, is_failed_read, is_held_halt, has_halt, halts_well, unread_in, HaltsLast}
 use Rattle.output_gate.specs.Passing.{IsSilent}
 use Rattle.output_gate.specs.Kept.{MayBe}
 use Rattle.output_gate.specs.declared.held.Held.{Held}
@@ -35,10 +35,10 @@ use Rattle.storage_map.specs.Ops.{batch_bytes}
 use Rattle.object_storage.specs.Stored.{HasStored, HasKept, HasSome}
 use Rattle.output_gate.specs.Counted.{AreCounted, AreRising, HasRisenIn, counts_in}
 use Rattle.output_gate.specs.Ended.{IsLogged}
-use Rattle.output_gate.specs.Fits.{is_halt, last_of, comes_behind}
+use Rattle.output_gate.specs.Fits.{IsAsk, is_halt, last_of, comes_behind}
 use Rattle.output_gate.specs.declared.store.Store.{Store}
 use Rattle.output_gate.specs.declared.store.Store.TheVariants as store
-use Rattle.output_gate.specs.Serving.{HaltsBy, HasRoom, IsSafe, IsServing, IsMounted, IsReading, marks_of}
+use Rattle.output_gate.specs.Serving.{HaltsBy, HasRoom, IsSafe, IsServing, IsMounted, marks_of}
 use Rattle.output_gate.specs.Standing.{AreLogs, own_entries, older_of}
 use Rattle.output_gate.specs.Taking.{LogTook, LogSame}
 use Rattle.output_gate.specs.declared.back.Back.{Back}
@@ -50,7 +50,7 @@ use Rattle.output_gate.proofs.Histories.{takes as history_takes, takes_fit}
 use Rattle.output_gate.proofs.Counts.{counts_stay}
 use Rattle.output_gate.proofs.Endings.{logged_took, logged_said, logged_same}
 use Rattle.output_gate.proofs.Ordered.{last_push, no_halt}
-use Rattle.output_gate.proofs.Reading.{reading_stays, reading_none, reading_fails, unread_push, unread_none}
+use Rattle.output_gate.proofs.Reading.{failed_pushed, unread_failed, reading_stays, reading_none, reading_fails, unread_none}
 
 -- the operations of one more batch
 applies : (line : List (List Op)) (ops : List Op) → apply (apply nothing (flat_map (λ x. x) line)) ops ≡ apply nothing (flat_map (λ x. x) (line ++ ops ∷ []))
@@ -175,9 +175,9 @@ abbrev pub unread_held : {D : Type 0} → Back D → ℕ × ℕ → Held
 unread_held old counts = record { body = held_body.Halt (causes.Disk counts.0 counts.1); needs = old.before; since = old.number }
 
 -- the last entry is that by which the held halt came, of a back that holds the same
-halts_same : {D : Type 0} (e : Entry) (old new : Back D) → new.closed ≡ old.closed → new.number ≡ old.number → new.held.items ≡ old.held.items → HaltsBy e old → HaltsBy e new
-halts_same e old new closed number items (inl halts) = inl halts
-halts_same e old new closed number items (inr by) = inr (closed ∙ by.0 ∙ sym number, by.1, ap unread_in items ∙ by.2)
+halts_same : {D : Type 0} (e : Entry) (old new : Back D) → new.held.items ≡ old.held.items → HaltsBy e old → HaltsBy e new
+halts_same e old new items (inl halts) = inl (ap has_failed_read items ∙ halts.0, halts.1)
+halts_same e old new items (inr by) = inr (ap has_failed_read items ∙ by.0, by.1)
 
 -- What is stored in one cache is stored in the other, and what that keeps stands too: no batch was taken and none was flushed.
 pub record KeepsStored {D : Type 0} (told : D → Option (List ℕ)) (image : D → List ℕ → Type 0) (journal : Journal D) (old new : Cached) : Type 0 where
@@ -192,20 +192,20 @@ same_stored told image journal old new same = record {
 
 module _ {D : Type 0} (told : D → Option (List ℕ)) (image : D → List ℕ → Type 0) (sound : Bool) where
   free_if : (journal : Journal D) (back : Back D) (s : IsSafe told image sound journal back) (e : Entry) (b : Bool) → has_halt back.held.items ≡ b
-      → e.incarnation ≡ back.number → comes_behind (last_of back.log.taken.items) e ≡ true → back.closed < back.number → has_halt back.held.items ≡ false
+      → e.incarnation ≡ back.number → comes_behind (last_of back.log.taken.items) e ≡ true → has_failed_read back.held.items ≡ false → has_halt back.held.items ≡ false
   free_if journal back s e false is own comes on = is
   free_if journal back s e true is own comes on =
       let h = s.halted is in
-      ⊎_elim (λ halts. absurd (no_halt h.0 e (h.2 ∙ sym own) halts (ap (λ (o : Option Entry). comes_behind o e) (sym h.1) ∙ comes)))
-      (λ by. absurd (omega (arith, by.0, on))) h.3
+      ⊎_elim (λ halts. absurd (no_halt h.0 e (h.2 ∙ sym own) halts.1 (ap (λ (o : Option Entry). comes_behind o e) (sym h.1) ∙ comes)))
+      (λ by. absurd (true_false (sym by.0 ∙ on))) h.3
 
   pub free : (journal : Journal D) (back : Back D) → IsSafe told image sound journal back → (e : Entry) → e.incarnation ≡ back.number → comes_behind (last_of back.log.taken.items) e ≡ true
-      → back.closed < back.number → has_halt back.held.items ≡ false
+      → has_failed_read back.held.items ≡ false → has_halt back.held.items ≡ false
   free journal back s e own comes on = free_if journal back s e (has_halt back.held.items) refl own comes on
 
   safe_batch : (old : Back D) (log : BackLog) (number : ℕ) (ops : List Op) (tail : Option ℕ) (confirmed : Bool) (journal later : Journal D) (cache : Cached) (bytes needs : ℕ) (object : Object)
       → IsSafe told image sound journal old → LogTook old.log log (batch_entry old number ops tail confirmed) → old.identity ≡ Some object
-      → comes_behind (last_of old.log.taken.items) (batch_entry old number ops tail confirmed) ≡ true → old.closed < old.number
+      → comes_behind (last_of old.log.taken.items) (batch_entry old number ops tail confirmed) ≡ true → has_failed_read old.held.items ≡ false
       → ((batches : List (List Op)) → IsStaged journal object batches → IsStaged later object (batches ++ ops ∷ []))
       → ((frames : List Frame) → IsAtRest told image journal frames → IsAtRest told image later frames) → StoresOps told image journal old.cache cache object ops
       → bytes ≡ old.unflushed + length (batch_bytes ops)
@@ -237,10 +237,10 @@ module _ {D : Type 0} (told : D → Option (List ℕ)) (image : D → List ℕ �
       }
 
   safe_said : (old : Back D) (log : BackLog) (held : VecDeque Held Global) (e : Entry) (more : List Passed) (journal : Journal D)
-      → IsSafe told image sound journal old → LogTook old.log log e → e.incarnation ≡ old.number → comes_behind (last_of old.log.taken.items) e ≡ true → old.closed < old.number
-      → batches_of (said_by e.body) ≡ [] → HoldsMore old.held.items held.items e old.before more
+      → IsSafe told image sound journal old → LogTook old.log log e → e.incarnation ≡ old.number → comes_behind (last_of old.log.taken.items) e ≡ true → has_failed_read old.held.items ≡ false
+      → batches_of (said_by e.body) ≡ [] → unread_in held.items ≡ [] → HoldsMore old.held.items held.items e old.before more
       → IsSafe told image sound journal (record old { held = held; log = log })
-  safe_said old log held e more journal s took own comes on silent holds =
+  safe_said old log held e more journal s took own comes on silent unread holds =
       let none = free journal old s e own comes on in
       let room = took_room old log e 0 s.room (own ∙ s.room.number) took (ap length (sym silent)) (omega arith) old.store old.cache held old.identity old.unflushed old.needs in
       record {
@@ -257,19 +257,18 @@ module _ {D : Type 0} (told : D → Option (List ℕ)) (image : D → List ℕ �
         staged_for = s.staged_for;
         nameless = s.nameless;
         halts = halts_as old.held.items held.items e old.before more holds none;
-        halted = λ has. (e, ap (λ (b : Backed). last_of b.taken) took.taken ∙ last_push old.log.taken.items e, own, inl (halted_as old.held.items held.items e old.before more holds none has));
+        halted = λ has. (e, ap (λ (b : Backed). last_of b.taken) took.taken ∙ last_push old.log.taken.items e, own, inl (unread_failed held.items unread, halted_as old.held.items held.items e old.before more holds none has));
         stored = s.stored;
       }
 
   -- a read failed, and the end by that is held
   safe_unread : (old : Back D) (log : BackLog) (held : VecDeque Held Global) (e : Entry) (h : Held) (counts : ℕ × ℕ) (journal : Journal D)
-      → IsSafe told image sound journal old → LogTook old.log log e → e.incarnation ≡ old.number → comes_behind (last_of old.log.taken.items) e ≡ true → old.closed < old.number
-      → batches_of (said_by e.body) ≡ [] → h ≡ unread_held old counts → held.items ≡ old.held.items ++ h ∷ []
-      → IsSafe told image sound journal (record old { held = held; log = log; closed = old.number })
-  safe_unread old log held e h counts journal s took own comes on silent is_held items =
+      → IsSafe told image sound journal old → LogTook old.log log e → e.incarnation ≡ old.number → comes_behind (last_of old.log.taken.items) e ≡ true → has_failed_read old.held.items ≡ false
+      → IsAsk e.body → batches_of (said_by e.body) ≡ [] → h ≡ unread_held old counts → held.items ≡ old.held.items ++ h ∷ []
+      → IsSafe told image sound journal (record old { held = held; log = log })
+  safe_unread old log held e h counts journal s took own comes on asks silent is_held items =
       let none = free journal old s e own comes on in
       let room = took_room old log e 0 s.room (own ∙ s.room.number) took (ap length (sym silent)) (omega arith) old.store old.cache held old.identity old.unflushed old.needs in
-      let body : unread_by h.body ≡ counts ∷ [] = ap (λ (x : Held). unread_by x.body) is_held in
       record {
         store = s.store;
         mode = s.mode;
@@ -288,14 +287,14 @@ module _ {D : Type 0} (told : D → Option (List ℕ)) (image : D → List ℕ �
           e,
           ap (λ (b : Backed). last_of b.taken) took.taken ∙ last_push old.log.taken.items e,
           own,
-          inr (refl, counts, ap unread_in items ∙ unread_push old.held.items h ∙ ap (λ cs. cs ++ unread_by h.body) (unread_none old.held.items none) ∙ body),
+          inr (ap has_failed_read items ∙ failed_pushed old.held.items h (ap (λ (x : Held). is_failed_read x.body) is_held), asks),
         );
         stored = s.stored;
       }
 
   safe_bind : (old : Back D) (log : BackLog) (number : ℕ) (object : Object) (journal : Journal D)
       → IsSafe told image sound journal old → LogTook old.log log (bind_entry old number object) → old.identity ≡ None
-      → comes_behind (last_of old.log.taken.items) (bind_entry old number object) ≡ true → old.closed < old.number
+      → comes_behind (last_of old.log.taken.items) (bind_entry old number object) ≡ true → has_failed_read old.held.items ≡ false
       → IsSafe told image sound journal (record old { identity = Some object; log = log })
   safe_bind old log number object journal s took nobody comes on =
       let e : Entry = bind_entry old number object in
@@ -343,7 +342,7 @@ module _ {D : Type 0} (told : D → Option (List ℕ)) (image : D → List ℕ �
       h.0,
       ap (λ (b : Backed). last_of b.taken) same.same ∙ h.1,
       h.2,
-      halts_same h.0 old (record old { store = store.Journal later; cache = cache; held = held; stuck = stuck; log = log }) refl refl items h.3,
+      halts_same h.0 old (record old { store = store.Journal later; cache = cache; held = held; stuck = stuck; log = log }) items h.3,
     );
     stored = λ yes. let k = keeps yes in let st = s.stored k.0 in (st.0, λ other may. k.1.stored s.frames other s.staged st.0 (st.1 other may));
   }
@@ -388,12 +387,12 @@ module _ {D : Type 0} (moment_of : D → ℕ) (left_since : D → ℕ → List �
       }
 
   -- An entry that writes nothing: what is held is added to by the messages that wait for it.
-  serves_said : (old : Back D) (log : BackLog) (held : VecDeque Held Global) (closed : ℕ) (e : Entry) (more : List Passed) (journal : Journal D) → IsServing moment_of left_since told image start opening sound journal old
+  serves_said : (old : Back D) (log : BackLog) (held : VecDeque Held Global) (e : Entry) (more : List Passed) (journal : Journal D) → IsServing moment_of left_since told image start opening sound journal old
       → LogTook old.log log e → e.incarnation ≡ old.number → batches_of (said_by e.body) ≡ [] → waiting_in held.items ≡ waiting_in old.held.items ++ more
       → ((front : Fronted) (s : IsServing moment_of left_since told image start opening sound journal old) → IsGate moment_of left_since old.identity start opening front (record (place_of front (backed old.log)) { taken = own_entries (backed old.log) ++ e ∷ [] })
       (disk_in journal) (record { released = old.log.released.items; left = s.left; waiting = waiting_in old.held.items ++ more; flown = s.flown; staged = s.staged }) old.before old.durable)
-      → IsServing moment_of left_since told image start opening sound journal (record old { held = held; log = log; closed = closed })
-  serves_said old log held closed e more journal s took own silent waits gate =
+      → IsServing moment_of left_since told image start opening sound journal (record old { held = held; log = log })
+  serves_said old log held e more journal s took own silent waits gate =
       let released : log.released.items ≡ old.log.released.items = ap (λ (b : Backed). b.released) took.taken in
       let number : e.incarnation ≡ suc (length old.log.stops.items) = own ∙ s.room.number in
       let room = took_room old log e 0 s.room number took (ap length (sym silent)) (omega arith) old.store old.cache held old.identity old.unflushed old.needs in
@@ -421,12 +420,12 @@ module _ {D : Type 0} (moment_of : D → ℕ) (left_since : D → ℕ → List �
         kept = s.kept;
       }
 
-  serves_silent : (old : Back D) (log : BackLog) (held : VecDeque Held Global) (closed : ℕ) (e : Entry) (journal : Journal D) → IsServing moment_of left_since told image start opening sound journal old
+  serves_silent : (old : Back D) (log : BackLog) (held : VecDeque Held Global) (e : Entry) (journal : Journal D) → IsServing moment_of left_since told image start opening sound journal old
       → LogTook old.log log e → e.incarnation ≡ old.number → is_mend e.body ≡ false → IsSilent e.body → batches_of (said_by e.body) ≡ []
       → waiting_in held.items ≡ waiting_in old.held.items ++ []
-      → IsServing moment_of left_since told image start opening sound journal (record old { held = held; log = log; closed = closed })
-  serves_silent old log held closed e journal s took own other silent none waits =
-      serves_said old log held closed e [] journal s took own none waits
+      → IsServing moment_of left_since told image start opening sound journal (record old { held = held; log = log })
+  serves_silent old log held e journal s took own other silent none waits =
+      serves_said old log held e [] journal s took own none waits
       (λ front t.
       let l : Lists = record { released = old.log.released.items; left = t.left; waiting = waiting_in old.held.items; flown = t.flown; staged = t.staged } in
       subst (λ (ws : List Passed). IsGate moment_of left_since old.identity start opening front (record (place_of front (backed old.log)) { taken = own_entries (backed old.log) ++ e ∷ [] }) (disk_in journal)
@@ -440,7 +439,7 @@ module _ {D : Type 0} (moment_of : D → ℕ) (left_since : D → ℕ → List �
       → IsServing moment_of left_since told image start opening sound journal (record old { held = held; log = log })
   serves_message old log held e sent journal s took own says reach waits =
       let one : ℕ → Passed = λ n. record { message = sent; needs = old.needs; since = n } in
-      serves_said old log held old.closed e (one (suc (length old.log.stops.items)) ∷ []) journal s took own (ap (λ b. batches_of (said_by b)) says)
+      serves_said old log held e (one (suc (length old.log.stops.items)) ∷ []) journal s took own (ap (λ b. batches_of (said_by b)) says)
       (waits ∙ ap (λ n. waiting_in old.held.items ++ one n ∷ []) s.room.number)
       (λ front t. takes_message moment_of left_since old.identity start opening front (place_of front (backed old.log))
       (record { released = old.log.released.items; left = t.left; waiting = waiting_in old.held.items; flown = t.flown; staged = t.staged }) old.before old.durable (disk_in journal) e sent old.needs says (reach front) (t.gate front))
@@ -451,7 +450,7 @@ module _ {D : Type 0} (moment_of : D → ℕ) (left_since : D → ℕ → List �
       → IsServing moment_of left_since told image start opening sound journal (record old { identity = Some object; log = log })
   serves_bind old log number object journal s took nobody =
       let e : Entry = bind_entry old number object in
-      let said = serves_silent old log old.held old.closed e journal s took refl refl (λ n k. refl) refl (sym (append-nil (waiting_in old.held.items))) in
+      let said = serves_silent old log old.held e journal s took refl refl (λ n k. refl) refl (sym (append-nil (waiting_in old.held.items))) in
       record {
         room = record {
           logs = said.room.logs;
@@ -525,19 +524,10 @@ module _ {D : Type 0} (moment_of : D → ℕ) (left_since : D → ℕ → List �
   took_counts old log e m later disk took =
       counts_stay told faults_of (disk_in m.journal) later (backed old.log) (backed log) disk (ap (λ (b : Backed). b.stops) took.taken) (ap (λ (b : Backed). b.downs) took.taken) m.counts
 
-  -- no read has failed of an incarnation that goes on
-  took_reads : (old : Back D) (log : BackLog) (held : VecDeque Held Global) (identity : Option Object) (e : Entry) (m : IsMounted moment_of left_since told image faults_of start opening sound old) → e.incarnation ≡ old.number
-      → comes_behind (last_of old.log.taken.items) e ≡ true → old.closed < old.number → LogTook old.log log e → unread_in held.items ≡ []
-      → IsReading (IsTold (told (disk_in m.journal))) (faults_of (disk_in m.journal)) (record old { identity = identity; held = held; log = log })
-  took_reads old log held identity e m own comes on took unread =
-      reading_none (IsTold (told (disk_in m.journal))) (IsTold (told (disk_in m.journal))) (λ tells. tells) (faults_of (disk_in m.journal)) (faults_of (disk_in m.journal)) (omega arith) old
-      (record old { identity = identity; held = held; log = log }) (ap (λ (b : Backed). b.stops) took.taken) (ap (λ (b : Backed). b.downs) took.taken) refl refl
-      (free told image sound m.journal old m.safe e own comes on) unread m.reads
-
   -- All of it, over any disk.
   pub mounted_batch : (old : Back D) (log : BackLog) (number : ℕ) (ops : List Op) (tail : Option ℕ) (confirmed : Bool) (later : Journal D) (cache : Cached) (bytes needs : ℕ) (object : Object)
       (m : IsMounted moment_of left_since told image faults_of start opening sound old) → LogTook old.log log (batch_entry old number ops tail confirmed) → old.identity ≡ Some object
-      → comes_behind (last_of old.log.taken.items) (batch_entry old number ops tail confirmed) ≡ true → old.closed < old.number
+      → comes_behind (last_of old.log.taken.items) (batch_entry old number ops tail confirmed) ≡ true → has_failed_read old.held.items ≡ false
       → ((batches : List (List Op)) → IsStaged m.journal object batches → IsStaged later object (batches ++ ops ∷ []))
       → ((frames : List Frame) → IsAtRest told image m.journal frames → IsAtRest told image later frames)
       → disk_in later ≡ disk_in m.journal → StoresOps told image m.journal old.cache cache object ops → bytes ≡ old.unflushed + length (batch_bytes ops) → needs ≡ follows old.before old.needs confirmed
@@ -551,54 +541,54 @@ module _ {D : Type 0} (moment_of : D → ℕ) (left_since : D → ℕ → List �
         (batch_entry old number ops tail confirmed) 1 needs m.safe.room.logs m.safe.room.number m.safe.room.own is_needs m.logged);
     counts = took_counts old log (batch_entry old number ops tail confirmed) m (disk_in later) disk took;
     reads = reading_stays (IsTold (told (disk_in m.journal))) (IsTold (told (disk_in later))) (λ tells. subst (λ (d : D). IsTold (told d)) disk tells) (faults_of (disk_in m.journal)) (faults_of (disk_in later))
-        (omega (arith, ap faults_of disk)) old (with_batch old log later cache bytes needs) (ap (λ (b : Backed). b.stops) took.taken) (ap (λ (b : Backed). b.downs) took.taken) refl refl refl (λ has. has) m.reads;
+        (omega (arith, ap faults_of disk)) old (with_batch old log later cache bytes needs) (ap (λ (b : Backed). b.stops) took.taken) (ap (λ (b : Backed). b.downs) took.taken) refl m.reads;
   }
 
   pub mounted_silent : (old : Back D) (log : BackLog) (held : VecDeque Held Global) (e : Entry) (m : IsMounted moment_of left_since told image faults_of start opening sound old)
-      → LogTook old.log log e → e.incarnation ≡ old.number → comes_behind (last_of old.log.taken.items) e ≡ true → old.closed < old.number
+      → LogTook old.log log e → e.incarnation ≡ old.number → comes_behind (last_of old.log.taken.items) e ≡ true → has_failed_read old.held.items ≡ false
       → is_mend e.body ≡ false → IsSilent e.body → batches_of (said_by e.body) ≡ [] → HoldsMore old.held.items held.items e old.before [] → unread_in held.items ≡ []
       → IsMounted moment_of left_since told image faults_of start opening sound (record old { held = held; log = log })
   mounted_silent old log held e m took own comes on other silent none holds unread = record {
     journal = m.journal;
-    safe = safe_said told image sound old log held e [] m.journal m.safe took own comes on none holds;
-    serves = λ tells. serves_silent old log held old.closed e m.journal (m.serves tells) took own other silent none (waits_as old.held.items held.items e old.before [] holds);
+    safe = safe_said told image sound old log held e [] m.journal m.safe took own comes on none unread holds;
+    serves = λ tells. serves_silent old log held e m.journal (m.serves tells) took own other silent none (waits_as old.held.items held.items e old.before [] holds);
     logged = said_logged old log e m took (own ∙ m.safe.room.number) none;
     counts = took_counts old log e m (disk_in m.journal) refl took;
-    reads = took_reads old log held old.identity e m own comes on took unread;
+    reads = reading_none (IsTold (told (disk_in m.journal))) (faults_of (disk_in m.journal)) (record old { held = held; log = log }) unread;
   }
 
   -- A read failed: the ask is taken, and the end by that is held.
   pub mounted_unread : (old : Back D) (log : BackLog) (held : VecDeque Held Global) (e : Entry) (counts : ℕ × ℕ) (m : IsMounted moment_of left_since told image faults_of start opening sound old)
-      → LogTook old.log log e → e.incarnation ≡ old.number → comes_behind (last_of old.log.taken.items) e ≡ true → old.closed < old.number
-      → is_mend e.body ≡ false → IsSilent e.body → batches_of (said_by e.body) ≡ [] → held.items ≡ old.held.items ++ unread_held old counts ∷ []
+      → LogTook old.log log e → e.incarnation ≡ old.number → comes_behind (last_of old.log.taken.items) e ≡ true → has_failed_read old.held.items ≡ false
+      → IsAsk e.body → is_mend e.body ≡ false → IsSilent e.body → batches_of (said_by e.body) ≡ [] → held.items ≡ old.held.items ++ unread_held old counts ∷ []
       → AreRising 0 (counts_in (backed old.log) ++ counts ∷ []) (faults_of (disk_in m.journal)) → (IsTold (told (disk_in m.journal)) → HasRisenIn counts)
-      → IsMounted moment_of left_since told image faults_of start opening sound (record old { held = held; log = log; closed = old.number })
-  mounted_unread old log held e counts m took own comes on other silent none items rises rose = record {
+      → IsMounted moment_of left_since told image faults_of start opening sound (record old { held = held; log = log })
+  mounted_unread old log held e counts m took own comes on asks other silent none items rises rose = record {
     journal = m.journal;
-    safe = safe_unread told image sound old log held e (unread_held old counts) counts m.journal m.safe took own comes on none refl items;
-    serves = λ tells. serves_silent old log held old.number e m.journal (m.serves tells) took own other silent none (ap waiting_in items ∙ waits_more old.held.items (unread_held old counts));
+    safe = safe_unread told image sound old log held e (unread_held old counts) counts m.journal m.safe took own comes on asks none refl items;
+    serves = λ tells. serves_silent old log held e m.journal (m.serves tells) took own other silent none (ap waiting_in items ∙ waits_more old.held.items (unread_held old counts));
     logged = said_logged old log e m took (own ∙ m.safe.room.number) none;
     counts = took_counts old log e m (disk_in m.journal) refl took;
-    reads = reading_fails (IsTold (told (disk_in m.journal))) (faults_of (disk_in m.journal)) old (record old { held = held; log = log; closed = old.number }) counts (unread_held old counts) refl
-        (free told image sound m.journal old m.safe e own comes on) items (ap (λ (b : Backed). b.stops) took.taken) (ap (λ (b : Backed). b.downs) took.taken) refl refl rises rose m.reads;
+    reads = reading_fails (IsTold (told (disk_in m.journal))) (faults_of (disk_in m.journal)) old (record old { held = held; log = log }) counts (unread_held old counts) refl
+        on items (ap (λ (b : Backed). b.stops) took.taken) (ap (λ (b : Backed). b.downs) took.taken) rises rose;
   }
 
   pub mounted_message : (old : Back D) (log : BackLog) (held : VecDeque Held Global) (e : Entry) (sent : Message) (m : IsMounted moment_of left_since told image faults_of start opening sound old)
-      → LogTook old.log log e → e.incarnation ≡ old.number → comes_behind (last_of old.log.taken.items) e ≡ true → old.closed < old.number → e.body ≡ body.Message sent
+      → LogTook old.log log e → e.incarnation ≡ old.number → comes_behind (last_of old.log.taken.items) e ≡ true → has_failed_read old.held.items ≡ false → e.body ≡ body.Message sent
       → unread_in held.items ≡ [] → HoldsMore old.held.items held.items e old.before (record { message = sent; needs = old.needs; since = old.number } ∷ [])
       → IsMounted moment_of left_since told image faults_of start opening sound (record old { held = held; log = log })
   mounted_message old log held e sent m took own comes on says unread holds = record {
     journal = m.journal;
-    safe = safe_said told image sound old log held e (record { message = sent; needs = old.needs; since = old.number } ∷ []) m.journal m.safe took own comes on (ap (λ b. batches_of (said_by b)) says) holds;
+    safe = safe_said told image sound old log held e (record { message = sent; needs = old.needs; since = old.number } ∷ []) m.journal m.safe took own comes on (ap (λ b. batches_of (said_by b)) says) unread holds;
     serves = λ tells. serves_message old log held e sent m.journal (m.serves tells) took own says (λ front. (m.logged.placed front).reach)
         (waits_as old.held.items held.items e old.before (record { message = sent; needs = old.needs; since = old.number } ∷ []) holds);
     logged = said_logged old log e m took (own ∙ m.safe.room.number) (ap (λ b. batches_of (said_by b)) says);
     counts = took_counts old log e m (disk_in m.journal) refl took;
-    reads = took_reads old log held old.identity e m own comes on took unread;
+    reads = reading_none (IsTold (told (disk_in m.journal))) (faults_of (disk_in m.journal)) (record old { held = held; log = log }) unread;
   }
 
   pub mounted_bind : (old : Back D) (log : BackLog) (number : ℕ) (object : Object) (m : IsMounted moment_of left_since told image faults_of start opening sound old)
-      → LogTook old.log log (bind_entry old number object) → old.identity ≡ None → comes_behind (last_of old.log.taken.items) (bind_entry old number object) ≡ true → old.closed < old.number
+      → LogTook old.log log (bind_entry old number object) → old.identity ≡ None → comes_behind (last_of old.log.taken.items) (bind_entry old number object) ≡ true → has_failed_read old.held.items ≡ false
       → IsMounted moment_of left_since told image faults_of start opening sound (record old { identity = Some object; log = log })
   mounted_bind old log number object m took nobody comes on = record {
     journal = m.journal;
@@ -606,8 +596,7 @@ module _ {D : Type 0} (moment_of : D → ℕ) (left_since : D → ℕ → List �
     serves = λ tells. serves_bind old log number object m.journal (m.serves tells) took nobody;
     logged = said_logged old log (bind_entry old number object) m took m.safe.room.number refl;
     counts = took_counts old log (bind_entry old number object) m (disk_in m.journal) refl took;
-    reads = took_reads old log old.held (Some object) (bind_entry old number object) m refl comes on took
-        (unread_none old.held.items (free told image sound m.journal old m.safe (bind_entry old number object) refl comes on));
+    reads = reading_none (IsTold (told (disk_in m.journal))) (faults_of (disk_in m.journal)) (record old { identity = Some object; log = log }) (unread_none old.held.items on);
   }
 
   pub mounted_same : (out : Bool) (old : Back D) (log : BackLog) (held : VecDeque Held Global) (later : Journal D) (cache : Cached) (stuck : Bool) (m : IsMounted moment_of left_since told image faults_of start opening sound old)
@@ -628,7 +617,7 @@ module _ {D : Type 0} (moment_of : D → ℕ) (left_since : D → ℕ → List �
     counts = counts_stay told faults_of (disk_in m.journal) (disk_in later) (backed old.log) (backed log) disk (ap (λ (b : Backed). b.stops) same.same) (ap (λ (b : Backed). b.downs) same.same) m.counts;
     reads = reading_stays (IsTold (told (disk_in m.journal))) (IsTold (told (disk_in later))) (λ tells. subst (λ (d : D). IsTold (told d)) disk tells) (faults_of (disk_in m.journal)) (faults_of (disk_in later))
         (omega (arith, ap faults_of disk)) old (record old { store = store.Journal later; cache = cache; held = held; stuck = stuck; log = log }) (ap (λ (b : Backed). b.stops) same.same)
-        (ap (λ (b : Backed). b.downs) same.same) refl refl (ap unread_in items) (λ has. ap has_halt items ∙ has) m.reads;
+        (ap (λ (b : Backed). b.downs) same.same) (ap unread_in items) m.reads;
   }
 
   -- Memory was wanting, and what was staged stays.

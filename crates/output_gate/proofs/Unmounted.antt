@@ -1,14 +1,14 @@
 -- What is taken while the newest incarnation isn't mounted, and the restart behind a halt.
-use Rattle.std.proofs.Common.{◌≡◌, ◌∙◌, ap, sym, refl, subst, ℕ, suc, ◌+◌, ◌≤◌, List, [], ◌∷◌, ◌++◌, append-nil, append_assoc, length, length-append, take, sum, arith, Option, Some, None}
+use Rattle.std.proofs.Common.{◌≡◌, ◌∙◌, ap, sym, refl, subst, ℕ, suc, ◌+◌, ◌≤◌, List, [], ◌∷◌, ◌++◌, append-nil, append_assoc, length, length-append, take, sum, arith, Option, Some}
 use Rattle.std.proofs.Math.Seq.{take-length}
 use Rattle.std.proofs.lemmas.List.Elements.{All-nil, All-append, All-cons, All-push}
 use Rattle.std.specs.Prelude.{Bool, true, false, ◌||◌}
 use Rattle.std.specs.List.{All, list_any}
 use Rattle.storage_map.specs.Limits.{Object}
 use Rattle.storage_map.specs.declared.op.Op.{Op}
-use Rattle.timeline.specs.History.{Incarnation, History, batches_in, durable, kept_before, line, said_in}
+use Rattle.timeline.specs.History.{Incarnation, History, batches_in, durable, durable_by, kept_before, line, said_in}
 use Rattle.timeline.specs.Logs.{Fronted}
-use Rattle.timeline.specs.Passed.{Passed, Held, held_in, follows as batch_follows, passed, bound_by, is_mend, is_followed}
+use Rattle.timeline.specs.Passed.{Passed, Held, held_in, follows as batch_follows, passed, discards, is_mend, is_followed}
 use Rattle.timeline.specs.Told.{said_by, batches_of}
 use Rattle.timeline.specs.declared.back_log.Stop.{Stop}
 use Rattle.timeline.specs.declared.entry.Body.{Body}
@@ -21,7 +21,7 @@ use Rattle.output_gate.specs.Passing.{AreMended}
 use Rattle.output_gate.specs.Standing.{going_on}
 use Rattle.output_gate.proofs.Gates.{batches_more, same_left}
 use Rattle.output_gate.proofs.Kept.{Grows, grows_same, grows_newer, grows_at}
-use Rattle.output_gate.proofs.Passing.{holds_down, mends, halts, follows}
+use Rattle.output_gate.proofs.Passing.{allows_if, holds_down, mends, halts, follows}
 
 pub or_true : (b : Bool) → (b || true) ≡ true
 or_true true = refl
@@ -107,23 +107,25 @@ module _ {D : Type 0} (moment_of : D → ℕ) (left_since : D → ℕ → List �
 
   -- Behind a halt all is flown, nothing waits, and the next incarnation starts at once with all batches.
   pub restarts : (p : Place) (disk : D) (l : Lists) (before : ℕ) (stop : Stop) → IsGate moment_of left_since object start opening front p disk l before before → l.waiting ≡ []
-      → bound_by (Some stop) p.flights ≡ None → stop.batches ≡ length (batches_in p.taken)
+      → stop.batches ≡ length (batches_in p.taken)
       → durable (record (going_on front p.ended p.taken p.flights) { stop = Some stop }) ≡ sum p.flights
       → IsGate moment_of left_since object start opening front
       (record { ended = suc p.ended; taken = []; flights = []; older = record (going_on front p.ended p.taken p.flights) { stop = Some stop; kept = Some (length (batches_in p.taken)) } ∷ p.older }) disk l before before
-  restarts p disk l before stop g none bound all is_durable =
+  restarts p disk l before stop g none all is_durable =
       let own : List (List Op) = batches_in p.taken in
       let last : Incarnation = record (going_on front p.ended p.taken p.flights) { stop = Some stop } in
       let kept : Incarnation = record last { kept = Some (length own) } in
       let later : Place = record { ended = suc p.ended; taken = []; flights = []; older = kept ∷ p.older } in
+      let even : sum p.flights ≡ length own = omega (arith, g.counted, g.flown) in
+      let whole_flown : length own ≤ durable_by (Some stop) p.flights = omega (arith, is_durable, even) in
       let passes : passed (history_at front later) ≡ passed (history_at front p) =
-      follows front last p.older (suc p.ended) [] [] (length own) (All-nil IsMarked) refl ∙ halts front p.older p.ended p.taken p.flights stop bound in
+      follows front last p.older (suc p.ended) [] [] (length own) (All-nil IsMarked) refl
+      ∙ halts front p.older p.ended p.taken p.flights stop (allows_if (discards stop.cause stop.read) stop.cause (durable_by (Some stop) p.flights) (length own) whole_flown) in
       let whole : kept_before p.older ++ take (length own) own ≡ kept_before p.older ++ own = ap (λ bs. kept_before p.older ++ bs) (take-length own) in
       let old_line : line (kept ∷ p.older) ≡ line (history_at front p) ++ [] = ap (λ n. kept_before p.older ++ take n own) all ∙ whole ∙ sym (append-nil (line (history_at front p))) in
       let grows : Grows object start (history_at front p) (history_at front later) = λ s least c held.
       grows_newer object start (going_on front (suc p.ended) [] []) (kept ∷ p.older) s least c
       (grows_at object start (going_on front p.ended p.taken p.flights) kept p.older p.older [] refl old_line (grows_same object start p.older) s least c held) in
-      let even : sum p.flights ≡ length own = omega (arith, g.counted, g.flown) in
       record {
         mounted = refl;
         deep = omega (arith, g.deep);

@@ -30,7 +30,6 @@ use Rattle.output_gate.specs.declared.back.Ending.{Ending}
 use Rattle.output_gate.specs.declared.back.Mode.{Mode}
 use Rattle.output_gate.specs.declared.back.Mode.TheVariants.{Wanted, Down}
 use Rattle.output_gate.specs.declared.held.Held.{Held}
-use Rattle.output_gate.proofs.Reading.{shut_stays}
 use Rattle.output_gate.proofs.Downs.{releases_down}
 use Rattle.output_gate.proofs.Flushes.{front_none}
 use Rattle.output_gate.proofs.Gates.{batches_more}
@@ -133,7 +132,6 @@ module _ {D : Type 0} (moment_of : D → ℕ) (left_since : D → ℕ → List �
         subst (λ (b : Backed). IsLoggedDown tells b u.ending (marks_of old) old.durable) (sym is)
         (down_same tells tells (λ yes. yes) (backed old.log) u.ending (marks_of old) old.durable (record (backed old.log) { released = all }) refl refl refl (λ front. released_place front (backed old.log) all) u.logged);
     counts = counts_stay told faults_of u.disk u.disk (backed old.log) (backed log) refl (ap (λ (b : Backed). b.stops) is) (ap (λ (b : Backed). b.downs) is) u.counts;
-    shut = shut_stays old (record old { held = held; log = log }) (ap (λ (b : Backed). b.stops) is) refl refl u.shut;
   }
 
 module _ {D : Type 0} (moment_of : D → ℕ) (left_since : D → ℕ → List ℕ → Type 0) (told : D → Option (List ℕ)) (image : D → List ℕ → Type 0) (faults_of : D → ℕ) (start : List (List Op)) (opening : ℕ) where
@@ -185,7 +183,6 @@ module _ {D : Type 0} (moment_of : D → ℕ) (left_since : D → ℕ → List �
     };
     logged = subst (λ (b : Backed). IsLoggedDown (IsTold (told u.disk)) b u.ending (marks_of old) old.durable) (sym is) u.logged;
     counts = counts_stay told faults_of u.disk u.disk (backed old.log) (backed log) refl (ap (λ (b : Backed). b.stops) is) (ap (λ (b : Backed). b.downs) is) u.counts;
-    shut = shut_stays old (record old { held = held; stuck = stuck; log = log }) (ap (λ (b : Backed). b.stops) is) refl refl u.shut;
   }
 
   -- An entry is taken that writes nothing.
@@ -252,7 +249,6 @@ module _ {D : Type 0} (moment_of : D → ℕ) (left_since : D → ℕ → List �
             subst (λ (b : Backed). IsLoggedDown tells b u.ending (marks_of old) old.durable) (sym took.taken)
             (down_took tells tells (λ yes. yes) (backed old.log) u.ending (marks_of old) old.durable e u.safe.logs number u.logged);
         counts = counts_stay told faults_of u.disk u.disk (backed old.log) (backed log) refl (ap (λ (b : Backed). b.stops) took.taken) (ap (λ (b : Backed). b.downs) took.taken) u.counts;
-        shut = shut_stays old (record old { held = held; mode = mode; log = log }) (ap (λ (b : Backed). b.stops) took.taken) refl refl u.shut;
       }
 
   pub unmounted_message : (old : Back D) (log : BackLog) (held : VecDeque Held Global) (e : Entry) (sent : Message) (u : IsUnmounted moment_of left_since told image faults_of start opening old)

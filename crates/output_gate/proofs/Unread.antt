@@ -1,5 +1,5 @@
 -- An ask that is answered by reads of the disk, and one whose read fails.
-use Rattle.std.proofs.Common.{◌≡◌, ◌∙◌, ap, sym, refl, subst, inl, inr, ℕ, ◌<◌, ◌≤◌, List, [], ◌∷◌, ◌++◌, append-nil, length, arith, Option, Some, None, Ok, Err, Global}
+use Rattle.std.proofs.Common.{◌≡◌, ◌∙◌, ap, sym, refl, subst, inl, inr, ℕ, ◌≤◌, List, [], ◌∷◌, ◌++◌, append-nil, length, arith, Option, Some, None, Ok, Err, Global}
 use Rattle.std.specs.List.{flat_map}
 use Rattle.std.specs.Prelude.{◌⊎◌, Bool, true, false, is_some, Result}
 use Rattle.std.specs.declared.collections.VecDeque.{VecDeque}
@@ -27,7 +27,7 @@ use Rattle.output_gate.specs.Counted.{HasRisenIn, counts_in}
 use Rattle.output_gate.specs.Entering.{TakesOwn, FailsOwn}
 use Rattle.output_gate.specs.Fits.{comes_behind, last_of}
 use Rattle.output_gate.specs.Gate.{place_of, history_at}
-use Rattle.output_gate.specs.Held.{waiting_in}
+use Rattle.output_gate.specs.Held.{waiting_in, has_failed_read}
 use Rattle.output_gate.specs.Kept.{RecoversToPrefix}
 use Rattle.output_gate.specs.Serving.{IsMounted, IsServing, marks_of}
 use Rattle.output_gate.specs.Storing.{Reads, ReadsDisk}
@@ -46,7 +46,7 @@ use Rattle.batch_journal.proofs.Marking.{recovers_journal}
 use Rattle.output_gate.proofs.Resting.{rests}
 use Rattle.output_gate.proofs.Reading.{reading_stays, unread_none}
 use Rattle.output_gate.proofs.Stored.{in_it, keeps_limit, same_disk, same_journal, tells_as}
-use Rattle.output_gate.proofs.Takings.{HoldsMore, KeepsStored, free as none_held, has_some_of, may_some, some_object, mounted_same, mounted_silent, mounted_unread, safe_same, same_log, unread_held}
+use Rattle.output_gate.proofs.Takings.{HoldsMore, KeepsStored, has_some_of, may_some, some_object, mounted_same, mounted_silent, mounted_unread, safe_same, same_log, unread_held}
 
 abbrev is_none_told : Option (List ℕ) → Type 0
 is_none_told None = Unit {0}
@@ -140,7 +140,7 @@ module _ {D : Type 0} (moment_of : D → ℕ) (left_since : D → ℕ → List �
           counts = counts_same (IsTold (told (disk_in m.journal))) (IsTold (told (disk_in later))) before_it (backed old.log) (faults_of (disk_in m.journal)) (faults_of (disk_in later)) m.counts (backed old.log)
               refl refl up;
           reads = reading_stays (IsTold (told (disk_in m.journal))) (IsTold (told (disk_in later))) before_it (faults_of (disk_in m.journal)) (faults_of (disk_in later)) up old (was_read old later cache)
-              refl refl refl refl refl (λ has. has) m.reads;
+              refl refl refl m.reads;
         }
 
   -- ---- what the answer was
@@ -175,7 +175,7 @@ module _ {D : Type 0} (moment_of : D → ℕ) (left_since : D → ℕ → List �
 
   -- it is answered
   pub took_read : (old mid new : Back D) (number : ℕ) (ask : StoreAsk) (free : Bool) (after : Store D) (cache : Cached) (answer : Reading) (journal : Journal D) → old.store ≡ store.Journal journal
-      → ReadsOf old after cache ask (Ok answer) → mid ≡ record old { store = after; cache = cache } → comes_behind (last_of old.log.taken.items) (asks old number ask free) ≡ true → old.closed < old.number
+      → ReadsOf old after cache ask (Ok answer) → mid ≡ record old { store = after; cache = cache } → comes_behind (last_of old.log.taken.items) (asks old number ask free) ≡ true → has_failed_read old.held.items ≡ false
       → LogTook mid.log new.log (asks mid number ask free) → new ≡ record mid { log = new.log }
       → TakesOwn moment_of left_since told image faults_of old new number (body.Ask ask free) (Some (notice.Read number answer))
   took_read old mid new number ask free after cache answer journal at reads first comes on log then =
@@ -202,7 +202,6 @@ module _ {D : Type 0} (moment_of : D → ℕ) (left_since : D → ℕ → List �
         needs = ap (λ (x : Back D). x.needs) same;
         durable = ap (λ (x : Back D). x.durable) same;
         limit = ap (λ (x : Back D). x.limit) same;
-        closed = ap (λ (x : Back D). x.closed) same;
         disk = subst (ReadsDisk told old.store) (ap (λ (x : Back D). x.store) (sym same)) (reads_disk old after cache ask (Ok answer) journal at reads);
         back = λ start opening m.
             let r = reads m.journal m.safe.store in
@@ -211,7 +210,7 @@ module _ {D : Type 0} (moment_of : D → ℕ) (left_since : D → ℕ → List �
             subst (IsMounted moment_of left_since told image faults_of start opening true) (ap (λ (s : Store D). record old { store = s; cache = cache; log = new.log }) (sym r.is) ∙ sym same)
             (mounted_silent moment_of left_since told image faults_of start opening true was new.log was.held (asks old number ask free) read took refl comes on refl (λ n k. refl) refl
             (HoldsMore.nothing_more refl refl refl)
-            (unread_none old.held.items (none_held told image true m.journal old m.safe (asks old number ask free) refl comes on)));
+            (unread_none old.held.items on));
       }
 
   -- why a read failed, as a log has it
@@ -219,18 +218,17 @@ module _ {D : Type 0} (moment_of : D → ℕ) (left_since : D → ℕ → List �
   rose_so now later before after from into up rose = record { later = omega (arith, from, into, up); rose = rose }
 
   -- its read fails
-  pub took_unread : (old mid held_then closed new : Back D) (number : ℕ) (ask : StoreAsk) (free : Bool) (after : Store D) (cache : Cached) (before_it after_it : ℕ) (journal : Journal D)
+  pub took_unread : (old mid held_then new : Back D) (number : ℕ) (ask : StoreAsk) (free : Bool) (after : Store D) (cache : Cached) (before_it after_it : ℕ) (journal : Journal D)
       → old.store ≡ store.Journal journal → ReadsOf old after cache ask (Err (ReadFailed before_it after_it)) → mid ≡ record old { store = after; cache = cache }
-      → held_then.held.items ≡ mid.held.items ++ unread_held mid (before_it, after_it) ∷ [] → held_then ≡ record mid { held = held_then.held } → closed ≡ record held_then { closed = held_then.number }
-      → comes_behind (last_of old.log.taken.items) (asks old number ask free) ≡ true → old.closed < old.number
-      → LogTook closed.log new.log (asks closed number ask free) → new ≡ record closed { log = new.log }
+      → held_then.held.items ≡ mid.held.items ++ unread_held mid (before_it, after_it) ∷ [] → held_then ≡ record mid { held = held_then.held }
+      → comes_behind (last_of old.log.taken.items) (asks old number ask free) ≡ true → has_failed_read old.held.items ≡ false
+      → LogTook held_then.log new.log (asks held_then number ask free) → new ≡ record held_then { log = new.log }
       → TakesOwn moment_of left_since told image faults_of old new number (body.Ask ask free) None
-  took_unread old mid held_then closed new number ask free after cache before_it after_it journal at reads first items second third comes on log then =
+  took_unread old mid held_then new number ask free after cache before_it after_it journal at reads first items second comes on log then =
       let counts : ℕ × ℕ = (before_it, after_it) in
       let held : VecDeque Held Global = held_then.held in
-      let all : closed ≡ record old { store = after; cache = cache; held = held; closed = old.number } =
-      third ∙ ap (λ (x : Back D). record x { closed = x.number }) second ∙ ap (λ (x : Back D). record x { held = held; closed = x.number }) first in
-      let same : new ≡ record old { store = after; cache = cache; held = held; closed = old.number; log = new.log } = then ∙ ap (λ (x : Back D). record x { log = new.log }) all in
+      let all : held_then ≡ record old { store = after; cache = cache; held = held } = second ∙ ap (λ (x : Back D). record x { held = held }) first in
+      let same : new ≡ record old { store = after; cache = cache; held = held; log = new.log } = then ∙ ap (λ (x : Back D). record x { log = new.log }) all in
       let took : LogTook old.log new.log (asks old number ask free) = record {
         taken = log.taken ∙ ap (λ (x : Back D). record (backed x.log) { taken = x.log.taken.items ++ asks x number ask free ∷ [] }) all;
         flights = log.flights;
@@ -254,7 +252,6 @@ module _ {D : Type 0} (moment_of : D → ℕ) (left_since : D → ℕ → List �
         needs = ap (λ (x : Back D). x.needs) same;
         durable = ap (λ (x : Back D). x.durable) same;
         limit = ap (λ (x : Back D). x.limit) same;
-        closed = ap (λ (x : Back D). x.closed) same;
         disk = subst (ReadsDisk told old.store) (ap (λ (x : Back D). x.store) (sym same)) (reads_disk old after cache ask (Err (ReadFailed before_it after_it)) journal at reads);
         back = λ start opening m.
             let r = reads m.journal m.safe.store in
@@ -262,8 +259,8 @@ module _ {D : Type 0} (moment_of : D → ℕ) (left_since : D → ℕ → List �
             let read = mounted_read start opening old m r.new cache r.stays r.counts.later in
             let so = r.counts.failed before_it after_it refl in
             subst (IsMounted moment_of left_since told image faults_of start opening true)
-            (ap (λ (s : Store D). record old { store = s; cache = cache; held = held; closed = old.number; log = new.log }) (sym r.is) ∙ sym same)
-            (mounted_unread moment_of left_since told image faults_of start opening true was new.log held (asks old number ask free) counts read took refl comes on refl (λ n k. refl) refl more
+            (ap (λ (s : Store D). record old { store = s; cache = cache; held = held; log = new.log }) (sym r.is) ∙ sym same)
+            (mounted_unread moment_of left_since told image faults_of start opening true was new.log held (asks old number ask free) counts read took refl comes on tt refl (λ n k. refl) refl more
             (rising_push 0 (counts_in (backed old.log)) counts (faults_of (disk_in m.journal)) (faults_of (disk_in r.new)) (omega (arith, so.0)) (omega (arith, so.1)) m.counts.rising)
             (λ tells. rose_so (faults_of (disk_in m.journal)) (faults_of (disk_in r.new)) before_it after_it so.0 so.1 r.counts.later (risen so.2 (tells.0, sym r.stays.journal.reads.same ∙ tells.1))));
       }

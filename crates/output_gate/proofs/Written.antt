@@ -14,7 +14,6 @@ use Rattle.storage_map.specs.Limits.{Object}
 use Rattle.storage_map.specs.declared.op.Op.{Op}
 use Rattle.timeline.specs.History.{Incarnation, History, batches_in, before_stop, durable_by, history, incarnation_at, incarnations, kept_before}
 use Rattle.timeline.specs.Logs.{Fronted, Backed, backed}
-use Rattle.timeline.specs.Passed.{discards}
 use Rattle.timeline.specs.declared.back_log.Stop.{Stop}
 use Rattle.timeline.specs.declared.caller.Cause.{Cause}
 use Rattle.timeline.specs.declared.caller.Cause.TheVariants as cause
@@ -29,7 +28,7 @@ use Rattle.output_gate.specs.Entering.{Enters, Failed, identity_after, identity_
 use Rattle.output_gate.specs.Fits.{fits_mounted}
 use Rattle.output_gate.specs.Flushing.{Ends, FliesAll, Flushes}
 use Rattle.output_gate.specs.Gate.{Place, history_at, place_of}
-use Rattle.output_gate.specs.Held.{HaltsLast, halts_well, has_halt, is_held_halt, is_read}
+use Rattle.output_gate.specs.Held.{HaltsLast, ends_well, halts_well, has_halt, is_held_halt}
 use Rattle.output_gate.specs.Logs.{no_log}
 use Rattle.output_gate.specs.Mending.{HasBegun, HasMissed, Remounts, kept_at}
 use Rattle.output_gate.specs.Releasing.{Releases, Stays, released_log}
@@ -56,7 +55,6 @@ use Rattle.output_gate.proofs.Histories.{stands}
 use Rattle.output_gate.proofs.Mountings.{place_followed}
 use Rattle.output_gate.proofs.Places.{missed_place, place_flew, place_stopped, place_took, released_place}
 use Rattle.output_gate.proofs.Remounts.{same_ending}
-use Rattle.output_gate.proofs.Orderly.{is_ordered}
 use Rattle.output_gate.proofs.Restarts.{restart_place}
 use Rattle.output_gate.proofs.Steps.{flushed_back, longer, safe_object}
 use Rattle.output_gate.proofs.Stored.{in_it, same_disk, same_journal, still_end}
@@ -245,7 +243,7 @@ module _ {D : Type 0} (moment_of : D → ℕ) (left_since : D → ℕ → List �
         (enters.mode ∙ ap (λ (x : Fit). mode_after x old.mode e.body) is) keeps
         (λ object may. subst (λ (i : Option Object). MayBe i object) (enters.identity ∙ ap (λ (x : Fit). identity_after x old.identity e.body) is) may)
     enters_as known e failed enters keeps fit.Late is =
-        took_late known e (comes old e (late_of old e is) (number_of old known) (order_of old known) (is_ordered moment_of left_since told image faults_of start opening sound old known).read) (enters.log ∙ ap (λ (x : Fit). logged_as x (backed old.log) e) is)
+        took_late known e (comes old e (late_of old e is) (number_of old known) (order_of old known)) (enters.log ∙ ap (λ (x : Fit). logged_as x (backed old.log) e) is)
         (enters.mode ∙ ap (λ (x : Fit). mode_after x old.mode e.body) is) keeps (enters.identity ∙ ap (λ (x : Fit). identity_after x old.identity e.body) is)
 
     pub written_enters : Known old → (e : Entry) (failed : Failed) → Enters failed old new e → KeepsEnd old.store new.store → AreWritten limit end new
@@ -355,7 +353,7 @@ module _ {D : Type 0} (moment_of : D → ℕ) (left_since : D → ℕ → List �
         ⊎_elim (λ f. flies_so m now more f) (λ e. ends_so m now more e (has m.journal m.safe.store)) flushes
 
     -- ---- something is let go
-    halting_full : (object : Object) (i : Incarnation) (older : History) (c : Cause) → not (discards c (is_read c)) ≡ true → IsFullBy limit end object i older c
+    halting_full : (object : Object) (i : Incarnation) (older : History) (c : Cause) → ends_well c ≡ true → IsFullBy limit end object i older c
     halting_full object i older (cause.Disk before after) is = tt
     halting_full object i older (cause.Full needs most) is = absurd (true_false (sym is))
     halting_full object i older cause.Exceeded is = tt
@@ -384,7 +382,7 @@ module _ {D : Type 0} (moment_of : D → ℕ) (left_since : D → ℕ → List �
         )
 
     halted_so : (later : Bool) → IsBackAs moment_of left_since told image faults_of start opening later new → (m : IsMounted moment_of left_since told image faults_of start opening sound old)
-        → (c : Cause) → not (discards c (is_read c)) ≡ true → new.mode ≡ old.mode → new.durable ≡ old.durable → new.identity ≡ old.identity → new.store ≡ old.store
+        → (c : Cause) → ends_well c ≡ true → new.mode ≡ old.mode → new.durable ≡ old.durable → new.identity ≡ old.identity → new.store ≡ old.store
         → backed new.log ≡ record (backed old.log) { stops = old.log.stops.items ++ halt_of old c ∷ []; ends = old.log.ends.items ++ record { kept = old.own; cause = c } ∷ [] }
         → AreWritten limit end new
     halted_so later known m c halts mode durable same kept log front object may =

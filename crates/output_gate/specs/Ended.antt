@@ -1,6 +1,6 @@
 -- What a log shows of the incarnations that have ended, whatever the disk tells.
-use Rattle.std.specs.Prelude.{◌≡◌, ◌⊎◌, ℕ, suc, ◌+◌, ◌-◌, ◌<◌, ◌≤◌, nat_lt, Bool, true, false, List, [], ◌∷◌, ◌++◌, length, map, sum, slice_get, Option, Some, None}
-use Rattle.std.specs.List.{All}
+use Rattle.std.specs.Prelude.{◌≡◌, ℕ, suc, ◌+◌, ◌-◌, ◌<◌, ◌≤◌, nat_lt, Bool, true, false, List, [], ◌∷◌, ◌++◌, length, map, sum, slice_get, Option, Some, None}
+use Rattle.std.specs.List.{All, Contains}
 use Rattle.timeline.specs.Headline.{KeepBy}
 use Rattle.timeline.specs.History.{Incarnation, History, batches_in, durable, kept_before, said_in}
 use Rattle.timeline.specs.Logs.{Fronted, Backed}
@@ -9,7 +9,7 @@ use Rattle.timeline.specs.declared.back_log.End.{End}
 use Rattle.timeline.specs.declared.back_log.Stop.{Stop}
 use Rattle.timeline.specs.declared.caller.Cause.{Cause}
 use Rattle.timeline.specs.declared.entry.Entry.{Entry}
-use Rattle.output_gate.specs.Fits.{is_halt, last_of}
+use Rattle.output_gate.specs.Fits.{IsAsk, is_halt, last_of}
 use Rattle.output_gate.specs.Gate.{Place, place_of}
 use Rattle.output_gate.specs.Standing.{own_flights, older_of}
 use Rattle.output_gate.specs.declared.back.Ending.{Ending}
@@ -30,22 +30,22 @@ abbrev pub last_stop : List Stop → Option Stop
 last_stop stops = slice_get stops (length stops - 1)
 
 -- Entries are taken in the order of their incarnations, and something was taken of each that has ended. Where the newest end
--- discarded nothing, the last entry is the halt, or of the incarnation behind it, or a read failed.
+-- discards nothing, the last entry is the halt, or of the incarnation behind it.
 pub record AreInOrder (taken : List Entry) (stops : List Stop) : Type 0 where
   pub numbered : (e : Entry) → last_of taken ≡ Some e → 0 < e.incarnation
   pub sorted : All (λ e. e.incarnation ≤ newest_of taken) taken
   pub newest : length stops ≤ newest_of taken
   pub halted : (stop : Stop) → last_stop stops ≡ Some stop → discards stop.cause stop.read ≡ false → newest_of taken ≡ length stops
-      → (halts_as (last_of taken) ≡ true) ⊎ (stop.read ≡ true)
+      → halts_as (last_of taken) ≡ true
 
--- What a back keeps beside its log: the batches that were durable at the last end at an append; what a message of the incarnation that
--- ended then needs where such a message still passes; and what the next message of the newest one needs.
+-- What a back keeps beside its log: the batches that were durable at the last end; what a message of the incarnation that ended then needs
+-- where such a message still passes; and what the next message of the newest one needs.
 pub record Marks : Type 0 where
   pub settled : ℕ
   pub late : Option ℕ
   pub needs : ℕ
 
--- A message behind an end at an append passes where all that it follows was durable at that end.
+-- A message behind an end passes where all that it follows was durable at that end.
 abbrev pub late_if : Bool → ℕ → Option ℕ
 late_if true needs = None
 late_if false needs = Some needs
@@ -54,7 +54,8 @@ abbrev pub late_of : Incarnation → History → Option ℕ
 late_of i older = let q = reaches 0 0 (said_in i.taken) in late_if (nat_lt (durable i) q) (length (kept_before older) + q)
 
 -- An incarnation has ended: it was mounted, and the batches that its stop counts, and those that were kept, were taken of it. Where
--- the end discards messages, not all of its batches were durable, so many were, from the opening, and its late messages need so much.
+-- messages that come late may not pass, no more were durable than were taken, and fewer at an append; so many were from the opening; and its
+-- late messages need so much. Where a read failed its ask was taken.
 pub record HasEnded (marks : Marks) (i : Incarnation) (older : History) : Type 0 where
   pub mounted : is_mounted older ≡ true
   pub number : i.number ≡ suc (length older)
@@ -62,8 +63,10 @@ pub record HasEnded (marks : Marks) (i : Incarnation) (older : History) : Type 0
   pub stopped : i.stop ≡ Some stop
   pub within : stop.batches ≤ length (batches_in i.taken)
   pub kept : (kept : ℕ) → i.kept ≡ Some kept → kept ≤ length (batches_in i.taken)
-  pub discarded : discards stop.cause stop.read ≡ true → (durable i < length (batches_in i.taken)) × (marks.settled ≡ durable_at (i ∷ older))
+  pub discarded : discards stop.cause stop.read ≡ true → (durable i ≤ length (batches_in i.taken)) × (marks.settled ≡ durable_at (i ∷ older))
       × (marks.late ≡ late_of i older)
+  pub lost : discards stop.cause stop.read ≡ true → stop.read ≡ false → durable i < length (batches_in i.taken)
+  pub asked : stop.read ≡ true → (e : Entry) × Contains i.taken e × IsAsk e.body
 
 -- the newest of these, where there is one
 abbrev pub HaveEnded : Marks → History → Type 0

@@ -25,7 +25,8 @@ use Rattle.timeline.specs.declared.entry.Entry.{Entry}
 use Rattle.timeline.specs.declared.notice.Notice.{Notice}
 use Rattle.timeline.specs.declared.notice.Stepped.{Stepped}
 use Rattle.timeline.specs.declared.notice.Stepped.TheVariants.{Nothing}
-use Rattle.output_gate.specs.Fits.{comes_behind, fits_mounted, fits_down, last_of}
+use Rattle.output_gate.specs.Fits.{IsAsk, comes_behind, fits_mounted, fits_down, last_of}
+use Rattle.output_gate.specs.Held.{has_failed_read}
 use Rattle.output_gate.specs.declared.back.Ending.{Ending}
 use Rattle.output_gate.specs.declared.back.Mode.{Mode}
 use Rattle.output_gate.specs.declared.back.Mode.TheVariants.{Mounted, Wanted, Down}
@@ -74,10 +75,6 @@ abbrev pub HasMap : {D : Type 0} → (D → Option (List ℕ)) → (D → List �
 HasMap told image m back = back.mode ≡ Mounted → StandsForMap told image m back
 
 -- A read fails of an ask of the newest incarnation alone, while that is mounted.
-abbrev pub IsAsk : Body → Type 0
-IsAsk (body.Ask ask free) = Unit {0}
-IsAsk _ = ⊥
-
 abbrev pub MayAsk : Failed → Body → Type 0
 MayAsk None b = Unit {0}
 MayAsk (Some counts) b = IsAsk b
@@ -94,8 +91,8 @@ held_by before needs since number body.Sync = record { body = held.Sync number; 
 held_by before needs since number (body.Halt cause) = record { body = held.Halt cause; needs = before; since = since } ∷ []
 held_by before needs since number _ = []
 
--- A message of an incarnation that has ended at an append is held where it still passes; else, of a reply, the failure, which needs what
--- was durable at that end.
+-- A message of an incarnation that has ended is held where it still passes; else, of a reply, the failure, which needs what was durable at
+-- that end.
 abbrev pub late_message : (late : Option ℕ) → Cause → (settled incarnation : ℕ) → Message → List Held
 late_message (Some needs) c settled incarnation sent = record { body = held.Message sent; needs = needs; since = incarnation } ∷ []
 late_message None c settled incarnation (message.Reply to result) =
@@ -134,11 +131,6 @@ own_answer (Some counts) number m b = None
 abbrev pub own_held : Failed → (before needs since number : ℕ) → Body → List Held
 own_held None before needs since number b = held_by before needs since number b
 own_held (Some counts) before needs since number b = record { body = held.Halt (cause.Disk counts.0 counts.1); needs = before; since = since } ∷ []
-
--- Of an incarnation of which a read failed nothing more is taken.
-abbrev pub closed_with : {D : Type 0} → Failed → Back D → ℕ
-closed_with None back = back.closed
-closed_with (Some counts) back = back.number
 
 -- A `Mend` of an incarnation that is down asks for a mounting; nothing else that is taken changes how a back stands.
 abbrev pub asked : Mode → Mode
@@ -197,7 +189,6 @@ pub record Enters {D : Type 0} (failed : Failed) (old new : Back D) (e : Entry) 
   pub identity : new.identity ≡ identity_after (fit_of old e) old.identity e.body
   pub durable : new.durable ≡ old.durable
   pub limit : new.limit ≡ old.limit
-  pub closed : new.closed ≡ closed_with failed old
 
 -- Nothing is done, and all is as before.
 pub record IsIdle {D A B : Type 0} (old new : Back D) (taken_before taken : List A) (sent_before sent : List B)
@@ -250,7 +241,7 @@ pub record CanTake {D : Type 0} (moment_of : D → ℕ) (left_since : D → ℕ 
   pub back : IsMounted moment_of left_since told image faults_of start opening true old
   pub room : LogRoom old.log
   pub comes : comes_behind (last_of old.log.taken.items) (record { incarnation = old.number; number = number; body = b }) ≡ true
-  pub goes_on : old.closed < old.number
+  pub goes_on : has_failed_read old.held.items ≡ false
   pub fits : fits_mounted b (is_some old.identity) ≡ true
   pub few : old.unflushed < most_unflushed
 
@@ -271,7 +262,6 @@ pub record TakesOwn {D : Type 0} (moment_of : D → ℕ) (left_since : D → ℕ
   pub identity : new.identity ≡ identity_by b old.identity
   pub durable : new.durable ≡ old.durable
   pub limit : new.limit ≡ old.limit
-  pub closed : new.closed ≡ closed_with failed old
   pub disk : ReadsDisk told old.store new.store
   pub back : (start : List (List Op)) (opening : ℕ) → IsMounted moment_of left_since told image faults_of start opening true old
       → IsMounted moment_of left_since told image faults_of start opening true new
@@ -308,7 +298,6 @@ pub record TakesDown {D : Type 0} (moment_of : D → ℕ) (left_since : D → �
   pub identity : new.identity ≡ old.identity
   pub durable : new.durable ≡ old.durable
   pub limit : new.limit ≡ old.limit
-  pub closed : new.closed ≡ old.closed
   pub disk : KeepsDisk old.store new.store
   pub back : (start : List (List Op)) (opening : ℕ) → IsUnmounted moment_of left_since told image faults_of start opening old
       → IsUnmounted moment_of left_since told image faults_of start opening new

@@ -10,6 +10,10 @@ abbrev pub is_halt : Body → Bool
 is_halt (body.Halt cause) = true
 is_halt _ = false
 
+abbrev pub IsAsk : Body → Type 0
+IsAsk (body.Ask ask free) = Unit {0}
+IsAsk _ = ⊥
+
 -- the last of some entries
 abbrev pub last_of : List Entry → Option Entry
 last_of entries = slice_get entries (length entries - 1)

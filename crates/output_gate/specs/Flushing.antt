@@ -33,7 +33,6 @@ pub record FliesAll {D : Type 0} (old new : Back D) : Type 0 where
   pub limit : new.limit ≡ old.limit
   pub identity : new.identity ≡ old.identity
   pub stuck : new.stuck ≡ old.stuck
-  pub closed : new.closed ≡ old.closed
   pub end : GetsFrame old new
 
 -- The incarnation ends, by a cause that the append had, and a mounting is wanted, for which the journal's end before the append is
@@ -55,7 +54,6 @@ pub record Ends {D : Type 0} (faults_of : D → ℕ) (old new : Back D) : Type 0
   pub limit : new.limit ≡ old.limit
   pub identity : new.identity ≡ old.identity
   pub stuck : new.stuck ≡ old.stuck
-  pub closed : new.closed ≡ old.closed
 
 abbrev pub Flushes : {D : Type 0} → (D → ℕ) → Back D → Back D → Type 0
 Flushes faults_of old new = FliesAll old new ⊎ Ends faults_of old new

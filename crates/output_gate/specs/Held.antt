@@ -1,7 +1,8 @@
 -- What a back holds: the messages among it, and what an end leaves of it.
-use Rattle.std.specs.Prelude.{◌≡◌, ℕ, nat_lt, Bool, true, false, not, ◌||◌, if◌then◌else◌, List, [], ◌∷◌, Err}
+use Rattle.std.specs.Prelude.{◌≡◌, ℕ, nat_lt, Bool, true, false, ◌||◌, if◌then◌else◌, List, [], ◌∷◌, Err}
 use Rattle.std.specs.List.{flat_map}
-use Rattle.timeline.specs.Passed.{Passed, discards}
+use Rattle.timeline.specs.History.{is_halting}
+use Rattle.timeline.specs.Passed.{Passed}
 use Rattle.timeline.specs.declared.caller.Cause.{Cause}
 use Rattle.timeline.specs.declared.caller.Failure.TheVariants as failure
 use Rattle.timeline.specs.declared.message.Message.TheVariants as message
@@ -44,10 +45,22 @@ abbrev pub is_read : Cause → Bool
 is_read (cause.Disk before after) = true
 is_read _ = false
 
--- the cause of a halt is one that discards nothing: a front's, or a read that failed
+-- the cause of a halt is one by which a turn ends an incarnation, or a read that failed
+abbrev pub ends_well : Cause → Bool
+ends_well c = is_halting c || is_read c
+
 abbrev pub halts_well : HeldBody → Bool
-halts_well (Halt c) = not (discards c (is_read c))
+halts_well (Halt c) = ends_well c
 halts_well _ = true
+
+-- Whether an end by a read that failed is held.
+abbrev pub is_failed_read : HeldBody → Bool
+is_failed_read (Halt c) = is_read c
+is_failed_read _ = false
+
+abbrev pub has_failed_read : List Held → Bool
+has_failed_read [] = false
+has_failed_read (held ∷ rest) = is_failed_read held.body || has_failed_read rest
 
 -- the disk's counts before a read that failed and after it, where an end by that is held
 abbrev pub unread_by : HeldBody → List (ℕ × ℕ)

@@ -22,6 +22,5 @@ pub record IsFresh {D : Type 0} (mounted : Mounted D) (back : Back D) : Type 0 w
   pub journal : HasLimit back.limit back.store
   pub identity : back.identity ≡ mounted.identity
   pub cache : back.cache ≡ of_index mounted.index
-  pub closed : back.closed ≡ 0
   pub stuck : back.stuck ≡ false
   pub stopped : is_stopped back ≡ false

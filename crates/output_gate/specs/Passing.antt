@@ -13,7 +13,7 @@ use Rattle.timeline.specs.declared.message.Message.{Message}
 abbrev pub discarded : ℕ → ℕ → Cause → Passed → List Passed
 discarded durable number c p = if nat_lt durable p.needs then replaced durable number c p.message else p ∷ []
 
--- What leaves of a message of an incarnation that has ended at an append, where its late messages still pass, and where they don't.
+-- What leaves of a message of an incarnation that has ended, where its late messages still pass, and where they don't.
 abbrev pub late_leaving : Option ℕ → (settled since : ℕ) → Cause → Message → List Passed
 late_leaving (Some needs) settled since c sent = record { message = sent; needs = needs; since = since } ∷ []
 late_leaving None settled since c sent = replaced settled since c sent

@@ -1,5 +1,5 @@
 -- What a release does, as its caller sees it.
-use Rattle.std.specs.Prelude.{◌≡◌, ℕ, ◌+◌, nat_le, Bool, true, false, not, ◌&&◌, List, [], ◌∷◌, ◌++◌, length, ◌≤◌, Option, Result, Ok, vec_len}
+use Rattle.std.specs.Prelude.{◌≡◌, ℕ, ◌+◌, nat_le, Bool, true, false, not, ◌&&◌, List, [], ◌∷◌, ◌++◌, length, ◌≤◌, Option, Some, Result, Ok, vec_len}
 use Rattle.std.specs.Vec.{vec_capacity}
 use Rattle.do_value.specs.declared.fault.NoMemory.{NoMemory}
 use Rattle.storage_map.specs.declared.op.Op.{Op}
@@ -51,10 +51,19 @@ abbrev pub released_messages : HeldBody → List Sent
 released_messages (Message sent) = sent ∷ []
 released_messages _ = []
 
--- Behind a halt the next message needs the batches of the incarnations so far.
+-- Behind a halt the next message needs the batches of the incarnations so far, which are what was durable at the end; and one of the
+-- incarnation that ended, which comes late, needs what the next message of that needed.
 abbrev pub needs_released : {D : Type 0} → Back D → HeldBody → ℕ
 needs_released back (Halt cause) = back.before
 needs_released back _ = back.needs
+
+abbrev pub settled_released : {D : Type 0} → Back D → HeldBody → ℕ
+settled_released back (Halt cause) = back.before
+settled_released back _ = back.settled
+
+abbrev pub late_released : {D : Type 0} → Back D → HeldBody → Option ℕ
+late_released back (Halt cause) = Some back.needs
+late_released back _ = back.late
 
 -- The first of what is held goes; the back stands and counts as before, over the same disk and map.
 pub record Releases {D : Type 0} (moment_of : D → ℕ) (old new : Back D) (sent_before sent : List Notice) (out_before out : List Sent) : Type 0 where
@@ -74,9 +83,9 @@ pub record Releases {D : Type 0} (moment_of : D → ℕ) (old new : Back D) (sen
   pub needs : new.needs ≡ needs_released old first.body
   pub durable : new.durable ≡ old.durable
   pub limit : new.limit ≡ old.limit
-  pub settled : new.settled ≡ old.settled
+  pub settled : new.settled ≡ settled_released old first.body
+  pub late : new.late ≡ late_released old first.body
   pub unflushed : new.unflushed ≡ old.unflushed
-  pub closed : new.closed ≡ old.closed
 
 -- Nothing is done, and all is as before.
 pub record IsIdleRelease {D : Type 0} (old new : Back D) (sent_before sent : List Notice) (out_before out : List Sent)
@@ -100,7 +109,6 @@ pub record Stays {D : Type 0} (old new : Back D) (sent_before sent : List Notice
   pub before : new.before ≡ old.before
   pub durable : new.durable ≡ old.durable
   pub limit : new.limit ≡ old.limit
-  pub closed : new.closed ≡ old.closed
 
 -- What letting this go needs, and does.
 pub record CanGo {D : Type 0} (moment_of : D → ℕ) (left_since : D → ℕ → List ℕ → Type 0) (told : D → Option (List ℕ)) (image : D → List ℕ → Type 0)

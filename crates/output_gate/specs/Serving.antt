@@ -1,5 +1,5 @@
 -- A back that serves, and one whose incarnation has ended at an append.
-use Rattle.std.specs.Prelude.{◌≡◌, ◌≢◌, ◌⊎◌, ℕ, ℤ, suc, ◌+◌, ◌-◌, ◌<◌, ◌≤◌, nat_lt, Bool, true, false, not, List, [], ◌∷◌, ◌++◌, length, Option, Some, None, Result, OnOk, OnErr, vec_len}
+use Rattle.std.specs.Prelude.{◌≡◌, ◌≢◌, ◌⊎◌, ℕ, ℤ, suc, ◌+◌, ◌-◌, ◌≤◌, nat_lt, Bool, true, false, not, List, [], ◌∷◌, ◌++◌, length, Option, Some, None, Result, OnOk, OnErr, vec_len}
 use Rattle.std.specs.List.{flat_map}
 use Rattle.std.specs.Vec.{vec_capacity}
 use Rattle.batch_codec.specs.Frames as codec
@@ -23,10 +23,10 @@ use Rattle.timeline.specs.declared.caller.Cause.{Cause}
 use Rattle.object_storage.specs.Stored.{HasStored, HasKept}
 use Rattle.output_gate.specs.Counted.{counts_in, AreCounted, AreRising, HasRisenIn}
 use Rattle.output_gate.specs.Down.{place_down, IsDown}
-use Rattle.output_gate.specs.Ended.{IsLogged, IsLoggedDown, Marks, last_stop, late_if}
-use Rattle.output_gate.specs.Fits.{is_halt, last_of}
+use Rattle.output_gate.specs.Ended.{IsLogged, IsLoggedDown, Marks, late_if}
+use Rattle.output_gate.specs.Fits.{IsAsk, is_halt, last_of}
 use Rattle.output_gate.specs.Gate.{place_of, IsGate}
-use Rattle.output_gate.specs.Held.{stays, waiting_in, has_halt, is_read, unread_in, HaltsLast}
+use Rattle.output_gate.specs.Held.{stays, waiting_in, has_halt, has_failed_read, is_read, unread_in, HaltsLast}
 use Rattle.output_gate.specs.Kept.{MayBe, NameOnly}
 use Rattle.output_gate.specs.Passing.{AreMended}
 use Rattle.output_gate.specs.Standing.{AreLogs, own_entries}
@@ -54,9 +54,10 @@ pub record HasRoom {D : Type 0} (back : Back D) : Type 0 where
 abbrev pub AreStored : {D : Type 0} → Back D → List Frame → List (List Op) → Contents → Type 0
 AreStored back frames staged m = (object : Object) → MayBe back.identity object → HasStored frames object staged back.cache m
 
--- The last entry is the halt that is held, or the ask whose read failed.
+-- The last entry is the halt that is held, or, where the end by a read that failed is held, the ask of that read.
 abbrev pub HaltsBy : {D : Type 0} → Entry → Back D → Type 0
-HaltsBy e back = (is_halt e.body ≡ true) ⊎ ((back.closed ≡ back.number) × (counts : ℕ × ℕ) × (unread_in back.held.items ≡ counts ∷ []))
+HaltsBy e back =
+    ((has_failed_read back.held.items ≡ false) × (is_halt e.body ≡ true)) ⊎ ((has_failed_read back.held.items ≡ true) × IsAsk e.body)
 
 -- Of any disk: the journal is at rest, its frames name the object, what isn't durable is staged, and some map is stored; after want of
 -- memory the cache isn't sound.
@@ -106,22 +107,11 @@ marks_of back = record { settled = back.settled; late = back.late; needs = back.
 -- An end by a read that failed is held, of the newest incarnation: the disk's counts round it stand behind those of the log, and over a disk that
 -- tells its content they rose.
 pub record IsUnread {D : Type 0} (tells : Type 0) (now : ℕ) (back : Back D) (counts : ℕ × ℕ) : Type 0 where
-  pub closed : back.closed ≡ back.number
   pub rising : AreRising 0 (counts_in (backed back.log) ++ counts ∷ []) now
   pub rose : tells → HasRisenIn counts
 
--- What reads that failed have left: of the incarnations from this one on entries are taken, but that the newest may be one of which such
--- an end is held; and where the newest end was by one, none of its incarnation.
-pub record IsReading {D : Type 0} (tells : Type 0) (now : ℕ) (back : Back D) : Type 0 where
-  pub unread : (counts : ℕ × ℕ) → unread_in back.held.items ≡ counts ∷ [] → IsUnread tells now back counts
-  pub closed : back.closed ≤ back.number
-  pub here : back.closed ≡ back.number → has_halt back.held.items ≡ true
-  pub behind : (stop : Stop) → last_stop back.log.stops.items ≡ Some stop → stop.read ≡ true → length back.log.stops.items ≤ back.closed
-
--- While it isn't mounted nothing of the kind is held, and the newest end was at an append.
-pub record IsShut {D : Type 0} (back : Back D) : Type 0 where
-  pub closed : back.closed < back.number
-  pub appended : (stop : Stop) → last_stop back.log.stops.items ≡ Some stop → stop.read ≡ false
+abbrev pub IsReading : {D : Type 0} → (tells : Type 0) → (now : ℕ) → Back D → Type 0
+IsReading tells now back = (counts : ℕ × ℕ) → unread_in back.held.items ≡ counts ∷ [] → IsUnread tells now back counts
 
 -- The newest incarnation is mounted.
 pub record IsMounted {D : Type 0} (moment_of : D → ℕ) (left_since : D → ℕ → List ℕ → Type 0) (told : D → Option (List ℕ)) (image : D → List ℕ → Type 0)
@@ -191,7 +181,6 @@ pub record IsUnmounted {D : Type 0} (moment_of : D → ℕ) (left_since : D → 
   pub ended : IsTold (told disk) → IsEnded moment_of left_since image start opening disk ending back
   pub logged : IsLoggedDown (IsTold (told disk)) (backed back.log) ending (marks_of back) back.durable
   pub counts : AreCounted (IsTold (told disk)) (backed back.log) (faults_of disk)
-  pub shut : IsShut back
 
 -- the alarm of the map that the storage stands for
 abbrev pub alarm_of : {D : Type 0} → Back D → Option (ℤ × ℕ)
@@ -224,7 +213,6 @@ pub record IsAsBefore {D : Type 0} (old new : Back D) : Type 0 where
   pub before : new.before ≡ old.before
   pub durable : new.durable ≡ old.durable
   pub limit : new.limit ≡ old.limit
-  pub closed : new.closed ≡ old.closed
 
 -- Memory was wanting at a step of this back.
 abbrev pub is_stopped : {D : Type 0} → Back D → Bool

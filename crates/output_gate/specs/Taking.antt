@@ -12,6 +12,7 @@ use Rattle.timeline.specs.declared.entry.Entry.{Entry}
 use Rattle.timeline.specs.declared.notice.Notice.{Notice}
 use Rattle.timeline.specs.declared.notice.Notice.TheVariants as notice
 use Rattle.output_gate.specs.Fits.{comes_behind, fits_mounted, fits_down, last_of}
+use Rattle.output_gate.specs.Held.{has_failed_read}
 use Rattle.output_gate.specs.declared.back.Back.{Back}
 use Rattle.output_gate.specs.declared.back.Mode.{Mode}
 use Rattle.output_gate.specs.declared.back.Mode.TheVariants.{Mounted, Wanted}
@@ -36,11 +37,11 @@ abbrev pub is_mounted_mode : Mode → Bool
 is_mounted_mode Mounted = true
 is_mounted_mode mode = false
 
--- A back takes: it isn't stuck, no mounting is wanted, and less is unflushed.
+-- A back takes: it isn't stuck, no mounting is wanted, no end by a read that failed is held, and less is unflushed.
 abbrev pub may_take : {D : Type 0} → Back D → Bool
-may_take back = not back.stuck && not (is_wanted back.mode) && nat_lt back.unflushed most_unflushed
+may_take back = not back.stuck && not (is_wanted back.mode) && not (has_failed_read back.held.items) && nat_lt back.unflushed most_unflushed
 
--- What an entry is to a back. One of an incarnation of which a read failed is unfit, as one behind a halt.
+-- What an entry is to a back.
 abbrev pub fit_as : (fits own mounted : Bool) → Fit
 fit_as false own mounted = fit.Unfit
 fit_as true true true = fit.Own
@@ -56,8 +57,8 @@ fit_in behind within own mounted known b = fit_as (behind && within && fits_so o
 
 abbrev pub fit_of : {D : Type 0} → Back D → Entry → Fit
 fit_of back e =
-    fit_in (comes_behind (last_of back.log.taken.items) e && nat_lt back.closed e.incarnation) (not (nat_lt back.number e.incarnation))
-    (e.incarnation == back.number) (is_mounted_mode back.mode) (is_some back.identity) e.body
+    fit_in (comes_behind (last_of back.log.taken.items) e) (not (nat_lt back.number e.incarnation)) (e.incarnation == back.number)
+    (is_mounted_mode back.mode) (is_some back.identity) e.body
 
 -- the log has the room of an entry, a flight and a stop
 pub record LogRoom (log : BackLog) : Type 0 where

@@ -11,12 +11,11 @@ use Rattle.timeline.specs.Intake.{answer_in}
 use Rattle.timeline.specs.Logs.{Fronted, Backed, backed}
 use Rattle.timeline.specs.Passed.{Passed, passed}
 use Rattle.timeline.specs.Told.{stored_answer, written}
-use Rattle.timeline.specs.declared.back_log.Stop.{Stop}
 use Rattle.timeline.specs.declared.entry.Body.{Body}
 use Rattle.timeline.specs.declared.notice.Notice.{Notice}
 use Rattle.output_gate.specs.Counted.{counts_in, AreRising, HasRisenIn, IsBehindEnd}
-use Rattle.output_gate.specs.Ended.{last_stop, stop_causes, end_causes}
-use Rattle.output_gate.specs.Held.{has_halt}
+use Rattle.output_gate.specs.Ended.{stop_causes, end_causes}
+use Rattle.output_gate.specs.Held.{has_failed_read}
 use Rattle.output_gate.specs.Kept.{RecoversToLine, HaveLeft}
 use Rattle.output_gate.specs.Entering.{StandsForMap}
 use Rattle.output_gate.specs.Serving.{alarm_of, IsBack, is_stopped}
@@ -76,7 +75,7 @@ KeepsWithin (i ∷ older) = (count : ℕ) → i.kept ≡ Some count → count �
 
 -- How the log and the counters of a back stand to one another, over any disk. While the newest incarnation is mounted each that has
 -- ended was followed; else the last one wasn't yet. Each mounting that failed is of an incarnation behind an end. Where batches wait for a
--- flush the newest incarnation has some. No read has failed of an incarnation behind the newest, and of that one only where an end is held.
+-- flush the newest incarnation has some. An end by a read that failed is held only of an incarnation that is mounted.
 pub record IsOrdered {D : Type 0} (back : Back D) : Type 0 where
   pub logs : AreLogs (backed back.log)
   pub followed : back.mode ≡ Mounted → length back.log.ends.items ≡ length back.log.stops.items
@@ -85,9 +84,7 @@ pub record IsOrdered {D : Type 0} (back : Back D) : Type 0 where
   pub more : back.durable ≤ back.before
   pub unflown : back.durable < back.before → batches_in (own_entries (backed back.log)) ≢ []
   pub kept : (front : Fronted) → KeepsWithin (older_of front (backed back.log))
-  pub closed : back.closed ≤ back.number
-  pub held : back.closed ≡ back.number → has_halt back.held.items ≡ true
-  pub read : (stop : Stop) → last_stop back.log.stops.items ≡ Some stop → stop.read ≡ true → length back.log.stops.items ≤ back.closed
+  pub read : has_failed_read back.held.items ≡ true → back.mode ≡ Mounted
 
 abbrev pub BackIsOrdered : {D : Type 0} → (D → ℕ) → (D → ℕ → List ℕ → Type 0) → (D → Option (List ℕ)) → (D → List ℕ → Type 0) → (D → ℕ) → Back D → Type 0
 BackIsOrdered moment_of left_since told image faults_of back = (start : List (List Op)) (opening : ℕ)

@@ -64,15 +64,14 @@ pub struct Back<D> {
     pub(crate) own: u64,
     // of the batches before the next message those up to the last confirmed one, which it needs
     pub(crate) needs: u64,
-    // the batches that were durable at the last end at an append
+    // the batches that were durable at the last end
     pub(crate) settled: u64,
     // what a message of the incarnation that ended then needs, where it still leaves as it is
     pub(crate) late: Option<u64>,
     // the encoded bytes of the batches that are taken and not durable
     pub(crate) unflushed: u64,
-    // the number of the newest incarnation; and of the newest of which a read failed, 0 where none has: nothing more is taken of that one
+    // the number of the newest incarnation
     pub(crate) number: u64,
-    pub(crate) closed: u64,
     pub(crate) log: BackLog,
 }
 
@@ -97,7 +96,6 @@ impl<D: Drop> Drop for Back<D> {
             late: _,
             unflushed: _,
             number: _,
-            closed: _,
             log,
         } = self;
         drop(store);
@@ -154,7 +152,6 @@ impl<D: Disk> Back<D> {
             late: None,
             unflushed: 0,
             number: 1,
-            closed: 0,
             log: BackLog {
                 taken: Vec::new(alloc),
                 flights: Vec::new(alloc),
@@ -198,7 +195,6 @@ impl<D: Disk> Back<D> {
             late: _,
             unflushed: _,
             number: _,
-            closed: _,
             log,
         } = self;
         drop(cache);

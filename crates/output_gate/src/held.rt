@@ -1,7 +1,7 @@
 //! What a back holds until it may leave.
 ghost use Rattle.std.specs.Prelude.{◌≡◌, ◌++◌, ◌∷◌, List, option_to_list};
 ghost use Rattle.std.specs.List.{flat_map};
-ghost use Rattle.output_gate.specs.Held.{stays};
+ghost use Rattle.output_gate.specs.Held.{is_failed_read, stays};
 
 use std::collections::VecDeque;
 use timeline::{Cause, Failure, Message};
@@ -26,6 +26,13 @@ pub(crate) struct Held {
 }
 
 impl Held {
+    // Whether it is an end by a read that failed.
+    pub(crate) fn is_failed_read(&self) -> bool
+        ensures { result ≡ is_failed_read self.now.body }
+    {
+        matches!(self.body, HeldBody::Halt(Cause::Disk { .. }))
+    }
+
     // What stays of it where the incarnation of this number has ended by this cause at an append, and so many batches are
     // durable.
     pub(crate) fn kept(self, durable: u64, number: u64, cause: Cause) -> Option<Held>

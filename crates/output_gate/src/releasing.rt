@@ -144,6 +144,8 @@ impl<D: Disk> Back<D> {
         send(notices, fresh)?;
         drop_first(&mut self.held);
         log_halt(&mut self.log, cause, self.own);
+        self.late = Some(self.needs);
+        self.settled = self.before;
         self.own = 0;
         self.needs = self.before;
         self.number = incarnation;

@@ -11,6 +11,7 @@ ghost use Rattle.batch_journal.specs.declared.journal.Journal.{Journal};
 ghost use Rattle.timeline.specs.declared.notice.Stepped.TheVariants.{Did, Nothing};
 ghost use Rattle.output_gate.specs.Entering.{IsIdle, Takes, TakesEntry, LosesEntry, CanTake, TakesOwn, FailsOwn, CanTakeDown, TakesDown, FailsDown, TakesLate};
 ghost use Rattle.output_gate.specs.Entering as entering;
+ghost use Rattle.output_gate.specs.Held.{has_failed_read};
 ghost use Rattle.output_gate.specs.Serving.{CanServe, CanServeAs, KeepsBack, KeepsBackAs, StopsBy, is_stopped, IsAsBefore};
 ghost use Rattle.output_gate.specs.Storing.{Stages, StagesOps, ReadsDisk};
 ghost use Rattle.output_gate.specs.Taking as taking;
@@ -31,8 +32,10 @@ use timeline::{BackLog, Body, Cause, Entry, Failure, Message, Notice, Stepped};
 impl<D: Disk> Back<D> {
     /// Takes the next entry of the line. A batch is staged and its writes are seen from here on, an ask is answered, and
     /// messages, syncs and halts are held. A value that isn't in memory is read from the disk. Where a read fails the end of the
-    /// incarnation by that is held, the front is told nothing, and a later entry of the incarnation leaves the back stuck. After
-    /// `NoMemory` the back is stopped: each further step but `flush` answers `NoMemory` and does nothing.
+    /// incarnation by that is held, the front is told nothing, and nothing is taken until that end is let go or dropped. Of an
+    /// incarnation that has ended a message is held that follows nothing that was lost; another reply becomes a failure, and
+    /// everything else is dropped. After `NoMemory` the back is stopped: each further step but `flush` answers `NoMemory` and does
+    /// nothing.
     pub fn take<L: Inlet<Entry>, N: Outlet<Notice>>(
         &mut self,
         line: &mut L,
@@ -96,10 +99,22 @@ impl<D: Disk> Back<D> {
     }
 
     fn may_take(&self) -> bool
+        requires { CanServeAs D.moment_of D.left_since D.told D.image D.faults_of true self.now }
         ensures { result ≡ taking.may_take self.now }
     {
         let wanted = matches!(self.mode, Mode::Wanted(_));
-        !self.stuck && !wanted && self.unflushed < MOST_UNFLUSHED_BYTES
+        !self.stuck && !wanted && !self.has_failed_read() && self.unflushed < MOST_UNFLUSHED_BYTES
+    }
+
+    // Whether an end by a read that failed is held: it is the last then.
+    fn has_failed_read(&self) -> bool
+        requires { CanServeAs D.moment_of D.left_since D.told D.image D.faults_of true self.now }
+        ensures { result ≡ has_failed_read self.now.held.items }
+    {
+        match self.held.back() {
+            Some(held) => held.is_failed_read(),
+            None => false,
+        }
     }
 
     // What an entry is.
@@ -107,7 +122,6 @@ impl<D: Disk> Back<D> {
         ensures { result ≡ taking.fit_of self.now entry.now }
     {
         if !comes_behind(self.log.taken.as_slice().last(), entry)
-            || entry.incarnation <= self.closed
             || entry.incarnation > self.number
         {
             return Fit::Unfit;
@@ -327,7 +341,6 @@ impl<D: Disk> Back<D> {
                     self.before,
                     self.number,
                 )?;
-                self.closed = self.number;
                 self.add(number, Body::Ask { ask, free });
                 Ok(None)
             }
@@ -367,8 +380,8 @@ impl<D: Disk> Back<D> {
         }
     }
 
-    // An entry of an incarnation that has ended at an append: a message that follows nothing that was lost is held, another reply becomes
-    // a failure, and everything else is dropped.
+    // An entry of an incarnation that has ended: a message that follows nothing that was lost is held, another reply becomes a failure,
+    // and everything else is dropped.
     fn take_late(&mut self, entry: Entry) -> Mem<()>
         requires { LogRoom self.old.log }
         ensures took { OnOk result (TakesLate self.old self.new entry) }

@@ -53,6 +53,10 @@ backs entries flights stops ends missed = record { taken = entries; flights = fl
 abbrev pub stops : Cause → ℕ → ℕ → Stop
 stops c flights batches = record { cause = c; flights = flights; batches = batches; read = false }
 
+-- The same at a read of a value.
+abbrev pub stops_at_read : Cause → ℕ → ℕ → Stop
+stops_at_read c flights batches = record { cause = c; flights = flights; batches = batches; read = true }
+
 abbrev pub keeps : ℕ → Cause → End
 keeps kept c = record { kept = kept; cause = c }
 
@@ -139,6 +143,17 @@ middle = history (fronts ((1, calls 1 0 []) ∷ (1, calls 2 0 []) ∷ (1, calls 
 abbrev pub middle_failed : History
 middle_failed = history (fronts ((1, calls 1 0 []) ∷ (1, calls 2 0 []) ∷ (1, calls 3 0 []) ∷ []) middle_entries [])
     (backs middle_entries (1 ∷ []) (stops failed_disk 1 3 ∷ []) (keeps 1 failed_disk ∷ []) [])
+
+-- A reply stands behind a batch; the read of an open ask fails, and the batches before it are flushed. Behind the ask stand a fetch, a
+-- reply, an unconfirmed batch with a reply behind it, and a confirmed one with a reply and a fetch behind it.
+abbrev pub read_fails : History
+read_fails = let entries = entry 1 1 (body.Batch (puts "a" 1 ∷ []) None true) ∷ entry 1 2 (sends 1 (Ok (number 1)))
+    ∷ entry 1 3 (body.Ask (Get (codes "n")) true) ∷ entry 1 4 (body.Message (message.Fetch 1 1 (value.Text (codes "x"))))
+    ∷ entry 1 5 (sends 2 (Ok (number 2))) ∷ entry 1 6 (body.Batch (puts "b" 3 ∷ []) None false) ∷ entry 1 7 (sends 3 (Ok (number 3)))
+    ∷ entry 1 8 (body.Batch (puts "c" 4 ∷ []) None true) ∷ entry 1 9 (sends 4 (Ok (number 4)))
+    ∷ entry 1 10 (body.Message (message.Fetch 1 2 (value.Text (codes "y")))) ∷ [] in
+    history (fronts ((1, calls 1 0 []) ∷ (1, calls 2 0 []) ∷ (1, calls 3 0 []) ∷ (1, calls 4 0 []) ∷ (1, calls 5 0 []) ∷ []) entries (failed_disk ∷ []))
+    (backs entries (1 ∷ []) (stops_at_read failed_disk 1 1 ∷ []) (keeps 1 failed_disk ∷ []) [])
 
 -- An object that is idle defers the event; and what it then leaves.
 abbrev pub defers : State → Event → Bool

@@ -1,6 +1,6 @@
 //! Examples of what is kept and what leaves, of what waits, of entries and of posts: functions without a body, for their
 //! clauses. The logs stand in `specs/Histories.antt`.
-ghost use Rattle.std.specs.Prelude.{◌≡◌, pos, false, true, [], ◌∷◌, codes, Some, None, Ok, Err};
+ghost use Rattle.std.specs.Prelude.{◌≡◌, pos, false, true, [], ◌∷◌, drop, codes, Some, None, Ok, Err};
 ghost use Rattle.do_value.specs.declared.value.Value.TheVariants as value;
 ghost use Rattle.script_mean.specs.Builders.{script_of};
 ghost use Rattle.script_mean.specs.Examples.{puts, own_write, slow};
@@ -8,7 +8,7 @@ ghost use Rattle.script_mean.specs.Task as task;
 ghost use Rattle.storage_map.specs.declared.ask.StoreAsk.TheVariants.{Get};
 ghost use Rattle.storage_map.specs.declared.answer.Reading.TheVariants.{One};
 ghost use Rattle.timeline.specs.Examples.{lives, request, calls, number, word, held, ping, runs_to};
-ghost use Rattle.timeline.specs.Histories.{entry, reply, sends, leaves, failed_disk, acknowledged, downed, added_again, filled, early, sure, middle, middle_failed, defers, left_of};
+ghost use Rattle.timeline.specs.Histories.{entry, reply, sends, leaves, failed_disk, acknowledged, downed, added_again, filled, early, sure, middle, middle_failed, read_fails, defers, left_of};
 ghost use Rattle.timeline.specs.Histories.{sent_for, task_for, two_slots, line_calls, script_c, with_a, fetching, line_fails, line_ticks};
 ghost use Rattle.timeline.specs.History.{line, lines, resets};
 ghost use Rattle.timeline.specs.Intake.{delivered, noticed};
@@ -115,4 +115,13 @@ pub fn needs_reach_to_the_last_confirmed_batch()
     ensures failed { passed middle_failed ≡ leaves (reply 1 (Ok (number 1))) 0 1 ∷ leaves (reply 2 (Err (failure.Reset failed_disk))) 1 1
         ∷ leaves (reply 3 (Err (failure.Reset failed_disk))) 1 1 ∷ [] }
     ensures line { line middle_failed ≡ (puts "a" 1 ∷ []) ∷ [] }
+{}
+
+/// At a read that fails no message before it is discarded, nor one behind it with no confirmed batch between; behind such a batch a
+/// reply becomes a failure, and a fetch is dropped. The call that waits at the ask is reset by the next incarnation.
+pub fn failed_read_discards_behind_a_confirmed_batch()
+    ensures passed { passed read_fails ≡ leaves (reply 1 (Ok (number 1))) 1 1 ∷ leaves (message.Fetch 1 1 (word "x")) 1 1 ∷ leaves (reply 2 (Ok (number 2))) 1 1
+        ∷ leaves (reply 3 (Ok (number 3))) 1 1 ∷ leaves (reply 4 (Err (failure.Reset failed_disk))) 1 1 ∷ [] }
+    ensures lines { lines read_fails ≡ ((puts "a" 1 ∷ []) ∷ []) ∷ ((puts "a" 1 ∷ []) ∷ []) ∷ [] }
+    ensures resets { resets (drop 1 read_fails) ≡ sends 5 (Err (failure.Reset failed_disk)) ∷ [] }
 {}

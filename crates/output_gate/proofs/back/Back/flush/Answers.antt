@@ -42,7 +42,6 @@ returns-in-Ok g c = record {
       limit = ap (λ (b : Back g.row.D.Denot). b.limit) c.land.ensures.same;
       identity = ap (λ (b : Back g.row.D.Denot). b.identity) c.land.ensures.same;
       stuck = ap (λ (b : Back g.row.D.Denot). b.stuck) c.land.ensures.same;
-      closed = ap (λ (b : Back g.row.D.Denot). b.closed) c.land.ensures.same;
       end =
           let r = c.requires in
           let m = flushed_back g.D.Disk.moment_of g.D.Disk.left_since g.D.Disk.told g.D.Disk.image g.D.Disk.faults_of r.0 r.1 (not (is_stopped c.args.self.now)) c.args.self.now c.if-self.false r.2 in
@@ -97,7 +96,6 @@ returns-in-Err g c =
           limit = ap (λ (b : Back g.row.D.Denot). b.limit) c.stop.ensures.same;
           identity = ap (λ (b : Back g.row.D.Denot). b.identity) c.stop.ensures.same;
           stuck = ap (λ (b : Back g.row.D.Denot). b.stuck) c.stop.ensures.same;
-          closed = ap (λ (b : Back g.row.D.Denot). b.closed) c.stop.ensures.same;
         }),
       );
       tells = tells_in g.D.Disk.told c.args.self.now.store c.stop.new.self.store (disk_in m.journal) a.new (in_it c.args.self.now.store m.journal m.safe.store)

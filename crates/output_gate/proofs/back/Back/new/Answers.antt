@@ -2,7 +2,7 @@ use Rattle.std.proofs.Common.{refl, sym, inl}
 use Rattle.output_gate.proofs.Counts.{counts_new}
 use Rattle.output_gate.proofs.Endings.{logged_new}
 use Rattle.output_gate.proofs.Opens.{serves_new, safe_new}
-use Rattle.output_gate.proofs.Reading.{reading_new}
+use Rattle.output_gate.proofs.Reading.{reading_none}
 use Rattle.output_gate.proofs.Stored.{limited_in}
 use Rattle.output_gate.specs.declared.store.Store.TheVariants as store
 use Rattle.output_gate.proofs.back.Back.new.Goals as goal
@@ -17,7 +17,6 @@ returns g c = record {
     journal = limited_in (store.Journal c.args.mounted.journal) c.args.mounted.journal c.limit-limit.result refl (sym c.limit-limit.ensures);
     identity = refl;
     cache = c.in-Ok.ensures;
-    closed = refl;
     stuck = refl;
     stopped = refl;
   };
@@ -29,7 +28,7 @@ returns g c = record {
         c.in-Ok.ensures c.new-2.ensures.items (rw (c.new-3.ensures.items, c.new-4.ensures.items, c.new-5.ensures.items, c.new-6.ensures.items, c.new-7.ensures.items, c.new-8.ensures.items) refl);
     logged = logged_new _ _ (rw (c.new-3.ensures.items, c.new-4.ensures.items, c.new-5.ensures.items, c.new-6.ensures.items, c.new-7.ensures.items, c.new-8.ensures.items) refl);
     counts = counts_new _ _ _ c.new-5.ensures.items c.new-8.ensures.items;
-    reads = reading_new _ _ _ c.new-5.ensures.items c.new-2.ensures.items refl refl;
+    reads = reading_none _ _ _ (rw c.new-2.ensures.items refl);
   });
   disk = tt;
 }

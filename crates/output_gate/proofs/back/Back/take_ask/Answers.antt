@@ -31,8 +31,8 @@ returns-in_err-hold-in-Err-ReadFailed-clause-failed g c =
 pub returns-in_ok-hold-in-Err-ReadFailed-clause-took : goal.returns-in_ok-hold-in-Err-ReadFailed-clause-took
 returns-in_ok-hold-in-Err-ReadFailed-clause-took g c =
     took_unread g.D.Disk.moment_of g.D.Disk.left_since g.D.Disk.told g.D.Disk.image g.D.Disk.faults_of c.args.self.now (record c.args.self.now { store = c.answer.new.self; cache = c.answer.new.cache }) c.hold.new.self
-    (record c.hold.new.self { closed = c.hold.new.self.number }) c.add-in-Err-ReadFailed.new.self c.args.number c.args.ask c.args.free c.answer.new.self c.answer.new.cache c.in-Err-ReadFailed.before c.in-Err-ReadFailed.after
+    c.add-in-Err-ReadFailed.new.self c.args.number c.args.ask c.args.free c.answer.new.self c.answer.new.cache c.in-Err-ReadFailed.before c.in-Err-ReadFailed.after
     c.requires.back.journal c.requires.back.safe.store
     (λ journal at. subst (λ (f : AnswerFault). Reads g.D.Disk.moment_of g.D.Disk.left_since g.D.Disk.told g.D.Disk.image g.D.Disk.faults_of journal c.answer.new.self c.args.self.now.cache c.answer.new.cache c.args.ask (Err f))
     c.in-Err-ReadFailed.field-0-is (c.in-Err-ReadFailed.ensures journal at))
-    refl c.in_ok-hold-in-Err-ReadFailed.ensures.held c.hold.ensures.same refl c.requires.comes c.requires.goes_on c.add-in-Err-ReadFailed.ensures.log c.add-in-Err-ReadFailed.ensures.same
+    refl c.in_ok-hold-in-Err-ReadFailed.ensures.held c.hold.ensures.same c.requires.comes c.requires.goes_on c.add-in-Err-ReadFailed.ensures.log c.add-in-Err-ReadFailed.ensures.same
